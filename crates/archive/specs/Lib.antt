@@ -1,0 +1,6 @@
+pub mod Bytes
+pub mod Reader
+pub mod File
+pub mod Parse
+pub mod Encode
+pub mod Fits

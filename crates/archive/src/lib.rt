@@ -1,0 +1,1 @@
+// Archive records: what an archive's bytes say, and the bytes of files. specs/ says what each answer is.

@@ -1,0 +1,9 @@
+pub mod Limits
+pub mod Refusal
+pub mod EdgeSet
+pub mod Reading
+pub mod Questions
+pub mod Building
+pub mod Roots
+pub mod Walk
+pub mod Ancestor

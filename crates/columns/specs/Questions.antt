@@ -1,0 +1,37 @@
+-- Document 01, "Edge columns": parents, children and label of a number. A number outside the granule has none.
+use mathlib.Core.Bool.{Bool, true, false, cond}
+use mathlib.Core.List.{List, [], _∷_, _++_}
+use mathlib.Core.Option.{Option, none, some}
+use Prim.Native.Nat.{ℕ, _+_, _-_, _*_}
+use lib.Dec.{ltb}
+use lib.ListN.{length, getD, getElem?}
+use Rattle.columns.specs.Limits.{kinds}
+use Rattle.columns.specs.Refusal.{Verdict, unless, firstOf, Lent, limits}
+use Rattle.columns.specs.EdgeSet.{EdgeSet, forward, reverse, inbound}
+use Rattle.columns.specs.Reading.{Label, Labels, setRules, slotsOf, labelRules, labelsOf, setLengths}
+
+-- the list of a number and a kind, out of the lists of the slots from `first` on
+unfoldable pub listOf : ℕ → List (List ℕ) → ℕ → ℕ → List ℕ
+listOf first lists kind number = cond (ltb number first) [] (getD lists (kinds * (number - first) + kind) [])
+
+-- the parents of a number: its forward list
+unfoldable pub parents : ℕ → ℕ → ℕ → EdgeSet → ℕ → ℕ → List Lent → Verdict (List ℕ)
+parents first rows end f kind number lent =
+    unless (firstOf (limits (rows ∷ []) (setLengths f) lent ∷ setRules forward first rows end f ∷ []))
+    (listOf first (slotsOf first f) kind number)
+
+-- the children of a number: its reverse list, then its inbound list
+unfoldable pub children : ℕ → ℕ → ℕ → EdgeSet → EdgeSet → ℕ → ℕ → List Lent → Verdict (List ℕ)
+children first rows end r i kind number lent =
+    unless (firstOf (limits (rows ∷ []) (setLengths r ++ setLengths i) lent ∷ setRules reverse first rows end r ∷ setRules inbound first rows end i ∷ []))
+    (listOf first (slotsOf first r) kind number ++ listOf first (slotsOf first i) kind number)
+
+-- the label at a place, if there is one
+unfoldable pub labelAt : ℕ → List Label → ℕ → Option Label
+labelAt first labels number = cond (ltb number first) none (getElem? labels (number - first))
+
+-- the label of a number
+unfoldable pub label : ℕ → ℕ → Labels → ℕ → Verdict (Option Label)
+label first rows c number =
+    unless (firstOf (limits (rows ∷ []) (length (c .chains) ∷ length (c .seqs) ∷ []) [] ∷ labelRules rows c ∷ []))
+    (labelAt first (labelsOf (c .chains) (c .seqs)) number)

@@ -1,0 +1,120 @@
+-- Document 01, 17 to 21 and "Edge columns": what a reader makes of a granule's columns.
+use mathlib.Core.Bool.{Bool, true, false, _&&_, not}
+use mathlib.Core.List.{List, [], _∷_, _++_, map}
+use mathlib.Core.Option.{Option, none, some}
+use Prim.Native.Nat.{ℕ, zero, suc, _+_, _*_}
+use lib.Dec.{ltb, eqb}
+use lib.IntN.{ℤ}
+use lib.ListN.{length}
+use Rattle.lists.specs.Lists.{all}
+use Rattle.columns.specs.Limits.{kinds, end64, end32, offsetsRoom, numbersRoom}
+use Rattle.columns.specs.Refusal.{Verdict, refused, accepted, unless, refuse, firstOf, Lent, limits}
+use Rattle.columns.specs.EdgeSet.{EdgeSet, forward, reverse, inbound, offsetsForm, cut, eventOf, targetOf, sound}
+use Rattle.columns.specs.declared.refusal.Refusal.{Refusal}
+use Rattle.columns.specs.declared.refusal.Refusal.the-variants.{OffsetsForm, DeltaCount, TargetSide, LabelColumns, LabelRange}
+
+-- ── one set: 17, 18, 19 ──────────────────────────────────────────────────────────────────────
+
+-- every delta of the slots from `slot` on is on its set's side, and every row has a number of 64 bits
+unfoldable pub soundFrom : ℕ → ℕ → ℕ → ℕ → List (List ℤ) → Bool
+soundFrom set first end slot [] = true
+soundFrom set first end slot (ds ∷ lists) =
+    ltb (eventOf first slot) end64 && all (sound set end (eventOf first slot)) ds && soundFrom set first end (suc slot) lists
+
+-- the targets of the slots from `slot` on
+unfoldable pub targetsFrom : ℕ → ℕ → List (List ℤ) → List (List ℕ)
+targetsFrom first slot [] = []
+targetsFrom first slot (ds ∷ lists) = map (targetOf (eventOf first slot)) ds ∷ targetsFrom first (suc slot) lists
+
+-- a set's lists, slot by slot
+unfoldable pub slotsOf : ℕ → EdgeSet → List (List ℕ)
+slotsOf first s = targetsFrom first 0 (cut (s .offsets) (s .deltas))
+
+-- the rules of one set; without edges its deltas are not looked at
+unfoldable pub setRules : ℕ → ℕ → ℕ → ℕ → EdgeSet → Option Refusal
+setRules set first rows end s =
+    firstOf (refuse OffsetsForm (not (offsetsForm rows (s .count) (s .offsets)))
+    ∷ refuse DeltaCount (ltb 0 (s .count) && not (eqb (length (s .deltas)) (s .count)))
+    ∷ refuse TargetSide (ltb 0 (s .count) && not (soundFrom set first end 0 (cut (s .offsets) (s .deltas))))
+    ∷ [])
+
+-- reading one set
+unfoldable pub readSet : ℕ → ℕ → ℕ → ℕ → EdgeSet → Verdict (List (List ℕ))
+readSet set first rows end s = unless (setRules set first rows end s) (slotsOf first s)
+
+-- ── label columns: 20, 21 ────────────────────────────────────────────────────────────────────
+
+-- an event's place in a chain cover
+pub record Label : Type 0 where
+  pub chain : ℕ
+  pub seq : ℕ
+
+-- labels as stored, a column for each part
+pub record Labels : Type 0 where
+  pub chains : List ℕ
+  pub seqs : List ℕ
+
+unfoldable pub labelsOf : List ℕ → List ℕ → List Label
+labelsOf [] seqs = []
+labelsOf (c ∷ cs) [] = []
+labelsOf (c ∷ cs) (s ∷ ss) = record { chain = c; seq = s } ∷ labelsOf cs ss
+
+unfoldable pub labelRules : ℕ → Labels → Option Refusal
+labelRules rows c =
+    firstOf (refuse LabelColumns (not (eqb (length (c .chains)) rows && eqb (length (c .seqs)) rows))
+    ∷ refuse LabelRange (not (all (λ x. ltb x end32) (c .chains) && all (λ x. ltb x end32) (c .seqs)))
+    ∷ [])
+
+-- ── a granule ────────────────────────────────────────────────────────────────────────────────
+
+-- the columns of a granule: three sets and, where there is a cover, labels
+pub record GranuleColumns : Type 0 where
+  pub forward : EdgeSet
+  pub reverse : EdgeSet
+  pub inbound : EdgeSet
+  pub labels : Option Labels
+
+-- a granule as read: the lists of its slots, and its labels
+pub record Granule : Type 0 where
+  pub forward : List (List ℕ)
+  pub reverse : List (List ℕ)
+  pub inbound : List (List ℕ)
+  pub labels : List Label
+
+-- the labels that a granule's columns hold: none where there is no cover
+abbrev pub labelsIn : Option Labels → List Label
+labelsIn none = []
+labelsIn (some c) = labelsOf (c .chains) (c .seqs)
+
+abbrev pub coverRules : ℕ → Option Labels → Option Refusal
+coverRules rows none = none
+coverRules rows (some c) = labelRules rows c
+
+abbrev pub labelLengths : Option Labels → List ℕ
+labelLengths none = []
+labelLengths (some c) = length (c .chains) ∷ length (c .seqs) ∷ []
+
+unfoldable pub setLengths : EdgeSet → List ℕ
+setLengths s = length (s .offsets) ∷ length (s .deltas) ∷ []
+
+-- how long the columns are that a reader is lent
+unfoldable pub columnLengths : GranuleColumns → List ℕ
+columnLengths c = setLengths (c .forward) ++ (setLengths (c .reverse) ++ (setLengths (c .inbound) ++ labelLengths (c .labels)))
+
+-- set by set 17, 18, 19; then 20, 21
+unfoldable pub granuleRules : ℕ → ℕ → ℕ → GranuleColumns → Option Refusal
+granuleRules first rows end c =
+    firstOf (setRules forward first rows end (c .forward)
+    ∷ setRules reverse first rows end (c .reverse)
+    ∷ setRules inbound first rows end (c .inbound)
+    ∷ coverRules rows (c .labels)
+    ∷ [])
+
+unfoldable pub granuleOf : ℕ → GranuleColumns → Granule
+granuleOf first c =
+    record { forward = slotsOf first (c .forward); reverse = slotsOf first (c .reverse); inbound = slotsOf first (c .inbound); labels = labelsIn (c .labels) }
+
+-- `decode_granule_edges`: the rows from `first` on of a file that ends before `end`; what it is lent for its answer
+unfoldable pub readGranule : ℕ → ℕ → ℕ → GranuleColumns → List Lent → Verdict Granule
+readGranule first rows end c lent =
+    unless (firstOf (limits (rows ∷ []) (columnLengths c) lent ∷ granuleRules first rows end c ∷ [])) (granuleOf first c)

@@ -1,0 +1,2 @@
+// Edge columns of an event graph: reading, building and asking. specs/ says what each answer is.
+pub mod refusal;

@@ -1,0 +1,1 @@
+// The chain cover of a file: ranges, links and the questions over them. specs/ says what each answer is.
