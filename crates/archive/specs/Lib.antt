@@ -4,3 +4,4 @@ pub mod File
 pub mod Parse
 pub mod Encode
 pub mod Fits
+pub mod Computes

@@ -7,3 +7,4 @@ pub mod Building
 pub mod Roots
 pub mod Walk
 pub mod Ancestor
+pub mod Computes

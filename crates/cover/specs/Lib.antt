@@ -1,3 +1,4 @@
 pub mod Chains
 pub mod Cover
 pub mod Questions
+pub mod Computes

@@ -4,3 +4,13 @@ pub mod Archive
 pub mod Routes
 pub mod Cleaning
 pub mod Memo
+pub mod Summary
+pub mod Resolving
+pub mod Writing
+pub mod Step
+pub mod History
+pub mod Alike
+pub mod Claim
+pub mod Trace
+pub mod Computes
+pub mod Listing

@@ -1,0 +1,5 @@
+pub mod Tests
+pub mod Each
+pub mod Once
+pub mod Flat
+pub mod Cut

@@ -1,0 +1,14 @@
+-- Demand 3: the one claim, over two whole lists of calls, each from a fresh run. proofs/Claim has its proof.
+use mathlib.Core.List.{List}
+use mathlib.Core.Path.{_≡_}
+use Prim.Native.Nat.{ℕ}
+use Rattle.run.specs.Step.{Call, fresh}
+use Rattle.run.specs.History.{history, archiveIn, Wrote, cleaned}
+use Rattle.run.specs.Alike.{Alike}
+
+-- where the archives of the two lists are alike, every accepted write of one is the cleaned archive, in the same length and the same bytes as
+-- every accepted write of the other
+abbrev pub Claim : Type 0
+Claim = (cs ds : List Call) → Alike (archiveIn (history fresh cs)) (archiveIn (history fresh ds))
+    → (w v : List ℕ) → Wrote (history fresh cs) w → Wrote (history fresh ds) v
+    → (w ≡ cleaned (archiveIn (history fresh cs))) × (w ≡ v)
