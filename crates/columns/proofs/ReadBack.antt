@@ -72,10 +72,14 @@ unfolding starts deltasFrom
 starts-deltas a first slot [] = refl
 starts-deltas a first slot (ts ∷ lists) = rw (length-map ts (deltaOf (eventOf first slot)), starts-deltas (a + length ts) first (suc slot) lists)
 
-pub length-deltas : (first slot : ℕ) (lists : List (List ℕ)) → length (joined (deltasFrom first slot lists)) ≡ length (joined lists)
+length-deltas : (first slot : ℕ) (lists : List (List ℕ)) → length (joined (deltasFrom first slot lists)) ≡ length (joined lists)
 unfolding joined deltasFrom
 length-deltas first slot [] = refl
 length-deltas first slot (ts ∷ lists) = simp (length-append, length-map, length-deltas first (suc slot) lists)
+
+pub set-count : (first : ℕ) (lists : List (List ℕ)) → length (setOf first lists .deltas) ≡ setOf first lists .count
+unfolding setOf
+set-count first lists = length-deltas first 0 lists
 
 targets-deltas : (first slot : ℕ) (lists : List (List ℕ)) → targetsFrom first slot (deltasFrom first slot lists) ≡ lists
 unfolding targetsFrom deltasFrom
@@ -102,7 +106,7 @@ unfolding all
 all-sound set end event [] h = refl
 all-sound set end event (t ∷ ts) h = rw (sound-delta set end event t, lt-ltb t end64 (h .0 .1), h .0 .0) (all-sound set end event ts (h .1))
 
-sound-deltas : (set first end slot : ℕ) (lists : List (List ℕ)) → AllowedFrom set first end slot lists → soundFrom set first end slot (deltasFrom first slot lists) ≡ true
+pub sound-deltas : (set first end slot : ℕ) (lists : List (List ℕ)) → AllowedFrom set first end slot lists → soundFrom set first end slot (deltasFrom first slot lists) ≡ true
 unfolding soundFrom deltasFrom
 sound-deltas set first end slot [] h = refl
 sound-deltas set first end slot (ts ∷ lists) h =

@@ -25,6 +25,10 @@ module _ {A : Type 0} (P : A → Type 0) where
   each-imp Q [] f h = tt
   each-imp Q (x ∷ xs) f h = (f x (h .0), each-imp Q xs f (h .1))
 
+  pub each-all : ((x : A) → P x) → (xs : List A) → Each P xs
+  each-all f [] = tt
+  each-all f (x ∷ xs) = (f x, each-all f xs)
+
   pub each-both : (Q : A → Type 0) (xs : List A) → Each P xs → Each Q xs → Each (λ x. P x × Q x) xs
   each-both Q [] h g = tt
   each-both Q (x ∷ xs) h g = ((h .0, g .0), each-both Q xs (h .1) (g .1))

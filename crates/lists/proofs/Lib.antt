@@ -3,3 +3,4 @@ pub mod Each
 pub mod Once
 pub mod Flat
 pub mod Cut
+pub mod Rising

@@ -11,6 +11,7 @@ pub mod Step
 pub mod History
 pub mod Alike
 pub mod Claim
+pub mod Accepted
 pub mod Trace
 pub mod Computes
 pub mod Listing

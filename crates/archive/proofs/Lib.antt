@@ -1,0 +1,5 @@
+pub mod Numbers
+pub mod Forward
+pub mod Round
+pub mod Back
+pub mod Faithful

@@ -1,0 +1,211 @@
+-- Parsing the bytes of files gives those files.
+use mathlib.Core.Path.{_≡_, refl, sym, _∙_}
+use mathlib.Core.Bool.{Bool, true, false}
+use mathlib.Core.List.{List, [], _∷_, _++_, map, append-assoc}
+use mathlib.Core.Option.{Option, none, some}
+use Prim.Native.Nat.{ℕ, zero, suc, _≤_, _<_, _+_, _*_, _^_}
+use native.Mathlib.Nat.{zero-add, add-assoc}
+use native.Mathlib.Omega.{arith}
+use lib.Dec.{leb, eqb}
+use lib.ListN.{length, getD, length-append, length-map}
+use borrow.Author.Tests.{lt-leb}
+use Rattle.lists.specs.Lists.{Each, flat, all}
+use Rattle.lists.specs.Order.{rising, notFalling}
+use Rattle.lists.proofs.Each.{each-imp}
+use Rattle.columns.specs.Limits.{kinds}
+use Rattle.columns.specs.EdgeSet.{EdgeSet}
+use Rattle.columns.specs.Building.{Depth}
+use Rattle.cover.specs.Chains.{Range}
+use Rattle.cover.specs.Cover.{LinkColumns}
+use Rattle.archive.specs.Bytes.{bytesOf, unsignedOf}
+use Rattle.archive.specs.Reader.{broken, got, _>>=_, byte, number, bytes, table, numbers, recordOf, optionally}
+use Rattle.archive.specs.File.{Row, Unresolved, Root, CoverColumns, File}
+use Rattle.archive.specs.Parse
+use Rattle.archive.specs.Parse.{Head, depthFlagOk, headEnd, edgeSet, rowAt, unresolvedAt, rootAt, rangeAt, files, parse}
+use Rattle.archive.specs.Encode.{recordBytes, depthBytes, headBytes, setBytes, edgesBytes, flagOf, rowBytes, unresolvedBytes, rootBytes, rangeBytes, linksBytes, coverBytes, countedBytes, coverRecord, fileBytes, encode}
+use Rattle.archive.specs.Fits.{DepthFits, SetFits, UnresolvedFits, RootFits, RangeFits, LinksFit, CoverFits, CoverFitsIn, FileFits, Short}
+use Rattle.archive.proofs.Numbers.{length-bytesOf, be-at, signed-all, unsigned-all}
+use Rattle.archive.proofs.Forward.{Reads, seq, fin, peek, number-reads, byte-reads, bytes-reads, Item, table-reads, things-read, numbers-read, counted-read, stops, record-kind, record-reads, found, none-there}
+
+-- ── 1 file ───────────────────────────────────────────────────────────────────────────────────
+
+-- what record 1 holds of a file
+abbrev headOf : File → Head
+headOf f = record { first = f .first; rows = length (f .rows); group = f .group; subject = f .subject; depth = f .depth }
+
+depth-reads : (first rows group : ℕ) (subject : List ℕ) (d : Option Depth) → DepthFits d
+    → Reads [] (headEnd first rows group subject) (depthBytes d) (record { first = first; rows = rows; group = group; subject = subject; depth = d })
+unfolding depthBytes headEnd depthFlagOk
+depth-reads a b c s none g =
+    seq byte _ (byte-reads 0) (seq (number 8) _ (number-reads 8 0 (omega arith)) (fin (number 8) _ (number-reads 8 0 (omega arith)) (λ l p k. refl)))
+depth-reads a b c s (some d) g =
+    seq byte _ (byte-reads 1) (seq (number 8) _ (number-reads 8 (d .least) (g .0)) (fin (number 8) _ (number-reads 8 (d .greatest) (g .1)) (λ l p k. refl)))
+
+head-reads : (f : File) → FileFits f → Reads [] Parse.head (headBytes f) (headOf f)
+unfolding Parse.head headBytes
+head-reads f k =
+    seq (number 8) _ (number-reads 8 (f .first) (k .first)) (seq (number 4) _ (number-reads 4 (length (f .rows)) (k .rowCount)) (seq byte _ (byte-reads (f .group))
+    (seq byte _ (byte-reads (length (f .subject))) (seq (bytes (length (f .subject))) _ (bytes-reads (f .subject))
+    (depth-reads (f .first) (length (f .rows)) (f .group) (f .subject) (f .depth) (k .depth))))))
+
+depth-length : (d : Option Depth) → length (depthBytes d) ≡ 17
+unfolding depthBytes bytesOf
+depth-length none = refl
+depth-length (some d) = refl
+
+head-short : (f : File) → FileFits f → Short (headBytes f)
+unfolding headBytes
+head-short f k = simp (length-append, length-bytesOf, depth-length) (omega (arith, k .subject))
+
+-- ── 2 edges ──────────────────────────────────────────────────────────────────────────────────
+
+set-reads : {post : List ℕ} (rows : ℕ) (s : EdgeSet) → SetFits rows s → Reads post (edgeSet rows) (setBytes s) s
+unfolding edgeSet setBytes
+set-reads rows s f =
+    seq (number 4) _ (number-reads 4 (s .count) (f .count)) (seq (numbers 8 (kinds * rows + 1)) _ (numbers-read 8 (kinds * rows + 1) (s .offsets) (f .slots) (f .offsets))
+    (fin (numbers 8 (s .count)) _ (numbers-read 8 (s .count) (map unsignedOf (s .deltas)) (length-map (s .deltas) unsignedOf ∙ sym (f .counted)) (unsigned-all (s .deltas) (f .deltas)))
+    (λ l p k. rw (signed-all (s .deltas) (f .deltas)))))
+
+sets-read : (f : File) → FileFits f → Reads [] (Parse.sets (length (f .rows))) (edgesBytes f) (record { forward = f .forward; reverse = f .reverse; inbound = f .inbound })
+unfolding Parse.sets edgesBytes
+sets-read f k =
+    let n = length (f .rows) in
+    seq (edgeSet n) _ (set-reads n (f .forward) (k .forward)) (seq (edgeSet n) _ (set-reads n (f .reverse) (k .reverse))
+    (fin (edgeSet n) _ (set-reads n (f .inbound) (k .inbound)) (λ l p h. refl)))
+
+-- ── 3 rows ───────────────────────────────────────────────────────────────────────────────────
+
+flag-back : (b : Bool) → eqb (flagOf b) 1 ≡ b
+flag-back true = refl
+flag-back false = refl
+
+row-item : (r : Row) → r .tag < 256 ^ 8 → Item 9 rowBytes rowAt (λ r. r) r
+unfolding rowBytes rowAt
+row-item r h = record {
+  wide = rw (length-bytesOf 8 (r .tag));
+  item = λ post. rw (flag-back (r .erased), be-at 8 (r .tag) (flagOf (r .erased) ∷ []) post h);
+}
+
+flag-item : (r : Row) → r .tag < 256 ^ 8 → Item 9 rowBytes (λ l. getD l 0 0) (λ r. flagOf (r .erased)) r
+unfolding rowBytes
+flag-item r h = record { wide = rw (length-bytesOf 8 (r .tag)); item = λ post. refl }
+
+flags-pass : (rs : List Row) → all (λ flag. leb flag 1) (map (λ r. flagOf (r .erased)) rs) ≡ true
+unfolding all
+flags-pass [] = refl
+flags-pass (r ∷ rs) = rw (pass (r .erased), flags-pass rs)
+  where
+    pass : (b : Bool) → leb (flagOf b) 1 ≡ true
+    pass true = refl
+    pass false = refl
+
+rows-read : (rs : List Row) → Each (λ r. r .tag < 256 ^ 8) rs → Reads [] (Parse.rows (length rs)) (flat rowBytes rs) rs
+unfolding Parse.rows
+rows-read rs k =
+    peek (table 9 (λ l. getD l 0 0) (length rs)) _ (table-reads 9 rowBytes (λ l. getD l 0 0) (λ r. flagOf (r .erased)) rs (each-imp _ _ rs flag-item k))
+    (fin (table 9 rowAt (length rs)) _ (things-read 9 rowBytes rowAt (length rs) rs refl (each-imp _ _ rs row-item k)) (λ l p h. rw (flags-pass rs)))
+
+-- ── 4 unresolved, 5 roots ────────────────────────────────────────────────────────────────────
+
+unresolved-item : (u : Unresolved) → UnresolvedFits u → Item 13 unresolvedBytes unresolvedAt (λ u. u) u
+unfolding unresolvedBytes unresolvedAt bytesOf
+unresolved-item u h = record {
+  wide = refl;
+  item = λ post. rw (be-at 8 (u .child) [] ((u .kind ∷ []) ++ (bytesOf 4 (u .handle) ++ post)) (h .0), be-at 4 (u .handle) (bytesOf 8 (u .child) ++ (u .kind ∷ [])) post (h .2));
+}
+
+root-item : (r : Root) → RootFits r → Item 16 rootBytes rootAt (λ r. r) r
+unfolding rootBytes rootAt bytesOf
+root-item r h = record {
+  wide = refl;
+  item = λ post. rw (be-at 8 (r .row) [] (bytesOf 8 (r .handle) ++ post) (h .0), be-at 8 (r .handle) (bytesOf 8 (r .row)) post (h .1));
+}
+
+unresolved-read : (f : File) → FileFits f → Reads [] Parse.unresolved (countedBytes unresolvedBytes (f .unresolved)) (f .unresolved)
+unfolding Parse.unresolved
+unresolved-read f k =
+    counted-read 13 unresolvedBytes unresolvedAt (λ us. notFalling (map (λ u. u .child) us)) (f .unresolved) (k .unresolvedCount) (each-imp _ _ (f .unresolved) unresolved-item (k .unresolved))
+    (k .unresolvedOrder)
+
+roots-read : (f : File) → FileFits f → Reads [] Parse.roots (countedBytes rootBytes (f .roots)) (f .roots)
+unfolding Parse.roots
+roots-read f k =
+    counted-read 16 rootBytes rootAt (λ rs. rising (map (λ r. r .row) rs)) (f .roots) (k .rootCount) (each-imp _ _ (f .roots) root-item (k .roots)) (k .rootOrder)
+
+-- ── 6 cover ──────────────────────────────────────────────────────────────────────────────────
+
+range-item : (r : Range) → RangeFits r → Item 12 rangeBytes rangeAt (λ r. r) r
+unfolding rangeBytes rangeAt bytesOf
+range-item r h = record {
+  wide = refl;
+  item = λ post. rw (
+    be-at 4 (r .chain) [] (bytesOf 4 (r .least) ++ (bytesOf 4 (r .greatest) ++ post)) (h .0),
+    be-at 4 (r .least) (bytesOf 4 (r .chain)) (bytesOf 4 (r .greatest) ++ post) (h .1),
+    be-at 4 (r .greatest) (bytesOf 4 (r .chain) ++ bytesOf 4 (r .least)) post (h .2),
+  );
+}
+
+links-read : {post : List ℕ} (c : LinkColumns) → LinksFit c → Reads post Parse.links (linksBytes c) c
+unfolding Parse.links linksBytes
+links-read c k =
+    let n = length (c .fromChains) in
+    seq (number 4) _ (number-reads 4 n (k .count)) (seq (numbers 4 n) _ (numbers-read 4 n (c .fromChains) refl (k .fromChains))
+    (seq (numbers 4 n) _ (numbers-read 4 n (c .fromSeqs) (k .second) (k .fromSeqs)) (seq (numbers 4 n) _ (numbers-read 4 n (c .toChains) (k .third) (k .toChains))
+    (fin (numbers 4 n) _ (numbers-read 4 n (c .toSeqs) (k .fourth) (k .toSeqs)) (λ l p h. refl)))))
+
+cover-reads : (rows : ℕ) (c : CoverColumns) → CoverFits rows c → Reads [] (Parse.cover rows) (coverBytes c) c
+unfolding Parse.cover coverBytes
+cover-reads rows c k =
+    let m = length (c .ranges) in
+    seq (numbers 4 rows) _ (numbers-read 4 rows (c .labels .chains) (k .chainCount) (k .chains)) (seq (numbers 4 rows) _ (numbers-read 4 rows (c .labels .seqs) (k .seqCount) (k .seqs))
+    (seq (number 4) _ (number-reads 4 m (k .rangeCount)) (seq (table 12 rangeAt m) _ (things-read 12 rangeBytes rangeAt m (c .ranges) refl (each-imp _ _ (c .ranges) range-item (k .ranges)))
+    (fin Parse.links _ (links-read (c .links) (k .links)) (λ l p h. refl)))))
+
+cover-found : {post : List ℕ} (rows : ℕ) (o : Option CoverColumns) → CoverFitsIn rows o → eqb (getD post 5 0) 6 ≡ false → Reads post (optionally 6 (Parse.cover rows)) (coverRecord o) o
+cover-found rows none k g = none-there 6 (Parse.cover rows) g
+cover-found rows (some c) k g = found 6 (Parse.cover rows) (k .short) (cover-reads rows c k)
+
+-- ── files ────────────────────────────────────────────────────────────────────────────────────
+
+-- a file is read where no cover of another stands behind it
+file-reads : {post : List ℕ} (f : File) → FileFits f → eqb (getD post 5 0) 6 ≡ false → Reads post Parse.file (fileBytes f) f
+unfolding Parse.file fileBytes
+file-reads f k g =
+    let n = length (f .rows) in
+    seq (recordOf 1 Parse.head) _ (record-reads 1 Parse.head (head-short f k) (head-reads f k))
+    (seq (recordOf 2 (Parse.sets n)) _ (record-reads 2 (Parse.sets n) (k .edgesShort) (sets-read f k))
+    (seq (recordOf 3 (Parse.rows n)) _ (record-reads 3 (Parse.rows n) (k .rowsShort) (rows-read (f .rows) (k .tags)))
+    (seq (recordOf 4 Parse.unresolved) _ (record-reads 4 Parse.unresolved (k .unresolvedShort) (unresolved-read f k))
+    (seq (recordOf 5 Parse.roots) _ (record-reads 5 Parse.roots (k .rootsShort) (roots-read f k))
+    (fin (optionally 6 (Parse.cover n)) _ (cover-found n (f .cover) (k .cover) g) (λ l p h. refl))))))
+
+file-long : (f : File) → 0 < length (fileBytes f)
+unfolding fileBytes recordBytes
+file-long f = simp (length-append, length-bytesOf) (omega arith)
+
+-- files begin with a record 1
+no-cover-first : (fs : List File) → eqb (getD (encode fs) 5 0) 6 ≡ false
+unfolding encode fileBytes
+no-cover-first [] = refl
+no-cover-first (f ∷ fs) = rw (append-assoc, record-kind 1)
+
+files-read : (fs : List File) (n : ℕ) (pre : List ℕ) → length fs ≤ n → Each FileFits fs → files n (pre ++ encode fs) (length pre) ≡ got fs (length pre + length (encode fs))
+unfolding encode files _>>=_
+files-read [] zero pre h k = stops [] broken pre
+files-read [] (suc n) pre h k = stops [] _ pre
+files-read (f ∷ fs) zero pre h k = absurd (omega arith)
+files-read (f ∷ fs) (suc n) pre h k =
+    let q = file-long f in
+    let c : length pre < length (pre ++ (fileBytes f ++ encode fs)) = simp length-append (omega arith) in
+    let i = rw (append-assoc pre (fileBytes f) (encode fs), length-append pre (fileBytes f)) at (files-read fs n (pre ++ fileBytes f) (omega arith) (k .1)) in
+    rw (lt-leb (length (pre ++ (fileBytes f ++ encode fs))) (length pre) c, file-reads f (k .0) (no-cover-first fs) .read pre, i, length-append (fileBytes f) (encode fs), add-assoc)
+
+enough : (fs : List File) → length fs ≤ length (encode fs)
+unfolding encode
+enough [] = omega arith
+enough (f ∷ fs) = let h = enough fs in let q = file-long f in simp length-append (omega arith)
+
+-- parsing the bytes of files that fit their fields gives those files
+pub parse-encode : (fs : List File) → Each FileFits fs → parse (encode fs) ≡ got fs (length (encode fs))
+unfolding parse
+parse-encode fs k = files-read fs (length (encode fs)) [] (enough fs) k ∙ rw (zero-add (length (encode fs)))
