@@ -1,26 +1,19 @@
 -- What a reader gave has the bytes that it was read from, and fits its fields: the law of each reader of bytes, and of readers one after the other.
 use mathlib.Core.Path.{_≡_, refl, sym, _∙_, ap}
 use mathlib.Core.Bool.{and-true, Bool, true, false, cond, _&&_}
-use mathlib.Core.List.{List, [], _∷_, _++_, append-nil}
-use mathlib.Core.Option.{Option, none, some}
+use mathlib.Core.List.{List, [], _∷_, _++_}
 use Prim.Native.Nat.{ℕ, zero, suc, _≤_, _<_, _+_, _-_, _*_, _^_}
-use native.Mathlib.Nat.{add-zero, zero-add, suc-mul, zero-mul, add-comm, sub-self, sub-zero, add-sub-cancel-left}
+use native.Mathlib.Nat.{add-zero, zero-add, suc-mul, zero-mul, add-comm, add-sub-cancel-left}
 use native.Mathlib.Omega.{arith}
-use lib.Dec.{leb, eqb}
+use lib.Dec.{leb}
 use lib.ListN.{length, take, drop, getD, length-drop}
-use lib.Seq.{take-add, drop-drop, take-all, length-take-le, take-suc, getD-drop}
-use borrow.Author.Tests.{leb-true, eqb-true}
+use lib.Seq.{take-add, drop-drop, length-take-le, take-suc, getD-drop}
 use Rattle.lists.specs.Lists.{Each, flat, all}
 use Rattle.lists.proofs.Tests.{both}
 use Rattle.archive.specs.Bytes.{be, bytesOf, several}
-use Rattle.archive.specs.Reader.{Parsed, broken, got, Reader, andThen, _>>=_, byte, number, bytes, table, numbers, checked, ahead, whole, body, recordOf, optionally}
-use Rattle.archive.specs.Encode.{recordBytes, columnBytes}
-use Rattle.archive.specs.Fits.{Short}
-use Rattle.archive.proofs.Numbers.{be-small, bytesOf-be, getD-small}
-
--- bytes of an archive
-abbrev pub AllBytes : List ℕ → Type 0
-AllBytes l = Each (λ b. b < 256) l
+use Rattle.archive.specs.Reader.{Parsed, broken, got, Reader, andThen, _>>=_, byte, number, bytes, table, numbers, checked, ahead}
+use Rattle.archive.specs.Encode.{columnBytes}
+use Rattle.archive.proofs.Numbers.{AllBytes, be-small, bytesOf-be, getD-small}
 
 -- the bytes from place p up to place q
 abbrev pub span : ℕ → ℕ → List ℕ → List ℕ
@@ -43,18 +36,18 @@ broken-is-not-got e = let z : _≡_ {A = ℕ} 0 1 = cc in omega arith
 
 module _ {B C : Type 0} {y : B} {q : ℕ} where
   -- two readers gave an answer, so each of them gave one
-  pub came : {A : Type 0} (o : Parsed A) (k : A → ℕ → Parsed B) → andThen o k ≡ got y q → ((x : A) (m : ℕ) → o ≡ got x m → k x m ≡ got y q → C) → C
-  came broken k e c = absurd (broken-is-not-got e)
-  came (got x m) k e c = c x m refl e
+  pub andThen-got : {A : Type 0} (o : Parsed A) (k : A → ℕ → Parsed B) → andThen o k ≡ got y q → ((x : A) (m : ℕ) → o ≡ got x m → k x m ≡ got y q → C) → C
+  andThen-got broken k e c = absurd (broken-is-not-got e)
+  andThen-got (got x m) k e c = c x m refl e
 
   -- one of two answers was given
-  pub chosen : (t : Bool) (a b : Parsed B) → cond t a b ≡ got y q → (t ≡ true → a ≡ got y q → C) → (t ≡ false → b ≡ got y q → C) → C
-  chosen true a b e c d = c refl e
-  chosen false a b e c d = d refl e
+  pub cond-got : (t : Bool) (a b : Parsed B) → cond t a b ≡ got y q → (t ≡ true → a ≡ got y q → C) → (t ≡ false → b ≡ got y q → C) → C
+  cond-got true a b e c d = c refl e
+  cond-got false a b e c d = d refl e
 
   -- an answer that depends on a test was given, so the test holds
-  pub passed : (t : Bool) (a : Parsed B) → cond t a broken ≡ got y q → (t ≡ true → a ≡ got y q → C) → C
-  passed t a e c = chosen t a broken e c (λ i d. absurd (broken-is-not-got d))
+  pub tested-got : (t : Bool) (a : Parsed B) → cond t a broken ≡ got y q → (t ≡ true → a ≡ got y q → C) → C
+  tested-got t a e c = cond-got t a broken e c (λ i d. absurd (broken-is-not-got d))
 
 -- ── one after the other ──────────────────────────────────────────────────────────────────────
 
@@ -65,11 +58,11 @@ span-join l p m q h k =
     rw (a, take-add (m - p) (q - m) (drop p l), drop-drop (m - p) p l, b)
 
 module _ {A B : Type 0} (r : Reader A) (f : A → Reader B) {enc : A → List ℕ} {F : A → Type 0} {S : B → List ℕ → Type 0} where
-  pub then : Back r (Said enc F) → ((x : A) → Back (f x) (λ y g. F x → S y (enc x ++ g))) → Back (_>>=_ r f) S
+  pub then-back : Back r (Said enc F) → ((x : A) → Back (f x) (λ y g. F x → S y (enc x ++ g))) → Back (_>>=_ r f) S
   unfolding _>>=_
-  then a b = record {
-    onward = λ l p y q e. came (r l p) (λ x m. f x l m) e (λ x m d k. omega (arith, a .onward l p x m d, b x .onward l m y q k));
-    back = λ l h p y q e i. came (r l p) (λ x m. f x l m) e (λ x m d k.
+  then-back a b = record {
+    onward = λ l p y q e. andThen-got (r l p) (λ x m. f x l m) e (λ x m d k. omega (arith, a .onward l p x m d, b x .onward l m y q k));
+    back = λ l h p y q e i. andThen-got (r l p) (λ x m. f x l m) e (λ x m d k.
         let j = a .onward l p x m d in
         let u = b x .onward l m y q k in
         let v : m ≤ length l = omega arith in
@@ -78,21 +71,11 @@ module _ {A B : Type 0} (r : Reader A) (f : A → Reader B) {enc : A → List �
   }
 
 module _ {B : Type 0} {S : B → List ℕ → Type 0} where
-  -- the last word, with or without a test
-  pub last : (t : List ℕ → ℕ → Bool) (y : B) → ((l : List ℕ) (p : ℕ) → t l p ≡ true → S y []) → Back (λ l p. cond (t l p) (got y p) broken) S
-  last t y s = record {
-    onward = λ l p x q e. passed (t l p) (got y p) e (λ i d. let z : p ≡ q = cc in omega arith);
-    back = λ l h p x q e i. passed (t l p) (got y p) e (λ j d.
-        let a : y ≡ x = cc in
-        let b : p ≡ q = cc in
-        rw (← a, ← b, sub-self p) (s l p j));
-  }
+  pub alike-back : (r s : Reader B) → ((l : List ℕ) (p : ℕ) → r l p ≡ s l p) → Back s S → Back r S
+  alike-back r s f b = record { onward = λ l p x q e. b .onward l p x q (sym (f l p) ∙ e); back = λ l h p x q e i. b .back l h p x q (sym (f l p) ∙ e) i }
 
-  pub alike : (r s : Reader B) → ((l : List ℕ) (p : ℕ) → r l p ≡ s l p) → Back s S → Back r S
-  alike r s f b = record { onward = λ l p x q e. b .onward l p x q (sym (f l p) ∙ e); back = λ l h p x q e i. b .back l h p x q (sym (f l p) ∙ e) i }
-
-  pub weaken : {R : B → List ℕ → Type 0} (r : Reader B) → Back r R → ((x : B) (e : List ℕ) → R x e → S x e) → Back r S
-  weaken r b f = record { onward = b .onward; back = λ l h p x q e i. f x (span p q l) (b .back l h p x q e i) }
+  pub weaker-back : {R : B → List ℕ → Type 0} (r : Reader B) → Back r R → ((x : B) (e : List ℕ) → R x e → S x e) → Back r S
+  weaker-back r b f = record { onward = b .onward; back = λ l h p x q e i. f x (span p q l) (b .back l h p x q e i) }
 
 -- ── numbers and bytes ────────────────────────────────────────────────────────────────────────
 
@@ -109,27 +92,31 @@ module _ {A : Type 0} (P : A → Type 0) where
 
 -- a reader of n bytes, with or without a test, from its answer at each place
 module _ {A : Type 0} (n : ℕ) (t : List ℕ → ℕ → Bool) (f : List ℕ → ℕ → A) {R : A → List ℕ → Type 0} where
-  leaf : ((l : List ℕ) → AllBytes l → (p : ℕ) → p + n ≤ length l → t l p ≡ true → R (f l p) (take n (drop p l))) → Back (λ l p. cond (t l p) (got (f l p) (p + n)) broken) R
-  leaf s = record {
-    onward = λ l p x q e. passed (t l p) (got (f l p) (p + n)) e (λ u d. let z : p + n ≡ q = cc in omega arith);
-    back = λ l h p x q e i. passed (t l p) (got (f l p) (p + n)) e (λ u d.
+  leaf-back : ((l : List ℕ) → AllBytes l → (p : ℕ) → p + n ≤ length l → t l p ≡ true → R (f l p) (take n (drop p l))) → Back (λ l p. cond (t l p) (got (f l p) (p + n)) broken) R
+  leaf-back s = record {
+    onward = λ l p x q e. tested-got (t l p) (got (f l p) (p + n)) e (λ u d. let z : p + n ≡ q = cc in omega arith);
+    back = λ l h p x q e i. tested-got (t l p) (got (f l p) (p + n)) e (λ u d.
         let a : f l p ≡ x = cc in
         let b : p + n ≡ q = cc in
         let j : p + n ≤ length l = omega arith in
         rw (← a, ← b, add-sub-cancel-left p n) (s l h p j u));
   }
 
+-- the last word, with or without a test
+pub end-back : {A : Type 0} {S : A → List ℕ → Type 0} (t : List ℕ → ℕ → Bool) (y : A) → ((l : List ℕ) (p : ℕ) → t l p ≡ true → S y []) → Back (λ l p. cond (t l p) (got y p) broken) S
+end-back t y s = alike-back _ _ (λ l p. rw (add-zero p)) (leaf-back 0 t (λ l p. y) (λ l h p i u. s l p u))
+
 pub number-back : (w : ℕ) → Back (number w) (Said (bytesOf w) (λ n. n < 256 ^ w))
-number-back w = leaf w (λ l p. true) (λ l p. be w l p) (λ l h p i u. record { bytes = bytesOf-be l h p w i; fits = be-small l h p w })
+number-back w = leaf-back w (λ l p. true) (λ l p. be w l p) (λ l h p i u. record { bytes = bytesOf-be l h p w i; fits = be-small l h p w })
 
 pub byte-back : Back byte (Said (λ b. b ∷ []) (λ b. b < 256))
-byte-back = leaf 1 (λ l p. true) (λ l p. getD l p 0) (λ l h p i u. record {
+byte-back = leaf-back 1 (λ l p. true) (λ l p. getD l p 0) (λ l h p i u. record {
   bytes = rw (take-suc (drop p l) 0 0 (rw (length-drop p l) (omega arith)), getD-drop, add-zero p);
   fits = getD-small l p h;
 })
 
 pub bytes-back : (n : ℕ) → Back (bytes n) (Said (λ b. b) (λ b. (length b ≡ n) × AllBytes b))
-bytes-back n = leaf n (λ l p. true) (λ l p. take n (drop p l)) (λ l h p i u. record {
+bytes-back n = leaf-back n (λ l p. true) (λ l p. take n (drop p l)) (λ l h p i u. record {
   bytes = refl;
   fits = (length-take-le n (drop p l) (rw (length-drop p l) (omega arith)), each-take _ n (drop p l) (each-drop _ p l h));
 })
@@ -159,22 +146,22 @@ module _ {A : Type 0} (w : ℕ) (f : List ℕ → A) (g : List ℕ → ℕ) (t :
       record { bytes = rw (suc-mul n w, add-comm (n * w) w, take-add w (n * w) l, a .bytes, b .bytes); fits = (a .fits, b .fits) }
 
   module _ (n : ℕ) where
-    table-leaf : Back (λ l p. cond (leb (p + n * w) (length l) && all t (several w g n (drop p l))) (got (several w f n (drop p l)) (p + n * w)) broken) (Said (flat enc) (Things F n))
-    table-leaf = leaf (n * w) (λ l p. leb (p + n * w) (length l) && all t (several w g n (drop p l))) (λ l p. several w f n (drop p l)) (λ l h p i u.
+    things-back : Back (λ l p. cond (leb (p + n * w) (length l) && all t (several w g n (drop p l))) (got (several w f n (drop p l)) (p + n * w)) broken) (Said (flat enc) (Things F n))
+    things-back = leaf-back (n * w) (λ l p. leb (p + n * w) (length l) && all t (several w g n (drop p l))) (λ l p. several w f n (drop p l)) (λ l h p i u.
         let k : n * w ≤ length (drop p l) = rw (length-drop p l) (omega arith) in
         let a = several-back n (drop p l) (each-drop _ p l h) k (both (leb (p + n * w) (length l)) (all t (several w g n (drop p l))) u .1) in
         record { bytes = a .bytes; fits = (length-several w f n (drop p l), a .fits) })
 
     -- the reader of record 3: the numbers, then the things from the same place, then the test
-    abbrev pub tested : Reader (List A)
-    tested = _>>=_ (ahead (table w g n)) (λ ns. _>>=_ (table w f n) (λ xs. checked (all t ns) xs))
+    abbrev pub testedTable : Reader (List A)
+    testedTable = _>>=_ (ahead (table w g n)) (λ ns. _>>=_ (table w f n) (λ xs. checked (all t ns) xs))
 
-    pub tested-back : Back tested (Said (flat enc) (Things F n))
+    pub testedTable-back : Back testedTable (Said (flat enc) (Things F n))
     unfolding _>>=_ table
-    tested-back = alike tested _ (λ l p. go l p (leb (p + n * w) (length l)) refl) table-leaf
+    testedTable-back = alike-back testedTable _ (λ l p. go l p (leb (p + n * w) (length l)) refl) things-back
       where
         go : (l : List ℕ) (p : ℕ) (b : Bool) → leb (p + n * w) (length l) ≡ b
-            → tested l p ≡ cond (leb (p + n * w) (length l) && all t (several w g n (drop p l))) (got (several w f n (drop p l)) (p + n * w)) broken
+            → testedTable l p ≡ cond (leb (p + n * w) (length l) && all t (several w g n (drop p l))) (got (several w f n (drop p l)) (p + n * w)) broken
         go l p true e = rw (e, e)
         go l p false e = rw e
 
@@ -187,58 +174,7 @@ all-true (x ∷ xs) = all-true xs
 module _ {A : Type 0} (w : ℕ) (f : List ℕ → A) {enc : A → List ℕ} {F : A → Type 0} where
   pub table-back : ((l : List ℕ) → AllBytes l → w ≤ length l → Said enc F (f l) (take w l)) → (n : ℕ) → Back (table w f n) (Said (flat enc) (Things F n))
   unfolding table
-  table-back one n = alike _ _ (λ l p. rw (all-true (several w (λ l. 0) n (drop p l)), and-true)) (table-leaf w f (λ l. 0) (λ x. true) enc F (λ l h i u. one l h i) n)
+  table-back one n = alike-back _ _ (λ l p. rw (all-true (several w (λ l. 0) n (drop p l)), and-true)) (things-back w f (λ l. 0) (λ x. true) enc F (λ l h i u. one l h i) n)
 
 pub numbers-back : (w n : ℕ) → Back (numbers w n) (Said (columnBytes w) (Things (λ x. x < 256 ^ w) n))
 numbers-back w n = table-back w (λ l. be w l 0) (λ l h i. record { bytes = bytesOf-be l h 0 w (rw (zero-add w) i); fits = be-small l h 0 w }) n
-
--- ── records ──────────────────────────────────────────────────────────────────────────────────
-
-body-back : (k : ℕ) → Back (body k) (Said (recordBytes k) (λ b. AllBytes b × Short b))
-unfolding body recordBytes
-body-back k =
-    then (number 4) _ (number-back 4) (λ n. then byte _ byte-back (λ v. then byte _ byte-back (λ m. then (bytes (n - 2)) _ (bytes-back (n - 2))
-    (λ b. last (λ l p. (leb 2 n && (eqb v 1 && eqb m k)) && leb p (length l)) b (λ l p t f3 f2 f1 f0.
-    let u = both (leb 2 n && (eqb v 1 && eqb m k)) (leb p (length l)) t .0 in
-    let a = leb-true 2 n (both (leb 2 n) (eqb v 1 && eqb m k) u .0) in
-    let c = both (eqb v 1) (eqb m k) (both (leb 2 n) (eqb v 1 && eqb m k) u .1) in
-    let z : 2 + length b ≡ n = omega (arith, f3 .0) in
-    record { bytes = rw (z, eqb-true v 1 (c .0), eqb-true m k (c .1), append-nil b); fits = (f3 .1, rw z f0) })))))
-
-module _ {A : Type 0} (k : ℕ) (r : Reader A) {enc : A → List ℕ} {F : A → Type 0} where
-  -- what was made of a whole body
-  whole-back : Back r (Said enc F) → (b : List ℕ) → AllBytes b → (x : A) (q : ℕ) → whole r b ≡ got x q → Said enc F x b
-  unfolding whole
-  whole-back d b h x q e = came (r b 0) (λ x q. cond (eqb (length b) q) (got x q) broken) e (λ y m i c. passed (eqb (length b) m) (got y m) c (λ j g.
-      let z = eqb-true (length b) m j in
-      let s = d .back b h 0 y m i (omega arith) in
-      let a : y ≡ x = cc in
-      rw (← a) (rw (sub-zero m, take-all m b (omega arith)) at s)))
-
-  pub record-back : Back r (Said enc F) → Back (recordOf k r) (Said (λ x. recordBytes k (enc x)) (λ x. F x × Short (enc x)))
-  unfolding recordOf
-  record-back d = then (body k) _ (body-back k) (λ b. record {
-    onward = λ l p x q e. came (whole r b) (λ x q. got x p) e (λ y m i c. let z : p ≡ q = cc in omega arith);
-    back = λ l h p x q e j f. came (whole r b) (λ x q. got x p) e (λ y m i c.
-        let z : p ≡ q = cc in
-        let a : y ≡ x = cc in
-        let s = whole-back d b (f .0) y m i in
-        rw (← a, ← z, sub-self p, append-nil) (record { bytes = ap (recordBytes k) (s .bytes); fits = (s .fits, rw (s .bytes) (f .1)) }));
-  })
-
-pub optionally-back : {A : Type 0} (k : ℕ) (r : Reader A) {S : Option A → List ℕ → Type 0} → Back (recordOf k r) (λ x e. S (some x) e) → S none [] → Back (optionally k r) S
-unfolding optionally
-optionally-back k r d s = record {
-  onward = λ l p o q e. chosen (eqb (getD l (p + 5) 0) k) (andThen (recordOf k r l p) (λ x q. got (some x) q)) (got none p) e
-      (λ t f. came (recordOf k r l p) (λ x q. got (some x) q) f (λ x m i c. let z : m ≡ q = cc in omega (arith, d .onward l p x m i)))
-      (λ t f. let z : p ≡ q = cc in omega arith);
-  back = λ l h p o q e j. chosen (eqb (getD l (p + 5) 0) k) (andThen (recordOf k r l p) (λ x q. got (some x) q)) (got none p) e
-      (λ t f. came (recordOf k r l p) (λ x q. got (some x) q) f (λ x m i c.
-      let z : m ≡ q = cc in
-      let a : some x ≡ o = cc in
-      rw (← a, ← z) (d .back l h p x m i (omega arith))))
-      (λ t f.
-      let z : p ≡ q = cc in
-      let a : none ≡ o = cc in
-      rw (← a, ← z, sub-self p) s);
-}

@@ -1,10 +1,10 @@
 -- What a reader reads from bytes that stand somewhere in a list: the law of each reader of bytes, and of readers one after the other.
-use mathlib.Core.Path.{_≡_, refl}
+use mathlib.Core.Path.{_∙_, _≡_, refl}
 use mathlib.Core.Bool.{cond, Bool, true, false}
 use mathlib.Core.List.{List, [], _∷_, _++_, map, map-id, append-assoc, append-nil}
 use mathlib.Core.Option.{none, some}
 use Prim.Native.Nat.{ℕ, _≤_, _<_, _+_, _-_, _*_, _^_}
-use native.Mathlib.Nat.{add-zero, zero-add, add-assoc, suc-mul}
+use native.Mathlib.Nat.{add-zero, zero-add, add-assoc, mul-comm}
 use native.Mathlib.Omega.{arith}
 use lib.Dec.{leb, eqb}
 use lib.ListN.{length, getD, length-append}
@@ -12,8 +12,9 @@ use lib.Seq.{take-append-seam, drop-append-seam, drop-at, getD-append-seam, getD
 use borrow.Author.Tests.{le-leb, eq-eqb}
 use Rattle.lists.specs.Lists.{Each, flat}
 use Rattle.lists.proofs.Each.{each-imp}
+use Rattle.lists.proofs.Cut.{length-blocks}
 use Rattle.archive.specs.Bytes.{be, bytesOf, several}
-use Rattle.archive.specs.Reader.{Parsed, got, Reader, _>>=_, byte, number, bytes, table, numbers, checked, ahead, whole, body, recordOf, optionally}
+use Rattle.archive.specs.Reader.{Parsed, got, Reader, _>>=_, byte, number, bytes, table, numbers, checked, ahead, whole, body, recordOf, optionally, counted}
 use Rattle.archive.specs.Encode.{recordBytes, columnBytes, countedBytes}
 use Rattle.archive.specs.Fits.{Wide, Short}
 use Rattle.archive.proofs.Numbers.{length-bytesOf, be-at}
@@ -25,23 +26,23 @@ pub record Reads {A : Type 0} (post : List ℕ) (r : Reader A) (e : List ℕ) (x
 -- ── one after the other ──────────────────────────────────────────────────────────────────────
 
 module _ {A B : Type 0} {post : List ℕ} (r : Reader A) (f : A → Reader B) {x : A} {y : B} where
-  pub seq : {e g : List ℕ} → Reads (g ++ post) r e x → Reads post (f x) g y → Reads post (_>>=_ r f) (e ++ g) y
+  pub then-reads : {e g : List ℕ} → Reads (g ++ post) r e x → Reads post (f x) g y → Reads post (_>>=_ r f) (e ++ g) y
   unfolding _>>=_
-  seq {e} {g} d k = record {
+  then-reads {e} {g} d k = record {
     read = λ pre.
         rw (append-assoc e g post, d .read pre, length-append e g, ← add-assoc (length pre) (length e) (length g))
         (rw (append-assoc pre e (g ++ post), length-append pre e) at (k .read (pre ++ e)));
   }
 
   -- where what follows reads no more
-  pub fin : {e : List ℕ} → Reads post r e x → ((l : List ℕ) (p : ℕ) → p ≤ length l → f x l p ≡ got y p) → Reads post (_>>=_ r f) e y
+  pub end-reads : {e : List ℕ} → Reads post r e x → ((l : List ℕ) (p : ℕ) → p ≤ length l → f x l p ≡ got y p) → Reads post (_>>=_ r f) e y
   unfolding _>>=_
-  fin {e} d k = record { read = λ pre. rw (d .read pre) (k (pre ++ (e ++ post)) (length pre + length e) (simp length-append (omega arith))) }
+  end-reads {e} d k = record { read = λ pre. rw (d .read pre) (k (pre ++ (e ++ post)) (length pre + length e) (simp length-append (omega arith))) }
 
   -- where the same bytes are read again
-  pub peek : {e : List ℕ} → Reads post r e x → Reads post (f x) e y → Reads post (_>>=_ (ahead r) f) e y
+  pub again-reads : {e : List ℕ} → Reads post r e x → Reads post (f x) e y → Reads post (_>>=_ (ahead r) f) e y
   unfolding _>>=_
-  peek {e} d k = record { read = λ pre. rw (d .read pre) (k .read pre) }
+  again-reads {e} d k = record { read = λ pre. rw (d .read pre) (k .read pre) }
 
 -- ── numbers and bytes ────────────────────────────────────────────────────────────────────────
 
@@ -57,51 +58,37 @@ module _ {post : List ℕ} where
 
 -- ── tables ───────────────────────────────────────────────────────────────────────────────────
 
--- a thing's w bytes, with anything behind them, give y
-pub record Item {A B : Type 0} (w : ℕ) (enc : A → List ℕ) (g : List ℕ → B) (h : A → B) (x : A) : Type 0 where
-  pub wide : length (enc x) ≡ w
-  pub item : (post : List ℕ) → g (enc x ++ post) ≡ h x
+-- from a thing's bytes, whatever is behind them, g gives what h says of the thing
+abbrev pub Item : {A B : Type 0} → (A → List ℕ) → (List ℕ → B) → (A → B) → A → Type 0
+Item enc g h x = (post : List ℕ) → g (enc x ++ post) ≡ h x
 
-module _ {A B : Type 0} (w : ℕ) (enc : A → List ℕ) (g : List ℕ → B) (h : A → B) where
-  pub length-flat : (xs : List A) → Each (Item w enc g h) xs → length (flat enc xs) ≡ length xs * w
-  length-flat [] k = omega arith
-  length-flat (x ∷ xs) k = let i = length-flat xs (k .1) in rw (length-append, k .0 .wide, i, suc-mul) (omega arith)
-
-  several-flat : (xs : List A) (post : List ℕ) → Each (Item w enc g h) xs → several w g (length xs) (flat enc xs ++ post) ≡ map h xs
+module _ {A : Type 0} (w : ℕ) (enc : A → List ℕ) (wide : (x : A) → length (enc x) ≡ w) where
+  several-flat : {B : Type 0} (g : List ℕ → B) (h : A → B) (xs : List A) (post : List ℕ) → Each (Item enc g h) xs → several w g (length xs) (flat enc xs ++ post) ≡ map h xs
   unfolding several
-  several-flat [] post k = refl
-  several-flat (x ∷ xs) post k =
-      rw (append-assoc (enc x) (flat enc xs) post, k .0 .item (flat enc xs ++ post), drop-at (enc x) (flat enc xs ++ post) w (k .0 .wide), several-flat xs post (k .1))
+  several-flat g h [] post k = refl
+  several-flat g h (x ∷ xs) post k =
+      rw (append-assoc (enc x) (flat enc xs) post, k .0 (flat enc xs ++ post), drop-at (enc x) (flat enc xs ++ post) w (wide x), several-flat g h xs post (k .1))
 
-  pub table-reads : {post : List ℕ} (xs : List A) → Each (Item w enc g h) xs → Reads post (table w g (length xs)) (flat enc xs) (map h xs)
+  pub table-reads : {B : Type 0} {post : List ℕ} (g : List ℕ → B) (h : A → B) (xs : List A) → Each (Item enc g h) xs → Reads post (table w g (length xs)) (flat enc xs) (map h xs)
   unfolding table
-  table-reads {post} xs k = record {
+  table-reads {post = post} g h xs k = record {
     read = λ pre.
-        let i = length-flat xs k in
+        let i : length (flat enc xs) ≡ length xs * w = length-blocks enc w wide xs ∙ mul-comm w (length xs) in
         let room : length pre + length xs * w ≤ length (pre ++ (flat enc xs ++ post)) = simp length-append (omega arith) in
-        rw (le-leb (length pre + length xs * w) (length (pre ++ (flat enc xs ++ post))) room, drop-append-seam pre (flat enc xs ++ post), several-flat xs post k, i);
+        rw (le-leb (length pre + length xs * w) (length (pre ++ (flat enc xs ++ post))) room, drop-append-seam pre (flat enc xs ++ post), several-flat g h xs post k, i);
   }
 
--- things as they are
-module _ {A : Type 0} {post : List ℕ} (w : ℕ) (enc : A → List ℕ) (g : List ℕ → A) where
-  pub things-read : (n : ℕ) (xs : List A) → length xs ≡ n → Each (Item w enc g (λ x. x)) xs → Reads post (table w g n) (flat enc xs) xs
-  things-read n xs e k = rw (e, map-id xs) at (table-reads w enc g (λ x. x) {post = post} xs k)
+  -- things as they are
+  module _ {post : List ℕ} (g : List ℕ → A) (xs : List A) (k : Each (Item enc g (λ x. x)) xs) where
+    pub things-read : (n : ℕ) → length xs ≡ n → Reads post (table w g n) (flat enc xs) xs
+    things-read n e = rw (e, map-id xs) at (table-reads {post = post} g (λ x. x) xs k)
 
-number-item : (w x : ℕ) → x < 256 ^ w → Item w (bytesOf w) (λ l. be w l 0) (λ x. x) x
-number-item w x h = record { wide = length-bytesOf w x; item = λ post. be-at w x [] post h }
+    pub counted-read : (t : List A → Bool) → length xs < 256 ^ 4 → t xs ≡ true → Reads post (counted w g t) (countedBytes enc xs) xs
+    unfolding countedBytes
+    counted-read t n e = then-reads (number 4) _ (number-reads 4 (length xs) n) (end-reads (table w g (length xs)) _ (things-read (length xs) refl) (λ l p h. rw e))
 
 pub numbers-read : {post : List ℕ} (w n : ℕ) (xs : List ℕ) → length xs ≡ n → Wide w xs → Reads post (numbers w n) (columnBytes w xs) xs
-numbers-read w n xs e k = things-read w (bytesOf w) (λ l. be w l 0) n xs e (each-imp _ _ xs (number-item w) k)
-
--- a count, as many things, and a test of them: the shape of records 4 and 5
-abbrev pub counted : {A : Type 0} → ℕ → (List ℕ → A) → (List A → Bool) → Reader (List A)
-counted w g t = _>>=_ (number 4) (λ n. _>>=_ (table w g n) (λ xs. checked (t xs) xs))
-
-pub counted-read : {A : Type 0} {post : List ℕ} (w : ℕ) (enc : A → List ℕ) (g : List ℕ → A) (t : List A → Bool) (xs : List A)
-    → length xs < 256 ^ 4 → Each (Item w enc g (λ x. x)) xs → t xs ≡ true → Reads post (counted w g t) (countedBytes enc xs) xs
-unfolding countedBytes
-counted-read w enc g t xs n k e =
-    seq (number 4) _ (number-reads 4 (length xs) n) (fin (table w g (length xs)) _ (things-read w enc g (length xs) xs refl k) (λ l p h. rw e))
+numbers-read w n xs e k = things-read w (bytesOf w) (length-bytesOf w) (λ l. be w l 0) xs (each-imp _ _ xs (λ x h post. be-at w x [] post h) k) n e
 
 -- ── records ──────────────────────────────────────────────────────────────────────────────────
 
@@ -116,8 +103,8 @@ unfolding body recordBytes
 body-reads {post} k b g =
     let z : 2 + length b - 2 ≡ length b = omega arith in
     let s : Reads post (bytes (2 + length b - 2)) b b = rw z (bytes-reads b) in
-    seq (number 4) _ (number-reads 4 (2 + length b) g) (seq byte _ (byte-reads 1) (seq byte _ (byte-reads k)
-    (fin (bytes (2 + length b - 2)) _ s (λ l p h. rw (le-leb 2 (2 + length b) (omega arith), eq-eqb k k refl, le-leb p (length l) h)))))
+    then-reads (number 4) _ (number-reads 4 (2 + length b) g) (then-reads byte _ (byte-reads 1) (then-reads byte _ (byte-reads k)
+    (end-reads (bytes (2 + length b - 2)) _ s (λ l p h. rw (le-leb 2 (2 + length b) (omega arith), eq-eqb k k refl, le-leb p (length l) h)))))
 
 -- the kind is the sixth byte
 pub record-kind : (k : ℕ) (b post : List ℕ) → getD (recordBytes k b ++ post) 5 0 ≡ k
@@ -127,19 +114,19 @@ record-kind k b post = refl
 module _ {A : Type 0} {post : List ℕ} (k : ℕ) (r : Reader A) where
   pub record-reads : {b : List ℕ} {x : A} → Short b → Reads [] r b x → Reads post (recordOf k r) (recordBytes k b) x
   unfolding recordOf
-  record-reads {b} g d = fin (body k) _ (body-reads k b g) (λ l p h. rw (whole-reads r b d))
+  record-reads {b} g d = end-reads (body k) _ (body-reads k b g) (λ l p h. rw (whole-reads r b d))
 
-  pub found : {b : List ℕ} {x : A} → Short b → Reads [] r b x → Reads post (optionally k r) (recordBytes k b) (some x)
+  pub found-reads : {b : List ℕ} {x : A} → Short b → Reads [] r b x → Reads post (optionally k r) (recordBytes k b) (some x)
   unfolding optionally
-  found {b} {x} g d = record {
+  found-reads {b} {x} g d = record {
     read = λ pre.
         rw (getD-append-add pre (recordBytes k b ++ post) 5 0, record-kind k b post, eq-eqb k k refl, record-reads g d .read pre);
   }
 
-  pub none-there : (eqb (getD post 5 0) k ≡ false) → Reads post (optionally k r) [] none
+  pub none-reads : (eqb (getD post 5 0) k ≡ false) → Reads post (optionally k r) [] none
   unfolding optionally
-  none-there g = record { read = λ pre. rw (getD-append-add pre post 5 0, g, add-zero (length pre)) }
+  none-reads g = record { read = λ pre. rw (getD-append-add pre post 5 0, g, add-zero (length pre)) }
 
 -- at the end of the bytes a reader that may stop reads no more
-pub stops : {A : Type 0} (x : A) (more : Parsed A) (pre : List ℕ) → cond (leb (length (pre ++ [])) (length pre)) (got x (length pre)) more ≡ got x (length pre + 0)
-stops x more pre = rw (append-nil pre, le-leb (length pre) (length pre) (omega arith), add-zero (length pre))
+pub stops-at-end : {A : Type 0} (x : A) (more : Parsed A) (pre : List ℕ) → cond (leb (length (pre ++ [])) (length pre)) (got x (length pre)) more ≡ got x (length pre + 0)
+stops-at-end x more pre = rw (append-nil pre, le-leb (length pre) (length pre) (omega arith), add-zero (length pre))

@@ -14,6 +14,7 @@ use mir.Syntax.{w64}
 use mir.Val.{SFits}
 use borrow.Author.Tests.{lt-ltb, le-ltb, ltb-true, ltb-false}
 use Rattle.lists.specs.Lists.{Each}
+use Rattle.columns.specs.Limits.{end64}
 use Rattle.archive.specs.Bytes.{be, bytesOf, signedOf, unsignedOf}
 use Rattle.archive.specs.Fits.{Wide}
 
@@ -56,12 +57,16 @@ be-at w n pre post h =
 
 -- ── from bytes to their number and back ──────────────────────────────────────────────────────
 
-pub getD-small : (l : List ℕ) (i : ℕ) → Each (λ b. b < 256) l → getD l i 0 < 256
+-- each is a byte
+abbrev pub AllBytes : List ℕ → Type 0
+AllBytes l = Each (λ b. b < 256) l
+
+pub getD-small : (l : List ℕ) (i : ℕ) → AllBytes l → getD l i 0 < 256
 getD-small [] i h = omega arith
 getD-small (b ∷ l) zero h = h .0
 getD-small (b ∷ l) (suc i) h = getD-small l i (h .1)
 
-module _ (l : List ℕ) (h : Each (λ b. b < 256) l) (p : ℕ) where
+module _ (l : List ℕ) (h : AllBytes l) (p : ℕ) where
   pub be-small : (w : ℕ) → be w l p < 256 ^ w
   unfolding be
   be-small zero = omega arith
@@ -80,11 +85,11 @@ module _ (l : List ℕ) (h : Each (λ b. b < 256) l) (p : ℕ) where
 
 pub signed-back : (d : ℤ) → SFits w64 d → signedOf (unsignedOf d) ≡ d
 unfolding signedOf unsignedOf
-signed-back (pos n) s = rw (lt-ltb n 9223372036854775808 (s .sfits))
+signed-back (pos n) s = rw (lt-ltb n (2 ^ 63) (s .sfits))
 signed-back (negsuc n) s =
     let h = s .sfits in
-    let z : 18446744073709551615 - (18446744073709551615 - n) ≡ n = omega arith in
-    rw (le-ltb (18446744073709551615 - n) 9223372036854775808 (omega arith), z)
+    let z : end64 - 1 - (end64 - 1 - n) ≡ n = omega arith in
+    rw (le-ltb (end64 - 1 - n) (2 ^ 63) (omega arith), z)
 
 pub unsigned-fits : (d : ℤ) → SFits w64 d → unsignedOf d < 256 ^ 8
 unfolding unsignedOf
@@ -101,11 +106,11 @@ unsigned-all (d ∷ ds) h = (unsigned-fits d (h .0), unsigned-all ds (h .1))
 
 pub unsigned-back : (n : ℕ) → n < 256 ^ 8 → (unsignedOf (signedOf n) ≡ n) × SFits w64 (signedOf n)
 unfolding signedOf unsignedOf
-unsigned-back n h = go (ltb n 9223372036854775808) refl
+unsigned-back n h = go (ltb n (2 ^ 63)) refl
   where
-    go : (b : Bool) → ltb n 9223372036854775808 ≡ b → (unsignedOf (signedOf n) ≡ n) × SFits w64 (signedOf n)
-    go true e = rw e (refl, record { sfits = ltb-true n 9223372036854775808 e })
-    go false e = let k = ltb-false n 9223372036854775808 e in rw e (omega arith, record { sfits = omega arith })
+    go : (b : Bool) → ltb n (2 ^ 63) ≡ b → (unsignedOf (signedOf n) ≡ n) × SFits w64 (signedOf n)
+    go true e = rw e (refl, record { sfits = ltb-true n (2 ^ 63) e })
+    go false e = let k = ltb-false n (2 ^ 63) e in rw e (omega arith, record { sfits = omega arith })
 
 pub unsigned-all-back : (xs : List ℕ) → Wide 8 xs → (map unsignedOf (map signedOf xs) ≡ xs) × Each (λ d. SFits w64 d) (map signedOf xs)
 unsigned-all-back [] h = (refl, tt)

@@ -11,7 +11,7 @@ use lib.ListN.{length, getD, length-append, length-map}
 use borrow.Author.Tests.{lt-leb}
 use Rattle.lists.specs.Lists.{Each, flat, all}
 use Rattle.lists.specs.Order.{rising, notFalling}
-use Rattle.lists.proofs.Each.{each-imp}
+use Rattle.lists.proofs.Each.{each-imp, each-all}
 use Rattle.columns.specs.Limits.{kinds}
 use Rattle.columns.specs.EdgeSet.{EdgeSet}
 use Rattle.columns.specs.Building.{Depth}
@@ -25,7 +25,7 @@ use Rattle.archive.specs.Parse.{Head, depthFlagOk, headEnd, edgeSet, row
 use Rattle.archive.specs.Encode.{recordBytes, depthBytes, headBytes, setBytes, edgesBytes, flagOf, rowBytes, unresolvedBytes, rootBytes, rangeBytes, linksBytes, coverBytes, countedBytes, coverRecord, fileBytes, encode}
 use Rattle.archive.specs.Fits.{DepthFits, SetFits, UnresolvedFits, RootFits, RangeFits, LinksFit, CoverFits, CoverFitsIn, FileFits, Short}
 use Rattle.archive.proofs.Numbers.{length-bytesOf, be-at, signed-all, unsigned-all}
-use Rattle.archive.proofs.Forward.{Reads, seq, fin, peek, number-reads, byte-reads, bytes-reads, Item, table-reads, things-read, numbers-read, counted-read, stops, record-kind, record-reads, found, none-there}
+use Rattle.archive.proofs.Forward.{Reads, then-reads, end-reads, again-reads, number-reads, byte-reads, bytes-reads, Item, table-reads, things-read, numbers-read, counted-read, stops-at-end, record-kind, record-reads, found-reads, none-reads}
 
 -- ── 1 file ───────────────────────────────────────────────────────────────────────────────────
 
@@ -37,15 +37,15 @@ depth-reads : (first rows group : ℕ) (subject : List ℕ) (d : Option Depth) �
     → Reads [] (headEnd first rows group subject) (depthBytes d) (record { first = first; rows = rows; group = group; subject = subject; depth = d })
 unfolding depthBytes headEnd depthFlagOk
 depth-reads a b c s none g =
-    seq byte _ (byte-reads 0) (seq (number 8) _ (number-reads 8 0 (omega arith)) (fin (number 8) _ (number-reads 8 0 (omega arith)) (λ l p k. refl)))
+    then-reads byte _ (byte-reads 0) (then-reads (number 8) _ (number-reads 8 0 (omega arith)) (end-reads (number 8) _ (number-reads 8 0 (omega arith)) (λ l p k. refl)))
 depth-reads a b c s (some d) g =
-    seq byte _ (byte-reads 1) (seq (number 8) _ (number-reads 8 (d .least) (g .0)) (fin (number 8) _ (number-reads 8 (d .greatest) (g .1)) (λ l p k. refl)))
+    then-reads byte _ (byte-reads 1) (then-reads (number 8) _ (number-reads 8 (d .least) (g .0)) (end-reads (number 8) _ (number-reads 8 (d .greatest) (g .1)) (λ l p k. refl)))
 
 head-reads : (f : File) → FileFits f → Reads [] Parse.head (headBytes f) (headOf f)
 unfolding Parse.head headBytes
 head-reads f k =
-    seq (number 8) _ (number-reads 8 (f .first) (k .first)) (seq (number 4) _ (number-reads 4 (length (f .rows)) (k .rowCount)) (seq byte _ (byte-reads (f .group))
-    (seq byte _ (byte-reads (length (f .subject))) (seq (bytes (length (f .subject))) _ (bytes-reads (f .subject))
+    then-reads (number 8) _ (number-reads 8 (f .first) (k .first)) (then-reads (number 4) _ (number-reads 4 (length (f .rows)) (k .rowCount)) (then-reads byte _ (byte-reads (f .group))
+    (then-reads byte _ (byte-reads (length (f .subject))) (then-reads (bytes (length (f .subject))) _ (bytes-reads (f .subject))
     (depth-reads (f .first) (length (f .rows)) (f .group) (f .subject) (f .depth) (k .depth))))))
 
 depth-length : (d : Option Depth) → length (depthBytes d) ≡ 17
@@ -62,33 +62,35 @@ head-short f k = simp (length-append, length-bytesOf, depth-length) (omega (arit
 set-reads : {post : List ℕ} (rows : ℕ) (s : EdgeSet) → SetFits rows s → Reads post (edgeSet rows) (setBytes s) s
 unfolding edgeSet setBytes
 set-reads rows s f =
-    seq (number 4) _ (number-reads 4 (s .count) (f .count)) (seq (numbers 8 (kinds * rows + 1)) _ (numbers-read 8 (kinds * rows + 1) (s .offsets) (f .slots) (f .offsets))
-    (fin (numbers 8 (s .count)) _ (numbers-read 8 (s .count) (map unsignedOf (s .deltas)) (length-map (s .deltas) unsignedOf ∙ sym (f .counted)) (unsigned-all (s .deltas) (f .deltas)))
+    then-reads (number 4) _ (number-reads 4 (s .count) (f .count)) (then-reads (numbers 8 (kinds * rows + 1)) _ (numbers-read 8 (kinds * rows + 1) (s .offsets) (f .slots) (f .offsets))
+    (end-reads (numbers 8 (s .count)) _ (numbers-read 8 (s .count) (map unsignedOf (s .deltas)) (length-map (s .deltas) unsignedOf ∙ sym (f .counted)) (unsigned-all (s .deltas) (f .deltas)))
     (λ l p k. rw (signed-all (s .deltas) (f .deltas)))))
 
 sets-read : (f : File) → FileFits f → Reads [] (Parse.sets (length (f .rows))) (edgesBytes f) (record { forward = f .forward; reverse = f .reverse; inbound = f .inbound })
 unfolding Parse.sets edgesBytes
 sets-read f k =
     let n = length (f .rows) in
-    seq (edgeSet n) _ (set-reads n (f .forward) (k .forward)) (seq (edgeSet n) _ (set-reads n (f .reverse) (k .reverse))
-    (fin (edgeSet n) _ (set-reads n (f .inbound) (k .inbound)) (λ l p h. refl)))
+    then-reads (edgeSet n) _ (set-reads n (f .forward) (k .forward)) (then-reads (edgeSet n) _ (set-reads n (f .reverse) (k .reverse))
+    (end-reads (edgeSet n) _ (set-reads n (f .inbound) (k .inbound)) (λ l p h. refl)))
 
 -- ── 3 rows ───────────────────────────────────────────────────────────────────────────────────
 
-flag-back : (b : Bool) → eqb (flagOf b) 1 ≡ b
-flag-back true = refl
-flag-back false = refl
+-- a flag that was written is read back
+eqb-flagOf : (b : Bool) → eqb (flagOf b) 1 ≡ b
+eqb-flagOf true = refl
+eqb-flagOf false = refl
 
-row-item : (r : Row) → r .tag < 256 ^ 8 → Item 9 rowBytes rowAt (λ r. r) r
+row-wide : (r : Row) → length (rowBytes r) ≡ 9
+unfolding rowBytes bytesOf
+row-wide r = refl
+
+row-item : (r : Row) → r .tag < 256 ^ 8 → Item rowBytes rowAt (λ r. r) r
 unfolding rowBytes rowAt
-row-item r h = record {
-  wide = rw (length-bytesOf 8 (r .tag));
-  item = λ post. rw (flag-back (r .erased), be-at 8 (r .tag) (flagOf (r .erased) ∷ []) post h);
-}
+row-item r h post = rw (eqb-flagOf (r .erased), be-at 8 (r .tag) (flagOf (r .erased) ∷ []) post h)
 
-flag-item : (r : Row) → r .tag < 256 ^ 8 → Item 9 rowBytes (λ l. getD l 0 0) (λ r. flagOf (r .erased)) r
+flag-item : (r : Row) → Item rowBytes (λ l. getD l 0 0) (λ r. flagOf (r .erased)) r
 unfolding rowBytes
-flag-item r h = record { wide = rw (length-bytesOf 8 (r .tag)); item = λ post. refl }
+flag-item r post = refl
 
 flags-pass : (rs : List Row) → all (λ flag. leb flag 1) (map (λ r. flagOf (r .erased)) rs) ≡ true
 unfolding all
@@ -102,68 +104,72 @@ flags-pass (r ∷ rs) = rw (pass (r .erased), flags-pass rs)
 rows-read : (rs : List Row) → Each (λ r. r .tag < 256 ^ 8) rs → Reads [] (Parse.rows (length rs)) (flat rowBytes rs) rs
 unfolding Parse.rows
 rows-read rs k =
-    peek (table 9 (λ l. getD l 0 0) (length rs)) _ (table-reads 9 rowBytes (λ l. getD l 0 0) (λ r. flagOf (r .erased)) rs (each-imp _ _ rs flag-item k))
-    (fin (table 9 rowAt (length rs)) _ (things-read 9 rowBytes rowAt (length rs) rs refl (each-imp _ _ rs row-item k)) (λ l p h. rw (flags-pass rs)))
+    again-reads (table 9 (λ l. getD l 0 0) (length rs)) _ (table-reads 9 rowBytes row-wide (λ l. getD l 0 0) (λ r. flagOf (r .erased)) rs (each-all _ flag-item rs))
+    (end-reads (table 9 rowAt (length rs)) _ (things-read 9 rowBytes row-wide rowAt rs (each-imp _ _ rs row-item k) (length rs) refl) (λ l p h. rw (flags-pass rs)))
 
 -- ── 4 unresolved, 5 roots ────────────────────────────────────────────────────────────────────
 
-unresolved-item : (u : Unresolved) → UnresolvedFits u → Item 13 unresolvedBytes unresolvedAt (λ u. u) u
-unfolding unresolvedBytes unresolvedAt bytesOf
-unresolved-item u h = record {
-  wide = refl;
-  item = λ post. rw (be-at 8 (u .child) [] ((u .kind ∷ []) ++ (bytesOf 4 (u .handle) ++ post)) (h .0), be-at 4 (u .handle) (bytesOf 8 (u .child) ++ (u .kind ∷ [])) post (h .2));
-}
+unresolved-wide : (u : Unresolved) → length (unresolvedBytes u) ≡ 13
+unfolding unresolvedBytes bytesOf
+unresolved-wide u = refl
 
-root-item : (r : Root) → RootFits r → Item 16 rootBytes rootAt (λ r. r) r
-unfolding rootBytes rootAt bytesOf
-root-item r h = record {
-  wide = refl;
-  item = λ post. rw (be-at 8 (r .row) [] (bytesOf 8 (r .handle) ++ post) (h .0), be-at 8 (r .handle) (bytesOf 8 (r .row)) post (h .1));
-}
+unresolved-item : (u : Unresolved) → UnresolvedFits u → Item unresolvedBytes unresolvedAt (λ u. u) u
+unfolding unresolvedBytes unresolvedAt bytesOf
+unresolved-item u h post =
+    rw (be-at 8 (u .child) [] ((u .kind ∷ []) ++ (bytesOf 4 (u .handle) ++ post)) (h .0), be-at 4 (u .handle) (bytesOf 8 (u .child) ++ (u .kind ∷ [])) post (h .2))
 
 unresolved-read : (f : File) → FileFits f → Reads [] Parse.unresolved (countedBytes unresolvedBytes (f .unresolved)) (f .unresolved)
 unfolding Parse.unresolved
 unresolved-read f k =
-    counted-read 13 unresolvedBytes unresolvedAt (λ us. notFalling (map (λ u. u .child) us)) (f .unresolved) (k .unresolvedCount) (each-imp _ _ (f .unresolved) unresolved-item (k .unresolved))
-    (k .unresolvedOrder)
+    counted-read 13 unresolvedBytes unresolved-wide unresolvedAt (f .unresolved) (each-imp _ _ (f .unresolved) unresolved-item (k .unresolved))
+    (λ us. notFalling (map (λ u. u .child) us)) (k .unresolvedCount) (k .unresolvedOrder)
+
+root-wide : (r : Root) → length (rootBytes r) ≡ 16
+unfolding rootBytes bytesOf
+root-wide r = refl
+
+root-item : (r : Root) → RootFits r → Item rootBytes rootAt (λ r. r) r
+unfolding rootBytes rootAt bytesOf
+root-item r h post = rw (be-at 8 (r .row) [] (bytesOf 8 (r .handle) ++ post) (h .0), be-at 8 (r .handle) (bytesOf 8 (r .row)) post (h .1))
 
 roots-read : (f : File) → FileFits f → Reads [] Parse.roots (countedBytes rootBytes (f .roots)) (f .roots)
 unfolding Parse.roots
 roots-read f k =
-    counted-read 16 rootBytes rootAt (λ rs. rising (map (λ r. r .row) rs)) (f .roots) (k .rootCount) (each-imp _ _ (f .roots) root-item (k .roots)) (k .rootOrder)
+    counted-read 16 rootBytes root-wide rootAt (f .roots) (each-imp _ _ (f .roots) root-item (k .roots)) (λ rs. rising (map (λ r. r .row) rs)) (k .rootCount) (k .rootOrder)
 
 -- ── 6 cover ──────────────────────────────────────────────────────────────────────────────────
 
-range-item : (r : Range) → RangeFits r → Item 12 rangeBytes rangeAt (λ r. r) r
+range-wide : (r : Range) → length (rangeBytes r) ≡ 12
+unfolding rangeBytes bytesOf
+range-wide r = refl
+
+range-item : (r : Range) → RangeFits r → Item rangeBytes rangeAt (λ r. r) r
 unfolding rangeBytes rangeAt bytesOf
-range-item r h = record {
-  wide = refl;
-  item = λ post. rw (
-    be-at 4 (r .chain) [] (bytesOf 4 (r .least) ++ (bytesOf 4 (r .greatest) ++ post)) (h .0),
-    be-at 4 (r .least) (bytesOf 4 (r .chain)) (bytesOf 4 (r .greatest) ++ post) (h .1),
-    be-at 4 (r .greatest) (bytesOf 4 (r .chain) ++ bytesOf 4 (r .least)) post (h .2),
-  );
-}
+range-item r h post = rw (
+  be-at 4 (r .chain) [] (bytesOf 4 (r .least) ++ (bytesOf 4 (r .greatest) ++ post)) (h .0),
+  be-at 4 (r .least) (bytesOf 4 (r .chain)) (bytesOf 4 (r .greatest) ++ post) (h .1),
+  be-at 4 (r .greatest) (bytesOf 4 (r .chain) ++ bytesOf 4 (r .least)) post (h .2),
+)
 
 links-read : {post : List ℕ} (c : LinkColumns) → LinksFit c → Reads post Parse.links (linksBytes c) c
 unfolding Parse.links linksBytes
 links-read c k =
     let n = length (c .fromChains) in
-    seq (number 4) _ (number-reads 4 n (k .count)) (seq (numbers 4 n) _ (numbers-read 4 n (c .fromChains) refl (k .fromChains))
-    (seq (numbers 4 n) _ (numbers-read 4 n (c .fromSeqs) (k .second) (k .fromSeqs)) (seq (numbers 4 n) _ (numbers-read 4 n (c .toChains) (k .third) (k .toChains))
-    (fin (numbers 4 n) _ (numbers-read 4 n (c .toSeqs) (k .fourth) (k .toSeqs)) (λ l p h. refl)))))
+    then-reads (number 4) _ (number-reads 4 n (k .count)) (then-reads (numbers 4 n) _ (numbers-read 4 n (c .fromChains) refl (k .fromChains))
+    (then-reads (numbers 4 n) _ (numbers-read 4 n (c .fromSeqs) (k .second) (k .fromSeqs)) (then-reads (numbers 4 n) _ (numbers-read 4 n (c .toChains) (k .third) (k .toChains))
+    (end-reads (numbers 4 n) _ (numbers-read 4 n (c .toSeqs) (k .fourth) (k .toSeqs)) (λ l p h. refl)))))
 
 cover-reads : (rows : ℕ) (c : CoverColumns) → CoverFits rows c → Reads [] (Parse.cover rows) (coverBytes c) c
 unfolding Parse.cover coverBytes
 cover-reads rows c k =
     let m = length (c .ranges) in
-    seq (numbers 4 rows) _ (numbers-read 4 rows (c .labels .chains) (k .chainCount) (k .chains)) (seq (numbers 4 rows) _ (numbers-read 4 rows (c .labels .seqs) (k .seqCount) (k .seqs))
-    (seq (number 4) _ (number-reads 4 m (k .rangeCount)) (seq (table 12 rangeAt m) _ (things-read 12 rangeBytes rangeAt m (c .ranges) refl (each-imp _ _ (c .ranges) range-item (k .ranges)))
-    (fin Parse.links _ (links-read (c .links) (k .links)) (λ l p h. refl)))))
+    then-reads (numbers 4 rows) _ (numbers-read 4 rows (c .labels .chains) (k .chainCount) (k .chains)) (then-reads (numbers 4 rows) _ (numbers-read 4 rows (c .labels .seqs) (k .seqCount) (k .seqs))
+    (then-reads (number 4) _ (number-reads 4 m (k .rangeCount)) (then-reads (table 12 rangeAt m) _ (things-read 12 rangeBytes range-wide rangeAt (c .ranges) (each-imp _ _ (c .ranges) range-item (k .ranges)) m refl)
+    (end-reads Parse.links _ (links-read (c .links) (k .links)) (λ l p h. refl)))))
 
-cover-found : {post : List ℕ} (rows : ℕ) (o : Option CoverColumns) → CoverFitsIn rows o → eqb (getD post 5 0) 6 ≡ false → Reads post (optionally 6 (Parse.cover rows)) (coverRecord o) o
-cover-found rows none k g = none-there 6 (Parse.cover rows) g
-cover-found rows (some c) k g = found 6 (Parse.cover rows) (k .short) (cover-reads rows c k)
+cover-record-reads : {post : List ℕ} (rows : ℕ) (o : Option CoverColumns) → CoverFitsIn rows o → eqb (getD post 5 0) 6 ≡ false → Reads post (optionally 6 (Parse.cover rows)) (coverRecord o) o
+cover-record-reads rows none k g = none-reads 6 (Parse.cover rows) g
+cover-record-reads rows (some c) k g = found-reads 6 (Parse.cover rows) (k .short) (cover-reads rows c k)
 
 -- ── files ────────────────────────────────────────────────────────────────────────────────────
 
@@ -172,12 +178,12 @@ file-reads : {post : List ℕ} (f : File) → FileFits f → eqb (getD post 5 0)
 unfolding Parse.file fileBytes
 file-reads f k g =
     let n = length (f .rows) in
-    seq (recordOf 1 Parse.head) _ (record-reads 1 Parse.head (head-short f k) (head-reads f k))
-    (seq (recordOf 2 (Parse.sets n)) _ (record-reads 2 (Parse.sets n) (k .edgesShort) (sets-read f k))
-    (seq (recordOf 3 (Parse.rows n)) _ (record-reads 3 (Parse.rows n) (k .rowsShort) (rows-read (f .rows) (k .tags)))
-    (seq (recordOf 4 Parse.unresolved) _ (record-reads 4 Parse.unresolved (k .unresolvedShort) (unresolved-read f k))
-    (seq (recordOf 5 Parse.roots) _ (record-reads 5 Parse.roots (k .rootsShort) (roots-read f k))
-    (fin (optionally 6 (Parse.cover n)) _ (cover-found n (f .cover) (k .cover) g) (λ l p h. refl))))))
+    then-reads (recordOf 1 Parse.head) _ (record-reads 1 Parse.head (head-short f k) (head-reads f k))
+    (then-reads (recordOf 2 (Parse.sets n)) _ (record-reads 2 (Parse.sets n) (k .edgesShort) (sets-read f k))
+    (then-reads (recordOf 3 (Parse.rows n)) _ (record-reads 3 (Parse.rows n) (k .rowsShort) (rows-read (f .rows) (k .tags)))
+    (then-reads (recordOf 4 Parse.unresolved) _ (record-reads 4 Parse.unresolved (k .unresolvedShort) (unresolved-read f k))
+    (then-reads (recordOf 5 Parse.roots) _ (record-reads 5 Parse.roots (k .rootsShort) (roots-read f k))
+    (end-reads (optionally 6 (Parse.cover n)) _ (cover-record-reads n (f .cover) (k .cover) g) (λ l p h. refl))))))
 
 file-long : (f : File) → 0 < length (fileBytes f)
 unfolding fileBytes recordBytes
@@ -191,8 +197,8 @@ no-cover-first (f ∷ fs) = rw (append-assoc, record-kind 1)
 
 files-read : (fs : List File) (n : ℕ) (pre : List ℕ) → length fs ≤ n → Each FileFits fs → files n (pre ++ encode fs) (length pre) ≡ got fs (length pre + length (encode fs))
 unfolding encode files _>>=_
-files-read [] zero pre h k = stops [] broken pre
-files-read [] (suc n) pre h k = stops [] _ pre
+files-read [] zero pre h k = stops-at-end [] broken pre
+files-read [] (suc n) pre h k = stops-at-end [] _ pre
 files-read (f ∷ fs) zero pre h k = absurd (omega arith)
 files-read (f ∷ fs) (suc n) pre h k =
     let q = file-long f in
@@ -200,12 +206,12 @@ files-read (f ∷ fs) (suc n) pre h k =
     let i = rw (append-assoc pre (fileBytes f) (encode fs), length-append pre (fileBytes f)) at (files-read fs n (pre ++ fileBytes f) (omega arith) (k .1)) in
     rw (lt-leb (length (pre ++ (fileBytes f ++ encode fs))) (length pre) c, file-reads f (k .0) (no-cover-first fs) .read pre, i, length-append (fileBytes f) (encode fs), add-assoc)
 
-enough : (fs : List File) → length fs ≤ length (encode fs)
+files-no-more-than-bytes : (fs : List File) → length fs ≤ length (encode fs)
 unfolding encode
-enough [] = omega arith
-enough (f ∷ fs) = let h = enough fs in let q = file-long f in simp length-append (omega arith)
+files-no-more-than-bytes [] = omega arith
+files-no-more-than-bytes (f ∷ fs) = let h = files-no-more-than-bytes fs in let q = file-long f in simp length-append (omega arith)
 
 -- parsing the bytes of files that fit their fields gives those files
 pub parse-encode : (fs : List File) → Each FileFits fs → parse (encode fs) ≡ got fs (length (encode fs))
 unfolding parse
-parse-encode fs k = files-read fs (length (encode fs)) [] (enough fs) k ∙ rw (zero-add (length (encode fs)))
+parse-encode fs k = files-read fs (length (encode fs)) [] (files-no-more-than-bytes fs) k ∙ rw (zero-add (length (encode fs)))

@@ -75,6 +75,7 @@ pub record FileFits (f : File) : Type 0 where
   pub rowCount : length (f .rows) < 256 ^ 4
   pub group : f .group < 256
   pub subject : length (f .subject) < 256
+  pub subjectBytes : Wide 1 (f .subject)
   pub depth : DepthFits (f .depth)
   pub forward : SetFits (length (f .rows)) (f .forward)
   pub reverse : SetFits (length (f .rows)) (f .reverse)

@@ -14,7 +14,7 @@ use Rattle.columns.specs.Building.{Depth}
 use Rattle.cover.specs.Chains.{Range}
 use Rattle.cover.specs.Cover.{LinkColumns}
 use Rattle.archive.specs.Bytes.{be, signedOf, several}
-use Rattle.archive.specs.Reader.{Parsed, broken, got, Reader, andThen, _>>=_, return, fail, byte, number, bytes, table, numbers, checked, ahead, whole, within, unlessEnd, recordOf, optionally}
+use Rattle.archive.specs.Reader.{Parsed, broken, got, Reader, andThen, _>>=_, return, fail, byte, number, bytes, table, numbers, checked, counted, ahead, whole, within, unlessEnd, recordOf, optionally}
 use Rattle.archive.specs.File.{Row, Unresolved, Root, CoverColumns, File}
 
 -- ── 1 file ───────────────────────────────────────────────────────────────────────────────────
@@ -92,10 +92,7 @@ unresolvedAt l = record { child = be 8 l 0; kind = getD l 8 0; handle = be 4 l 9
 
 -- children do not fall
 unfoldable pub unresolved : Reader (List Unresolved)
-unresolved = do
-  n ← number 4
-  us ← table 13 unresolvedAt n
-  checked (notFalling (map (λ u. u .child) us)) us
+unresolved = counted 13 unresolvedAt (λ us. notFalling (map (λ u. u .child) us))
 
 -- ── 5 roots ──────────────────────────────────────────────────────────────────────────────────
 
@@ -104,10 +101,7 @@ rootAt l = record { row = be 8 l 0; handle = be 8 l 8 }
 
 -- rows rise
 unfoldable pub roots : Reader (List Root)
-roots = do
-  n ← number 4
-  rs ← table 16 rootAt n
-  checked (rising (map (λ r. r .row) rs)) rs
+roots = counted 16 rootAt (λ rs. rising (map (λ r. r .row) rs))
 
 -- ── 6 cover ──────────────────────────────────────────────────────────────────────────────────
 

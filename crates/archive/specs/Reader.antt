@@ -56,6 +56,13 @@ ahead r = λ l p. andThen (r l p) (λ x q. got x p)
 abbrev pub checked : {A : Type 0} → Bool → A → Reader A
 checked t x = λ l p. cond t (got x p) broken
 
+-- a count, as many things of w bytes each, and a test of them
+abbrev pub counted : {A : Type 0} → ℕ → (List ℕ → A) → (List A → Bool) → Reader (List A)
+counted w f test = do
+  n ← number 4
+  xs ← table w f n
+  checked (test xs) xs
+
 -- x, if the test holds and nothing was read past the end
 abbrev pub unbroken : {A : Type 0} → Bool → A → Reader A
 unbroken t x = λ l p. cond (t && leb p (length l)) (got x p) broken

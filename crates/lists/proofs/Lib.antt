@@ -4,3 +4,4 @@ pub mod Once
 pub mod Flat
 pub mod Cut
 pub mod Rising
+pub mod Pairs

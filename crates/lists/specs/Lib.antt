@@ -1,3 +1,4 @@
 pub mod Lists
 pub mod Order
 pub mod Computes
+pub mod Text

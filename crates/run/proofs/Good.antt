@@ -61,6 +61,7 @@ linkNumber (some ls) = length ls
 
 pub record Good (S : Summary) : Type 0 where
   pub subject : subjectOk (S .subject) ≡ true
+  pub subjectBytes : Each (λ b. b < 256) (S .subject)
   pub some : 0 < length (S .groups)
   pub groupCount : length (S .groups) ≤ maxGroups
   pub rowCount : length (S .rows) ≤ maxRecords

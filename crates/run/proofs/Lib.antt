@@ -5,3 +5,6 @@ pub mod Survivors
 pub mod Table
 pub mod New
 pub mod Good
+pub mod SameSummary
+pub mod Tabled
+pub mod Worked

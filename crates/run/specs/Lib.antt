@@ -15,3 +15,4 @@ pub mod Accepted
 pub mod Trace
 pub mod Computes
 pub mod Listing
+pub mod Worked

@@ -7,6 +7,7 @@ use lib.Dec.{ltb}
 use lib.IntN.{ℤ, pos, negsuc}
 use lib.ListN.{length}
 use Rattle.lists.specs.Lists.{flat, upFrom}
+use Rattle.lists.specs.Text.{text}
 use Rattle.columns.specs.Limits.{maxListed}
 use Rattle.columns.specs.Refusal
 use Rattle.columns.specs.Refusal.{Verdict, numberOf}
@@ -39,82 +40,42 @@ signed (negsuc n) = 45 ∷ decimal (suc n)
 unfoldable pub line : List ℕ → List (List ℕ) → List ℕ
 line word words = word ++ (flat (λ w. 32 ∷ w) words ++ (10 ∷ []))
 
--- map
-abbrev pub wordMap : List ℕ
-wordMap = 109 ∷ 97 ∷ 112 ∷ []
-
--- file
-abbrev pub wordFile : List ℕ
-wordFile = 102 ∷ 105 ∷ 108 ∷ 101 ∷ []
-
--- offsets
-abbrev pub wordOffsets : List ℕ
-wordOffsets = 111 ∷ 102 ∷ 102 ∷ 115 ∷ 101 ∷ 116 ∷ 115 ∷ []
-
--- deltas
-abbrev pub wordDeltas : List ℕ
-wordDeltas = 100 ∷ 101 ∷ 108 ∷ 116 ∷ 97 ∷ 115 ∷ []
-
--- forward
-abbrev pub wordForward : List ℕ
-wordForward = 102 ∷ 111 ∷ 114 ∷ 119 ∷ 97 ∷ 114 ∷ 100 ∷ []
-
--- reverse
-abbrev pub wordReverse : List ℕ
-wordReverse = 114 ∷ 101 ∷ 118 ∷ 101 ∷ 114 ∷ 115 ∷ 101 ∷ []
-
--- inbound
-abbrev pub wordInbound : List ℕ
-wordInbound = 105 ∷ 110 ∷ 98 ∷ 111 ∷ 117 ∷ 110 ∷ 100 ∷ []
-
--- reparented
-abbrev pub wordReparented : List ℕ
-wordReparented = 114 ∷ 101 ∷ 112 ∷ 97 ∷ 114 ∷ 101 ∷ 110 ∷ 116 ∷ 101 ∷ 100 ∷ []
-
--- refused
-abbrev pub wordRefused : List ℕ
-wordRefused = 114 ∷ 101 ∷ 102 ∷ 117 ∷ 115 ∷ 101 ∷ 100 ∷ []
-
--- -
-abbrev pub dash : List ℕ
-dash = 45 ∷ []
-
 -- ── the lines ────────────────────────────────────────────────────────────────────────────────
 
 -- a refusal is one line
 unfoldable pub refusedLine : Refusal → List ℕ
-refusedLine r = line wordRefused (decimal (numberOf r) ∷ [])
+refusedLine r = line (text "refused") (decimal (numberOf r) ∷ [])
 
 abbrev pub newWord : Option ℕ → List ℕ
-newWord none = dash
+newWord none = text "-"
 newWord (some n) = decimal n
 
 -- the old number, then the new one or a dash
 unfoldable pub mapLine : Archive → ℕ → List ℕ
-mapLine A p = line wordMap (decimal p ∷ newWord (newNumber A p) ∷ [])
+mapLine A p = line (text "map") (decimal p ∷ newWord (newNumber A p) ∷ [])
 
 -- a set of the whole file
 unfoldable pub setLines : List ℕ → EdgeSet → List ℕ
-setLines name s = line wordOffsets (name ∷ map decimal (s .offsets)) ++ line wordDeltas (name ∷ map signed (s .deltas))
+setLines name s = line (text "offsets") (name ∷ map decimal (s .offsets)) ++ line (text "deltas") (name ∷ map signed (s .deltas))
 
 -- group, first number, rows; then its sets
 unfoldable pub fileLines : File → List ℕ
 fileLines f =
-    line wordFile (decimal (f .group) ∷ decimal (f .first) ∷ decimal (length (f .rows)) ∷ [])
-    ++ (setLines wordForward (f .forward) ++ (setLines wordReverse (f .reverse) ++ setLines wordInbound (f .inbound)))
+    line (text "file") (decimal (f .group) ∷ decimal (f .first) ∷ decimal (length (f .rows)) ∷ [])
+    ++ (setLines (text "forward") (f .forward) ++ (setLines (text "reverse") (f .reverse) ++ setLines (text "inbound") (f .inbound)))
 
 -- a map line for each event, the output files, and at the end how many survivors were reparented
 unfoldable pub listingText : Archive → List File → List ℕ
 listingText A fs =
-    flat (mapLine A) (upFrom (A .start) (length (A .events))) ++ (flat fileLines fs ++ line wordReparented (decimal (reparented A) ∷ []))
+    flat (mapLine A) (upFrom (A .start) (length (A .events))) ++ (flat fileLines fs ++ line (text "reparented") (decimal (reparented A) ∷ []))
 
 -- ── from bytes to bytes ──────────────────────────────────────────────────────────────────────
 
 -- what is made of an accepted call, and what of a refused one
 abbrev pub afterwards : (Refusal → List ℕ) → Answer → List ℕ → List ℕ
-afterwards onRefusal (refused r) text = onRefusal r
-afterwards onRefusal done text = text
-afterwards onRefusal (wrote w) text = text
+afterwards onRefusal (refused r) more = onRefusal r
+afterwards onRefusal done more = more
+afterwards onRefusal (wrote w) more = more
 
 abbrev pub writing : (Refusal → List ℕ) → (List ℕ → List ℕ) → Verdict (List ℕ) → List ℕ
 writing onRefusal onWrite (Refusal.refused r) = onRefusal r
@@ -138,8 +99,8 @@ cleaning onRefusal onWrite b =
 unfoldable pub listing : List ℕ → List ℕ
 unfolding computes digitsFrom decimal signed line refusedLine mapLine setLines fileLines listingText cleaning
 listing b =
-    let text = cleaning refusedLine (λ A fs w. listingText A fs) b in
-    cond (ltb maxListed (length b)) (refusedLine SliceShort) text
+    let printed = cleaning refusedLine (λ A fs w. listingText A fs) b in
+    cond (ltb maxListed (length b)) (refusedLine SliceShort) printed
 
 -- the cleaned archive of an archive taken alone; nothing where any step refuses
 unfoldable pub cleanedBytes : List ℕ → List ℕ
