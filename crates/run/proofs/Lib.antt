@@ -8,3 +8,10 @@ pub mod Good
 pub mod SameSummary
 pub mod Tabled
 pub mod Worked
+pub mod Rules
+pub mod From
+pub mod Sides
+pub mod Taken
+pub mod Events
+pub mod Invariant
+pub mod Claim
