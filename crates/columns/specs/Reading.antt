@@ -42,6 +42,13 @@ setRules set first rows end s =
 unfoldable pub readSet : ℕ → ℕ → ℕ → ℕ → EdgeSet → Verdict (List (List ℕ))
 readSet set first rows end s = unless (setRules set first rows end s) (slotsOf first s)
 
+unfoldable pub setLengths : EdgeSet → List ℕ
+setLengths s = length (s .offsets) ∷ length (s .deltas) ∷ []
+
+-- `decode_csr`: one set lent by itself, with what it is lent for its answer
+unfoldable pub decodeSet : ℕ → ℕ → ℕ → ℕ → EdgeSet → List Lent → Verdict (List (List ℕ))
+decodeSet set first rows end s lent = unless (firstOf (limits (rows ∷ []) (setLengths s) lent ∷ setRules set first rows end s ∷ [])) (slotsOf first s)
+
 -- ── label columns: 20, 21 ────────────────────────────────────────────────────────────────────
 
 -- an event's place in a chain cover
@@ -93,9 +100,6 @@ coverRules rows (some c) = labelRules rows c
 abbrev pub labelLengths : Option Labels → List ℕ
 labelLengths none = []
 labelLengths (some c) = length (c .chains) ∷ length (c .seqs) ∷ []
-
-unfoldable pub setLengths : EdgeSet → List ℕ
-setLengths s = length (s .offsets) ∷ length (s .deltas) ∷ []
 
 -- how long the columns are that a reader is lent
 unfoldable pub columnLengths : GranuleColumns → List ℕ
