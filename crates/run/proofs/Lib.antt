@@ -15,3 +15,10 @@ pub mod Taken
 pub mod Events
 pub mod Invariant
 pub mod Claim
+pub mod Filters
+pub mod Numbers
+pub mod Blocks
+pub mod Followed
+pub mod Outputs
+pub mod Unerased
+pub mod Again
