@@ -9,8 +9,8 @@ use lib.ListN.{length, length-take}
 use Rattle.lists.specs.Lists.{flat, filter, mem, once, isEmpty, sum, Each}
 use Rattle.lists.specs.Order.{rising, sort}
 use Rattle.lists.proofs.Tests.{tested}
-use Rattle.lists.proofs.Once.{distinct-once}
-use Rattle.lists.proofs.Rising.{take-rising, sort-rising}
+use Rattle.lists.proofs.Once.{mem-folded, distinct-once}
+use Rattle.lists.proofs.Rising.{take-rising, cut-below, mem-filter, mem-sort, sort-rising}
 use Rattle.columns.specs.Walk.{level, levelsFrom, levels, walked}
 
 not-empty : {A : Type 0} (l : List A) → isEmpty l ≡ false → 0 < length l
@@ -30,6 +30,15 @@ module _ (parentsOf : ℕ → List ℕ) where
   level-rising limit visited frontier =
       let new = filter (λ n. not (mem n visited)) (flat parentsOf frontier) in
       take-rising limit (sort (once new)) (sort-rising (once new) (distinct-once new))
+
+  -- past the limit only the smallest stay: a parent that was not visited and is not handed out is above all that are
+  pub level-smallest : (limit : ℕ) (visited frontier : List ℕ) (x y : ℕ) → mem x (level parentsOf limit visited frontier) ≡ true
+      → mem y (flat parentsOf frontier) ≡ true → mem y visited ≡ false → mem y (level parentsOf limit visited frontier) ≡ false → x < y
+  unfolding level once
+  level-smallest limit visited frontier x y i m v o =
+      let new = filter (λ n. not (mem n visited)) (flat parentsOf frontier) in
+      let k : mem y new ≡ true = rw (mem-filter y (λ n. not (mem n visited)) (flat parentsOf frontier), m, v) in
+      cut-below limit (sort (once new)) x y (sort-rising (once new) (distinct-once new)) i (rw (mem-sort y (once new)) (mem-folded [] new y k)) o
 
   -- ── all levels ─────────────────────────────────────────────────────────────────────────────
 
