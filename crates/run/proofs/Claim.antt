@@ -114,7 +114,7 @@ unfolding cleaned
 claim cs ds l w v m n =
     let A = archiveIn (history fresh cs) in
     let B = archiveIn (history fresh ds) in
-    (write-cleaned cs w m, write-cleaned cs w m ∙ ap bytesOf (summary-alike A B l) ∙ sym (write-cleaned ds v n))
+    (write-cleaned cs w m, write-cleaned ds v n, write-cleaned cs w m ∙ ap bytesOf (summary-alike A B l) ∙ sym (write-cleaned ds v n))
 
 -- ── over traces ──────────────────────────────────────────────────────────────────────────────
 
@@ -136,7 +136,7 @@ module _ (Run Reply : Type 0) (view : Run → State) (answered : Reply → Answe
       let c = claim (map callOf h) (map callOf g)
             (subst (λ x. Alike x (archiveIn (history fresh (map callOf g)))) (ap archiveIn p) (subst (λ x. Alike (archiveIn h) x) (ap archiveIn q) l))
             w v (subst (λ x. Wrote x w) p m) (subst (λ x. Wrote x v) q n) in
-      (c .0 ∙ ap (λ x. cleaned (archiveIn x)) (sym p), c .1)
+      (c .0 ∙ ap (λ x. cleaned (archiveIn x)) (sym p), c .1 ∙ ap (λ x. cleaned (archiveIn x)) (sym q), c .2)
 
 -- not empty: where the runs are the states themselves, every list of calls has its trace
 pub own-trace : (s : State) (cs : List Call) → Trace State Answer (λ x. x) (λ a. a) s (history s cs)

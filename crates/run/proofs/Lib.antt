@@ -22,3 +22,12 @@ pub mod Followed
 pub mod Outputs
 pub mod Unerased
 pub mod Again
+pub mod Sums
+pub mod Fitting
+pub mod Groups
+pub mod GoodGroups
+pub mod Kept
+pub mod Bodies
+pub mod Figures
+pub mod NewLists
+pub mod Goodness

@@ -24,10 +24,10 @@ abbrev pub Survives : ℕ → List Event → ℕ → Type 0
 Survives n es p = Within n es p × ((getD es (p - n) blank) .erased ≡ false)
 
 -- the event of a number past the first is among the others
-getD-past : (n : ℕ) (e : Event) (es : List Event) (p : ℕ) → suc n ≤ p → getD (e ∷ es) (p - n) blank ≡ getD es (p - suc n) blank
+pub getD-past : (n : ℕ) (e : Event) (es : List Event) (p : ℕ) → suc n ≤ p → getD (e ∷ es) (p - n) blank ≡ getD es (p - suc n) blank
 getD-past n e es p h = ap (λ i. getD (e ∷ es) i blank) {x = p - n} {y = suc (p - suc n)} (omega arith)
 
-survive-from : (n : ℕ) (es : List Event) → Each (Survives n es) (survivorsFrom n es)
+pub survive-from : (n : ℕ) (es : List Event) → Each (Survives n es) (survivorsFrom n es)
 unfolding survivorsFrom
 survive-from n [] = tt
 survive-from n (e ∷ es) =

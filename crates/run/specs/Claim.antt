@@ -6,9 +6,9 @@ use Rattle.run.specs.Step.{Call, fresh}
 use Rattle.run.specs.History.{history, archiveIn, Wrote, cleaned}
 use Rattle.run.specs.Alike.{Alike}
 
--- where the archives of the two lists are alike, every accepted write of one is the cleaned archive, in the same length and the same bytes as
--- every accepted write of the other
+-- where the archives of the two lists are alike, every accepted write of either list is the cleaned archive of its list, and the two are the
+-- same bytes, and so of the same length
 abbrev pub Claim : Type 0
 Claim = (cs ds : List Call) → Alike (archiveIn (history fresh cs)) (archiveIn (history fresh ds))
     → (w v : List ℕ) → Wrote (history fresh cs) w → Wrote (history fresh ds) v
-    → (w ≡ cleaned (archiveIn (history fresh cs))) × (w ≡ v)
+    → (w ≡ cleaned (archiveIn (history fresh cs))) × (v ≡ cleaned (archiveIn (history fresh ds))) × (w ≡ v)

@@ -23,4 +23,4 @@ module _ (Run Reply : Type 0) (view : Run → State) (answered : Reply → Answe
   -- the claim over two traces from fresh runs
   abbrev pub ClaimOfTraces : Type 0
   ClaimOfTraces = (r s : Run) → view r ≡ fresh → view s ≡ fresh → (h g : List Did) → Trace r h → Trace s g → Alike (archiveIn h) (archiveIn g)
-      → (w v : List ℕ) → Wrote h w → Wrote g v → (w ≡ cleaned (archiveIn h)) × (w ≡ v)
+      → (w v : List ℕ) → Wrote h w → Wrote g v → (w ≡ cleaned (archiveIn h)) × (v ≡ cleaned (archiveIn g)) × (w ≡ v)
