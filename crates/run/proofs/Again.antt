@@ -1,6 +1,6 @@
 -- The output files of a good summary, taken again with nothing erased, are an archive whose cleaned form is that summary.
 use mathlib.Core.Path.{_≡_, refl, ap, ap₂, sym, _∙_}
-use mathlib.Core.List.{List, [], _∷_, _++_, map, foldl, append-nil}
+use mathlib.Core.List.{List, [], _∷_, _++_, map, foldl, append-nil, map-map}
 use mathlib.Core.Option.{Option, none, some}
 use Prim.Native.Nat.{ℕ, zero, suc, _+_, _≤_, _<_}
 use native.Mathlib.Omega.{arith}
@@ -29,10 +29,6 @@ again S = record { sources = map sourceOf (outputs S) }
 -- the source of the output file of a group
 abbrev pub sourceAt : Summary → ℕ → Source
 sourceAt S g = sourceOf (outputOf S g)
-
-map-map : {A B C : Type 0} (f : B → C) (h : A → B) (xs : List A) → map f (map h xs) ≡ map (λ x. f (h x)) xs
-map-map f h [] = refl
-map-map f h (x ∷ xs) = ap (λ ys. f (h x) ∷ ys) (map-map f h xs)
 
 flat-map : {A B C : Type 0} (f : B → List C) (h : A → B) (xs : List A) → flat f (map h xs) ≡ flat (λ x. f (h x)) xs
 flat-map f h [] = refl

@@ -155,13 +155,16 @@ module _ (S : Summary) (good : Good S) where
   unfolding numbered
   before-all = sym (length-flat (rowsIn S) (upFrom 0 (length (S .groups)))) ∙ ap length all-rows ∙ length-numbered (S .start) (S .rows)
 
-  pub before-within : (g : ℕ) → g ≤ length (S .groups) → rowsBefore S g ≤ length (S .rows)
-  before-within g l = go (length (S .groups) - g) (omega arith)
+  pub before-rises : (g h : ℕ) → g ≤ h → rowsBefore S g ≤ rowsBefore S h
+  before-rises g h l = go (h - g) (omega arith)
     where
-      go : (m : ℕ) → g + m ≡ length (S .groups) → rowsBefore S g ≤ length (S .rows)
+      go : (m : ℕ) → g + m ≡ h → rowsBefore S g ≤ rowsBefore S h
       go m e =
-          let q : rowsBefore S (g + m) ≡ length (S .rows) = rw e before-all in
-          omega (arith, sum-append (λ j. length (rowsIn S j)) (upFrom 0 g) (upFrom (0 + g) m), rw (upFrom-append 0 g m) at q)
+          let q : rowsBefore S h ≡ sum (λ j. length (rowsIn S j)) (upFrom 0 g ++ upFrom (0 + g) m) = rw (← e, upFrom-append 0 g m) in
+          omega (arith, sum-append (λ j. length (rowsIn S j)) (upFrom 0 g) (upFrom (0 + g) m), q)
+
+  pub before-within : (g : ℕ) → g ≤ length (S .groups) → rowsBefore S g ≤ length (S .rows)
+  before-within g l = omega (arith, before-rises g (length (S .groups)) l, before-all)
 
   pub rows-good : (g : ℕ) → Each (GoodRow S g) (rowsIn S g)
   unfolding rowsIn

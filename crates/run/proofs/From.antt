@@ -1,10 +1,11 @@
 -- A property of the elements of a list and their numbers, which count up from one on.
 use mathlib.Core.Path.{_≡_, subst}
 use mathlib.Core.List.{List, [], _∷_, _++_}
-use Prim.Native.Nat.{ℕ, zero, suc, _+_, _<_}
+use Prim.Native.Nat.{ℕ, zero, suc, _+_, _≤_, _<_}
 use native.Mathlib.Omega.{arith}
 use native.Mathlib.Nat.{not-suc-le-zero, le-of-suc-le-suc}
 use lib.ListN.{length, getD}
+use Rattle.lists.specs.Lists.{Each}
 
 abbrev pub EachFrom : {A : Type 0} → (ℕ → A → Type 0) → ℕ → List A → Type 0
 EachFrom P n [] = Unit {0}
@@ -28,3 +29,9 @@ module _ {A : Type 0} (P : ℕ → A → Type 0) where
   pub from-imp : (Q : ℕ → A → Type 0) (n : ℕ) (xs : List A) → ((i : ℕ) (x : A) → P i x → Q i x) → EachFrom P n xs → EachFrom Q n xs
   from-imp Q n [] f h = tt
   from-imp Q n (x ∷ xs) f h = (f n x (h .0), from-imp Q (suc n) xs f (h .1))
+
+  -- numbers from n up to m
+  pub from-each : (Q : A → Type 0) (m n : ℕ) (xs : List A) → ((i : ℕ) (x : A) → n ≤ i → i < m → Q x → P i x) → n + length xs ≤ m → Each Q xs → EachFrom P n xs
+  from-each Q m n [] f l h = tt
+  from-each Q m n (x ∷ xs) f l h =
+      (f n x (omega arith) (omega arith) (h .0), from-each Q m (suc n) xs (λ i y a b q. f i y (omega arith) b q) (omega arith) (h .1))

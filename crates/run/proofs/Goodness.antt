@@ -87,7 +87,7 @@ good-sources ss e f h l n g =
       links = omega (arith, few-links ss, l .links);
       references = omega (arith, sum-rows A (λ b. length (b .unresolved)), few-references t ss, l .references) }
 
-not-empty : (fs : List File) → isEmpty fs ≡ false → isEmpty (map sourceOf fs) ≡ false
+pub not-empty : (fs : List File) → isEmpty fs ≡ false → isEmpty (map sourceOf fs) ≡ false
 unfolding isEmpty
 not-empty [] e = e
 not-empty (f ∷ fs) e = refl

@@ -133,10 +133,10 @@ each-covered ss f = each-covered-from none [] ss refl f
 
 -- ── how many ─────────────────────────────────────────────────────────────────────────────────
 
-below-not-mem : (n : ℕ) (xs : List ℕ) → Each (λ x. x < n) xs → mem n xs ≡ false
+pub others-not-mem : (n : ℕ) (xs : List ℕ) → Each (λ x. n ≡ x → ⊥) xs → mem n xs ≡ false
 unfolding mem
-below-not-mem n [] h = refl
-below-not-mem n (x ∷ xs) h = rw (ne-eqb n x (omega (arith, h .0))) (below-not-mem n xs (h .1))
+others-not-mem n [] h = refl
+others-not-mem n (x ∷ xs) h = rw (ne-eqb n x (h .0)) (others-not-mem n xs (h .1))
 
 length-add : (xs : List ℕ) (x : ℕ) → length xs ≤ length (add xs x)
 length-add xs x = elim (tested (mem x xs)) [
@@ -151,7 +151,8 @@ fewer-groups before gs (s ∷ ss) ns g f l h =
     let m = grown gs s n in
     fewer-groups (some s) (addSource gs s) ss (add ns (s .group)) m (f .2) (elim (old-or-new gs s n) [
         inl o ↦ omega (arith, m .0, length-add ns (s .group))
-      | inr e ↦ rw (add-new ns (s .group) (rw e (below-not-mem (length gs) ns h)), length-append ns (s .group ∷ [])) (omega (arith, m .0)) ])
+      | inr e ↦ rw (add-new ns (s .group)
+          (rw e (others-not-mem (length gs) ns (each-imp (λ x. x < length gs) (λ x. length gs ≡ x → ⊥) ns (λ x b c. omega arith) h))), length-append ns (s .group ∷ [])) (omega (arith, m .0)) ])
     (each-add (λ n. n < length (addSource gs s)) ns (s .group)
       (each-imp (λ x. x < length gs) (λ x. x < length (addSource gs s)) ns (λ x b. omega (arith, m .0, n .last)) h) (omega (arith, m .0)))
 

@@ -52,7 +52,7 @@ pub forward-part : (S : Summary) (g : ℕ) (group : Group) (rs : List Numbered) 
 unfolding forwardPart graphOfRows part
 forward-part S g group rs h = rw (cut-joined (slotsOfRows rs)) (take-all (kinds * length rs) (slotsOfRows rs) (omega (arith, length-slots rs h)))
 
-pub cover-back : (links : Option (List Link)) (rs : List Numbered) → GoodLinks links → coverRead (coverOfGroup links rs) ≡ keptCover links rs
+cover-back : (links : Option (List Link)) (rs : List Numbered) → GoodLinks links → coverRead (coverOfGroup links rs) ≡ keptCover links rs
 cover-back none rs h = refl
 cover-back (some links) rs h =
     ap some (λ i. record { labels = labels-columns (labelsIn rs) i; ranges = length (rangesOf (labelsIn rs)); links = stored-back links (h .0) (h .1) i })

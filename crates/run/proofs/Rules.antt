@@ -37,3 +37,9 @@ not-refused r false e = refl
 pub passed : (r : Refusal) (b : Bool) → refuse r (not b) ≡ none → b ≡ true
 passed r true e = refl
 passed r false e = absurd (Option·none-ne-some r (sym e))
+
+pub fails : (r : Refusal) (b : Bool) → b ≡ false → refuse r b ≡ none
+fails r b e = rw e
+
+pub passes : (r : Refusal) (b : Bool) → b ≡ true → refuse r (not b) ≡ none
+passes r b e = rw e

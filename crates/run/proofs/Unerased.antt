@@ -31,7 +31,7 @@ abbrev pub unerased : Summary → Archive
 unerased S = record { start = S .start; subject = S .subject; groups = S .groups; events = map eventOf (S .rows) }
 
 -- no row
-abbrev blankRow : Kept
+abbrev pub blankRow : Kept
 blankRow = kept (blank .body) (blank .parents)
 
 -- the row of a number
@@ -41,7 +41,7 @@ rowAt S p = getD (S .rows) (p - S .start) blankRow
 -- ── nobody is erased ─────────────────────────────────────────────────────────────────────────
 
 module _ (S : Summary) where
-  pub at-row : (p : ℕ) → at (unerased S) p ≡ eventOf (rowAt S p)
+  at-row : (p : ℕ) → at (unerased S) p ≡ eventOf (rowAt S p)
   unfolding at
   at-row p = List·getD-map eventOf (S .rows) (p - S .start) blankRow
 
@@ -62,7 +62,7 @@ module _ (S : Summary) where
   one-step k n q = rw (passes-none q)
 
   -- every route ends at its first step
-  pub ends-parents : (k p : ℕ) → ends (unerased S) k p ≡ parentsOf k (at (unerased S) p)
+  ends-parents : (k p : ℕ) → ends (unerased S) k p ≡ parentsOf k (at (unerased S) p)
   unfolding ends
   ends-parents k p =
       flat-ext (through (unerased S) k (suc (p - S .start))) (λ q. q ∷ []) (parentsOf k (at (unerased S) p))
@@ -77,7 +77,7 @@ count-take zero rs l = refl
 count-take (suc i) [] l = absurd (not-suc-le-zero l)
 count-take (suc i) (r ∷ rs) l = ap suc (count-take i rs (le-of-suc-le-suc l))
 
-pub renumber-same : (S : Summary) (p : ℕ) → p ≤ S .start + length (S .rows) → renumber (unerased S) p ≡ p
+renumber-same : (S : Summary) (p : ℕ) → p ≤ S .start + length (S .rows) → renumber (unerased S) p ≡ p
 unfolding rank
 renumber-same S p l = go (ltb p (S .start)) refl
   where
@@ -90,7 +90,7 @@ unfolding survivorsFrom upFrom
 survivors-from n [] = refl
 survivors-from n (r ∷ rs) = ap (λ ps. n ∷ ps) (survivors-from (suc n) rs)
 
-pub survivors-all : (S : Summary) → survivors (unerased S) ≡ upFrom (S .start) (length (S .rows))
+survivors-all : (S : Summary) → survivors (unerased S) ≡ upFrom (S .start) (length (S .rows))
 unfolding survivors
 survivors-all S = survivors-from (S .start) (S .rows)
 
@@ -102,18 +102,17 @@ lists-row n zero (r ∷ rs) h l = rw (add-zero n) (h .0)
 lists-row n (suc i) (r ∷ rs) h l = let e : suc n + i ≡ n + suc i = omega arith in rw e at (lists-row (suc n) i rs (h .1) (le-of-suc-le-suc l))
 
 module _ (S : Summary) (good : Good S) (i : ℕ) (l : i < length (S .rows)) where
-  p : ℕ
+  abbrev p : ℕ
   p = S .start + i
 
-  row : Kept
+  abbrev row : Kept
   row = getD (S .rows) i blankRow
 
   this-row : rowAt S p ≡ row
-  unfolding p row
   this-row = ap (λ j. getD (S .rows) j blankRow) {x = S .start + i - S .start} {y = i} (omega arith)
 
-  parents-stay : (k : ℕ) → k < kinds → newParents (unerased S) k p ≡ getD (row .parents) k []
-  unfolding newParents p row parentsOf
+  pub parents-stay : (k : ℕ) → k < kinds → newParents (unerased S) k p ≡ getD (row .parents) k []
+  unfolding newParents parentsOf
   parents-stay k h =
       let lists = lists-row (S .start) i (S .rows) (good .lists) l in
       let inside : k < length (row .parents) = omega (arith, lists .each-kind) in
@@ -126,7 +125,7 @@ module _ (S : Summary) (good : Good S) (i : ℕ) (l : i < length (S .rows)) wher
       ∙ map-id ps)
 
   row-stays : keptBy (unerased S) p ≡ row
-  unfolding keptBy row
+  unfolding keptBy
   row-stays =
       let lists = lists-row (S .start) i (S .rows) (good .lists) l in
       let new : ℕ → List ℕ = λ k. newParents (unerased S) k p in
@@ -146,7 +145,7 @@ groups-stay [] h = refl
 groups-stay (g ∷ gs) h = ap₂ (λ x xs. x ∷ xs) (λ i. record { depth = g .depth; links = links-stay (g .links) (h .0 .2) i }) (groups-stay gs (h .1))
 
 pub summary-unerased : (S : Summary) → Good S → summary (unerased S) ≡ S
-unfolding summary p row
+unfolding summary
 summary-unerased S good =
     let rows : map (keptBy (unerased S)) (survivors (unerased S)) ≡ S .rows =
           rw (survivors-all S) (map-places (keptBy (unerased S)) (S .start) (S .rows) blankRow (row-stays S good)) in

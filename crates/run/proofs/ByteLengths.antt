@@ -1,0 +1,88 @@
+-- How many bytes the records of a file have, so that a file within the limits has records of short length.
+use mathlib.Core.Path.{_≡_}
+use mathlib.Core.List.{List, [], _∷_, _++_, map}
+use Prim.Native.Nat.{ℕ, _+_, _*_, _≤_}
+use native.Mathlib.Omega.{arith}
+use lib.ListN.{length, length-append, length-map}
+use Rattle.lists.specs.Lists.{flat}
+use Rattle.lists.proofs.Cut.{length-blocks}
+use Rattle.columns.specs.Limits.{kinds, maxRecords, maxNumbers}
+use Rattle.columns.specs.EdgeSet.{EdgeSet}
+use Rattle.cover.specs.Chains.{Range}
+use Rattle.cover.specs.Cover.{LinkColumns}
+use Rattle.archive.specs.Bytes.{bytesOf, unsignedOf}
+use Rattle.archive.specs.File.{Row, Unresolved, Root, CoverColumns, File}
+use Rattle.archive.specs.Encode.{columnBytes, setBytes, edgesBytes, rowBytes, unresolvedBytes, rootBytes, rangeBytes, linksBytes, coverBytes, countedBytes}
+use Rattle.archive.specs.Fits.{Short, LinksFit}
+use Rattle.archive.proofs.Numbers.{length-bytesOf}
+
+length-column : (w : ℕ) (xs : List ℕ) → length (columnBytes w xs) ≡ w * length xs
+length-column w xs = length-blocks (bytesOf w) w (length-bytesOf w) xs
+
+length-counted : {A : Type 0} (f : A → List ℕ) (w : ℕ) → ((x : A) → length (f x) ≡ w) → (xs : List A) → length (countedBytes f xs) ≡ 4 + w * length xs
+unfolding countedBytes
+length-counted f w wide xs = omega (arith, length-append (bytesOf 4 (length xs)) (flat f xs), length-bytesOf 4 (length xs), length-blocks f w wide xs)
+
+-- ── rows, references, roots ──────────────────────────────────────────────────────────────────
+
+wide-row : (r : Row) → length (rowBytes r) ≡ 9
+unfolding rowBytes
+wide-row r = omega (arith, length-bytesOf 8 (r .tag))
+
+wide-unresolved : (u : Unresolved) → length (unresolvedBytes u) ≡ 13
+unfolding unresolvedBytes
+wide-unresolved u = omega (arith, length-append (bytesOf 8 (u .child)) ((u .kind ∷ []) ++ bytesOf 4 (u .handle)), length-bytesOf 8 (u .child), length-bytesOf 4 (u .handle))
+
+wide-root : (r : Root) → length (rootBytes r) ≡ 16
+unfolding rootBytes
+wide-root r = omega (arith, length-append (bytesOf 8 (r .row)) (bytesOf 8 (r .handle)), length-bytesOf 8 (r .row), length-bytesOf 8 (r .handle))
+
+pub short-rows : (rs : List Row) → length rs ≤ maxRecords → Short (flat rowBytes rs)
+short-rows rs l = omega (arith, length-blocks rowBytes 9 wide-row rs)
+
+pub short-unresolved : (us : List Unresolved) → length us ≤ maxRecords → Short (countedBytes unresolvedBytes us)
+short-unresolved us l = omega (arith, length-counted unresolvedBytes 13 wide-unresolved us)
+
+pub short-roots : (rs : List Root) → length rs ≤ maxRecords → Short (countedBytes rootBytes rs)
+short-roots rs l = omega (arith, length-counted rootBytes 16 wide-root rs)
+
+-- ── edges ────────────────────────────────────────────────────────────────────────────────────
+
+length-set : (s : EdgeSet) → length (setBytes s) ≡ 4 + (8 * length (s .offsets) + 8 * length (s .deltas))
+unfolding setBytes
+length-set s =
+    omega (arith, length-append (bytesOf 4 (s .count)) (columnBytes 8 (s .offsets) ++ columnBytes 8 (map unsignedOf (s .deltas))), length-bytesOf 4 (s .count),
+      length-append (columnBytes 8 (s .offsets)) (columnBytes 8 (map unsignedOf (s .deltas))), length-column 8 (s .offsets), length-column 8 (map unsignedOf (s .deltas)), length-map (s .deltas) unsignedOf)
+
+-- a set of few rows and few entries
+abbrev pub FewEdges : EdgeSet → Type 0
+FewEdges s = (length (s .offsets) ≤ kinds * maxRecords + 1) × (length (s .deltas) ≤ maxNumbers)
+
+pub short-edges : (f : File) → FewEdges (f .forward) → FewEdges (f .reverse) → FewEdges (f .inbound) → Short (edgesBytes f)
+unfolding edgesBytes
+short-edges f a b c =
+    omega (arith, length-append (setBytes (f .forward)) (setBytes (f .reverse) ++ setBytes (f .inbound)), length-append (setBytes (f .reverse)) (setBytes (f .inbound)),
+      length-set (f .forward), length-set (f .reverse), length-set (f .inbound))
+
+-- ── covers ───────────────────────────────────────────────────────────────────────────────────
+
+wide-range : (r : Range) → length (rangeBytes r) ≡ 12
+unfolding rangeBytes
+wide-range r =
+    omega (arith, length-append (bytesOf 4 (r .chain)) (bytesOf 4 (r .least) ++ bytesOf 4 (r .greatest)), length-append (bytesOf 4 (r .least)) (bytesOf 4 (r .greatest)),
+      length-bytesOf 4 (r .chain), length-bytesOf 4 (r .least), length-bytesOf 4 (r .greatest))
+
+length-links : (c : LinkColumns) → LinksFit c → length (linksBytes c) ≡ 4 + 16 * length (c .fromChains)
+unfolding linksBytes
+length-links c h =
+    simp (length-append, length-bytesOf) (rw (length-column 4 (c .fromChains), length-column 4 (c .fromSeqs), length-column 4 (c .toChains), length-column 4 (c .toSeqs), h .second, h .third, h .fourth) (four (length (c .fromChains))))
+  where
+    four : (n : ℕ) → 4 + (4 * n + (4 * n + (4 * n + 4 * n))) ≡ 4 + 16 * n
+    four n = omega arith
+
+pub short-cover : (c : CoverColumns) → LinksFit (c .links) → length (c .labels .chains) ≤ maxRecords → length (c .labels .seqs) ≤ maxRecords → length (c .ranges) ≤ maxRecords
+    → length (c .links .fromChains) ≤ maxRecords → Short (coverBytes c)
+unfolding coverBytes
+short-cover c h a b d e =
+    simp (length-append, length-bytesOf)
+    (omega (arith, length-column 4 (c .labels .chains), length-column 4 (c .labels .seqs), length-blocks rangeBytes 12 wide-range (c .ranges), length-links (c .links) h))
