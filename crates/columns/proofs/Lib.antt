@@ -1,3 +1,4 @@
 pub mod ReadBack
 pub mod Turned
 pub mod Levels
+pub mod FirstBroken

@@ -5,3 +5,7 @@ pub mod Flat
 pub mod Cut
 pub mod Rising
 pub mod Pairs
+pub mod Sums
+pub mod Filters
+pub mod From
+pub mod Counting

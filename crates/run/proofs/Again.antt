@@ -2,14 +2,12 @@
 use mathlib.Core.Path.{_≡_, refl, ap, ap₂, sym, _∙_}
 use mathlib.Core.List.{List, [], _∷_, _++_, map, foldl, append-nil, map-map}
 use mathlib.Core.Option.{Option, none, some}
-use Prim.Native.Nat.{ℕ, zero, suc, _+_, _≤_, _<_}
+use Prim.Native.Nat.{ℕ, zero, suc, _+_, _<_}
 use native.Mathlib.Omega.{arith}
 use native.Mathlib.Nat.{add-zero}
 use lib.ListN.{length, getD, length-append}
 use lib.Seq.{append-snoc, getD-append-seam}
 use Rattle.lists.specs.Lists.{flat, sum, upFrom, Each}
-use Rattle.lists.proofs.Each.{each-imp}
-use Rattle.lists.proofs.Pairs.{each-upFrom}
 use Rattle.lists.proofs.Flat.{flat-ext, map-flat}
 use Rattle.cover.specs.Chains.{Link}
 use Rattle.run.specs.Source.{Source, sourceOf}
@@ -17,6 +15,7 @@ use Rattle.run.specs.Archive.{Taken, Group, groupOf, linksIn, joinAt, ad
 use Rattle.run.specs.Summary.{Summary, summary}
 use Rattle.run.specs.Writing.{Numbered, numbered, rowsIn, noGroup, groupAt, outputOf, outputs, groupNumbers}
 use Rattle.run.proofs.Good.{Good}
+use Rattle.lists.proofs.Filters.{each-below}
 use Rattle.run.proofs.Numbers.{map-numbered}
 use Rattle.run.proofs.Blocks.{all-rows, rows-counted, rows-first, rows-good}
 use Rattle.run.proofs.Outputs.{output-holds, eventOf, events-back, keptCover}
@@ -67,7 +66,7 @@ kept-links (some ls) rs = refl
 
 module _ (S : Summary) (good : Good S) where
   group-back : (g : ℕ) → g < length (S .groups) → (sourceAt S g .group ≡ g) × (groupOf (sourceAt S g) ≡ groupAt S g)
-  group-back g l = 
+  group-back g l =
       let h = output-holds S good g l in
       (h .number, λ i. record { depth = h .depth i; links = (ap linksIn (h .cover) ∙ kept-links ((groupAt S g) .links) (rowsIn S g)) i })
 
@@ -76,12 +75,12 @@ module _ (S : Summary) (good : Good S) where
   groups-again =
       ap (foldl addSource []) (sources-again S)
       ∙ add-groups (sourceAt S) (S .groups) [] (S .groups) refl
-        (each-imp (λ g. (0 ≤ g) × (g < 0 + length (S .groups))) (λ g. (sourceAt S g .group ≡ g) × (groupOf (sourceAt S g) ≡ groupAt S g)) (groupNumbers S)
-          (λ g w. group-back g (omega arith)) (each-upFrom 0 (length (S .groups))))
+        (each-below (λ g. (sourceAt S g .group ≡ g) × (groupOf (sourceAt S g) ≡ groupAt S g)) (length (S .groups)) group-back)
 
--- ── events ───────────────────────────────────────────────────────────────────────────────────
+  -- ── events ───────────────────────────────────────────────────────────────────────────────────
 
-  events-of : (t : Taken) (g : ℕ) → g < length (S .groups) → eventsFrom t (sourceAt S g) 0 (sourceAt S g .rows) ≡ map (λ r. eventOf (r .row)) (rowsIn S g)
+  events-of : (t : Taken) (g : ℕ) → g < length (S .groups)
+      → eventsFrom t (sourceAt S g) 0 (sourceAt S g .rows) ≡ map (λ r. eventOf (r .row)) (rowsIn S g)
   events-of t g l =
       events-back S t (sourceAt S g) g (rowsIn S g) (output-holds S good g l)
       (rw (rows-first S good g l) (rows-counted S good g l)) (rows-good S good g)
@@ -92,14 +91,15 @@ module _ (S : Summary) (good : Good S) where
       ap (flat (λ s. eventsFrom (again S) s 0 (s .rows))) (sources-again S)
       ∙ flat-map (λ s. eventsFrom (again S) s 0 (s .rows)) (sourceAt S) (groupNumbers S)
       ∙ flat-ext (λ g. eventsFrom (again S) (sourceAt S g) 0 (sourceAt S g .rows)) (λ g. map (λ r. eventOf (r .row)) (rowsIn S g)) (groupNumbers S)
-        (each-imp (λ g. (0 ≤ g) × (g < 0 + length (S .groups))) _ (groupNumbers S) (λ g w. events-of (again S) g (omega arith)) (each-upFrom 0 (length (S .groups))))
+        (each-below _ (length (S .groups)) (events-of (again S)))
       ∙ sym (map-flat (λ r. eventOf (r .row)) (rowsIn S) (groupNumbers S))
       ∙ ap (map (λ r. eventOf (r .row))) (all-rows S good)
       ∙ map-numbered eventOf (S .start) (S .rows)
 
--- ── the archive ──────────────────────────────────────────────────────────────────────────────
+  -- ── the archive ──────────────────────────────────────────────────────────────────────────────
 
-  start-again : (n : ℕ) → n ≡ length (S .groups) → (startOf (map (sourceAt S) (upFrom 0 n)) ≡ S .start) × (subjectOf (map (sourceAt S) (upFrom 0 n)) ≡ S .subject)
+  start-again : (n : ℕ) → n ≡ length (S .groups)
+      → (startOf (map (sourceAt S) (upFrom 0 n)) ≡ S .start) × (subjectOf (map (sourceAt S) (upFrom 0 n)) ≡ S .subject)
   unfolding upFrom sum sourceOf outputOf
   start-again zero e = absurd (omega (arith, good .some))
   start-again (suc n) e = (rows-first S good 0 (omega arith) ∙ add-zero (S .start), refl)

@@ -7,14 +7,14 @@ use native.Mathlib.Omega.{arith}
 use native.Mathlib.Nat.{add-zero}
 use lib.ListN.{length, getD}
 use Rattle.lists.specs.Lists.{flat, upFrom, Each}
-use Rattle.lists.proofs.Each.{each-imp, each-map}
-use Rattle.lists.proofs.Pairs.{each-upFrom}
+use Rattle.lists.proofs.Each.{each-map}
 use Rattle.lists.proofs.Flat.{length-map-upFrom}
 use Rattle.columns.specs.Limits.{kinds, end64}
 use Rattle.columns.specs.EdgeSet.{eventOf, allowed}
 use Rattle.columns.specs.Building.{slotTable}
 use Rattle.columns.proofs.ReadBack.{AllowedFrom}
-use Rattle.run.proofs.From.{EachFrom, from-eq}
+use Rattle.lists.proofs.Filters.{each-below}
+use Rattle.lists.proofs.From.{EachFrom, from-eq}
 
 -- the targets of a number are on the set's side
 abbrev pub OnSide : ℕ → ℕ → ℕ → List ℕ → Type 0
@@ -33,7 +33,8 @@ module _ (set first end : ℕ) where
       let even : first + i ≡ eventOf first (kinds * i) = omega arith in
       let odd : first + i ≡ eventOf first (suc (kinds * i)) = omega arith in
       let next : kinds * suc i ≡ suc (suc (kinds * i)) = omega arith in
-      (omega arith, subst (λ n. OnSide set end n a) even (s .2 .0), (omega arith, subst (λ n. OnSide set end n b) odd (s .2 .1 .0), subst (λ m. AllowedFrom set first end m rest) next h))
+      (omega arith, subst (λ n. OnSide set end n a) even (s .2 .0),
+        (omega arith, subst (λ n. OnSide set end n b) odd (s .2 .1 .0), subst (λ m. AllowedFrom set first end m rest) next h))
   allowed-row i (a ∷ (b ∷ (c ∷ lists))) rest s h = absurd (omega (arith, s .1))
 
   pub allowed-rows : {A : Type 0} (f : A → List (List ℕ)) (i : ℕ) (xs : List A) → EachFrom (λ n x. SideRow set end n (f x)) (first + i) xs
@@ -56,12 +57,14 @@ module _ (set first end : ℕ) where
       go n (suc m) l u =
           ((omega arith, length-map-upFrom (f n) 0 kinds,
             each-map (OnSide set end n) (f n) (upFrom 0 kinds)
-            (each-imp (λ k. (0 ≤ k) × (k < 0 + kinds)) (λ k. OnSide set end n (f n k)) (upFrom 0 kinds) (λ k w. h n k l (omega arith) (omega arith)) (each-upFrom 0 kinds))),
+            (each-below (λ k. OnSide set end n (f n k)) kinds (λ k b. h n k l (omega arith) b))),
           go (suc n) m (omega arith) (omega arith))
 
 -- the targets of a slot of such lists
-pub allowed-at : (set first end slot : ℕ) (lists : List (List ℕ)) (j : ℕ) → AllowedFrom set first end slot lists → OnSide set end (eventOf first (slot + j)) (getD lists j [])
+pub allowed-at : (set first end slot : ℕ) (lists : List (List ℕ)) (j : ℕ)
+    → AllowedFrom set first end slot lists → OnSide set end (eventOf first (slot + j)) (getD lists j [])
 allowed-at set first end slot [] j h = tt
 allowed-at set first end slot (ts ∷ lists) zero h = subst (λ m. OnSide set end (eventOf first m) ts) {x = slot} {y = slot + 0} (omega arith) (h .1)
 allowed-at set first end slot (ts ∷ lists) (suc j) h =
-    subst (λ m. OnSide set end (eventOf first m) (getD lists j [])) {x = suc slot + j} {y = slot + suc j} (omega arith) (allowed-at set first end (suc slot) lists j (h .2))
+    subst (λ m. OnSide set end (eventOf first m) (getD lists j [])) {x = suc slot + j} {y = slot + suc j} (omega arith)
+    (allowed-at set first end (suc slot) lists j (h .2))

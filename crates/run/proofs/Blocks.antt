@@ -5,7 +5,7 @@ use mathlib.Core.Logic.{inl, inr}
 use mathlib.Core.List.{List, [], _∷_, _++_, map, List·Memᴰ, List·Memᴰ·cases-cons, List·Memᴰ·not-nil}
 use Prim.Native.Nat.{ℕ, zero, suc, _+_, _-_, _≤_, _<_}
 use native.Mathlib.Omega.{arith}
-use native.Mathlib.Nat.{not-suc-le-zero, le-of-suc-le-suc, add-zero, zero-add}
+use native.Mathlib.Nat.{not-suc-le-zero, le-of-suc-le-suc, add-zero, zero-add, add-assoc}
 use borrow.Author.Tests.{eqb-true, eqb-false, ne-eqb, leb-true}
 use lib.Dec.{leb, eqb}
 use lib.ListN.{length}
@@ -18,8 +18,8 @@ use Rattle.lists.proofs.Flat.{flat-ext, length-flat, sum-append, upFrom-append,
 use Rattle.run.specs.Summary.{Kept, Summary}
 use Rattle.run.specs.Writing.{Numbered, numberedFrom, numbered, groupIs, rowsIn, firstNumber}
 use Rattle.run.proofs.Good.{GoodLists, GoodBody, Good}
-use Rattle.run.proofs.Filters.{each-filter, filter-passes, filter-none, filter-all}
-use Rattle.run.proofs.Numbers.{Counted, numbered-counted, each-numbered, lists-numbered, length-numbered, counted-append, first-counted}
+use Rattle.lists.proofs.Filters.{each-filter, filter-passes, filter-none, filter-all}
+use Rattle.run.proofs.Numbers.{Counted, numbered-counted, each-numbered, lists-numbered, length-numbered, counted-append, counted-within, first-counted}
 
 -- ── one block ────────────────────────────────────────────────────────────────────────────────
 
@@ -173,3 +173,11 @@ module _ (S : Summary) (good : Good S) where
       (λ r h. record { group = eqb-true (groupOf r) g (h .0); lists = h .1 .0; body = h .1 .1 })
       (each-both (λ r. groupIs g r ≡ true) (λ r. GoodLists (r .number) (r .row .parents) × GoodBody (S .groups) (r .row .body)) (rowsIn S g)
         (filter-passes (groupIs g) (numbered S)) (each-filter (groupIs g) _ (numbered S) good-rows))
+
+  -- with its number in the group's block
+  pub rows-within : (g : ℕ) → g < length (S .groups)
+      → Each (λ r. GoodRow S g r × ((S .start + rowsBefore S g ≤ r .number) × (r .number < S .start + rowsBefore S (suc g)))) (rowsIn S g)
+  rows-within g l =
+      rw (before-next g, ← add-assoc (S .start) (rowsBefore S g) (length (rowsIn S g)))
+      (each-both (GoodRow S g) (λ r. (S .start + rowsBefore S g ≤ r .number) × (r .number < S .start + rowsBefore S g + length (rowsIn S g))) (rowsIn S g)
+        (rows-good g) (counted-within (S .start + rowsBefore S g) (rowsIn S g) (rows-counted g l)))

@@ -22,7 +22,7 @@ use Rattle.run.specs.Archive.{Taken, Reference, Group, labelIn, rootIn, 
 use Rattle.run.specs.Summary.{sorted, groupSummary}
 use Rattle.run.specs.Writing.{noGroup}
 use Rattle.run.proofs.Good.{GoodLabel, GoodRoot, GoodBody}
-use Rattle.run.proofs.Filters.{each-filter}
+use Rattle.lists.proofs.Filters.{each-filter}
 use Rattle.run.proofs.Taken.{RecordIn, Sound}
 use Rattle.run.proofs.Events.{eventsIn}
 use Rattle.run.proofs.Fitting.{LabelFits, CoverFitting, Fitting}

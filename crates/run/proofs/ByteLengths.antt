@@ -31,7 +31,8 @@ wide-row r = omega (arith, length-bytesOf 8 (r .tag))
 
 wide-unresolved : (u : Unresolved) → length (unresolvedBytes u) ≡ 13
 unfolding unresolvedBytes
-wide-unresolved u = omega (arith, length-append (bytesOf 8 (u .child)) ((u .kind ∷ []) ++ bytesOf 4 (u .handle)), length-bytesOf 8 (u .child), length-bytesOf 4 (u .handle))
+wide-unresolved u =
+    omega (arith, length-append (bytesOf 8 (u .child)) ((u .kind ∷ []) ++ bytesOf 4 (u .handle)), length-bytesOf 8 (u .child), length-bytesOf 4 (u .handle))
 
 wide-root : (r : Root) → length (rootBytes r) ≡ 16
 unfolding rootBytes
@@ -51,8 +52,8 @@ short-roots rs l = omega (arith, length-counted rootBytes 16 wide-root rs)
 length-set : (s : EdgeSet) → length (setBytes s) ≡ 4 + (8 * length (s .offsets) + 8 * length (s .deltas))
 unfolding setBytes
 length-set s =
-    omega (arith, length-append (bytesOf 4 (s .count)) (columnBytes 8 (s .offsets) ++ columnBytes 8 (map unsignedOf (s .deltas))), length-bytesOf 4 (s .count),
-      length-append (columnBytes 8 (s .offsets)) (columnBytes 8 (map unsignedOf (s .deltas))), length-column 8 (s .offsets), length-column 8 (map unsignedOf (s .deltas)), length-map (s .deltas) unsignedOf)
+    simp (length-append, length-bytesOf)
+    (omega (arith, length-column 8 (s .offsets), length-column 8 (map unsignedOf (s .deltas)), length-map (s .deltas) unsignedOf))
 
 -- a set of few rows and few entries
 abbrev pub FewEdges : EdgeSet → Type 0
@@ -61,28 +62,28 @@ FewEdges s = (length (s .offsets) ≤ kinds * maxRecords + 1) × (length (s .del
 pub short-edges : (f : File) → FewEdges (f .forward) → FewEdges (f .reverse) → FewEdges (f .inbound) → Short (edgesBytes f)
 unfolding edgesBytes
 short-edges f a b c =
-    omega (arith, length-append (setBytes (f .forward)) (setBytes (f .reverse) ++ setBytes (f .inbound)), length-append (setBytes (f .reverse)) (setBytes (f .inbound)),
-      length-set (f .forward), length-set (f .reverse), length-set (f .inbound))
+    simp length-append (omega (arith, length-set (f .forward), length-set (f .reverse), length-set (f .inbound)))
 
 -- ── covers ───────────────────────────────────────────────────────────────────────────────────
 
 wide-range : (r : Range) → length (rangeBytes r) ≡ 12
 unfolding rangeBytes
-wide-range r =
-    omega (arith, length-append (bytesOf 4 (r .chain)) (bytesOf 4 (r .least) ++ bytesOf 4 (r .greatest)), length-append (bytesOf 4 (r .least)) (bytesOf 4 (r .greatest)),
-      length-bytesOf 4 (r .chain), length-bytesOf 4 (r .least), length-bytesOf 4 (r .greatest))
+wide-range r = simp (length-append, length-bytesOf)
 
 length-links : (c : LinkColumns) → LinksFit c → length (linksBytes c) ≡ 4 + 16 * length (c .fromChains)
 unfolding linksBytes
 length-links c h =
-    simp (length-append, length-bytesOf) (rw (length-column 4 (c .fromChains), length-column 4 (c .fromSeqs), length-column 4 (c .toChains), length-column 4 (c .toSeqs), h .second, h .third, h .fourth) (four (length (c .fromChains))))
+    simp (length-append, length-bytesOf)
+    (rw (length-column 4 (c .fromChains), length-column 4 (c .fromSeqs), length-column 4 (c .toChains), length-column 4 (c .toSeqs), h .second, h .third, h .fourth)
+      (four (length (c .fromChains))))
   where
     four : (n : ℕ) → 4 + (4 * n + (4 * n + (4 * n + 4 * n))) ≡ 4 + 16 * n
     four n = omega arith
 
-pub short-cover : (c : CoverColumns) → LinksFit (c .links) → length (c .labels .chains) ≤ maxRecords → length (c .labels .seqs) ≤ maxRecords → length (c .ranges) ≤ maxRecords
-    → length (c .links .fromChains) ≤ maxRecords → Short (coverBytes c)
+pub short-cover : (c : CoverColumns) → LinksFit (c .links) → length (c .labels .chains) ≤ maxRecords → length (c .labels .seqs) ≤ maxRecords
+    → length (c .ranges) ≤ maxRecords → length (c .links .fromChains) ≤ maxRecords → Short (coverBytes c)
 unfolding coverBytes
 short-cover c h a b d e =
     simp (length-append, length-bytesOf)
-    (omega (arith, length-column 4 (c .labels .chains), length-column 4 (c .labels .seqs), length-blocks rangeBytes 12 wide-range (c .ranges), length-links (c .links) h))
+    (omega (arith, length-column 4 (c .labels .chains), length-column 4 (c .labels .seqs), length-blocks rangeBytes 12 wide-range (c .ranges),
+      length-links (c .links) h))

@@ -19,7 +19,7 @@ use Rattle.columns.proofs.Turned.{each-table}
 use Rattle.run.specs.Summary.{Summary}
 use Rattle.run.specs.Writing.{Numbered, numbered, groupIs, Edge, edgesInto, edgesOf, inboundColumns}
 use Rattle.run.proofs.Good.{GoodLists, Good}
-use Rattle.run.proofs.Filters.{each-filter, filter-append}
+use Rattle.lists.proofs.Filters.{each-filter, filter-append}
 use Rattle.run.proofs.Numbers.{Counted, numbered-counted, lists-numbered, counted-within}
 use Rattle.run.proofs.Groups.{others-not-mem}
 use Rattle.run.proofs.Inbound.{edge}

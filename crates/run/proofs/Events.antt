@@ -17,7 +17,7 @@ use Rattle.archive.specs.File.{Row}
 use Rattle.run.specs.Source.{Source, endOf}
 use Rattle.run.specs.Archive.{Taken, Event, eventsFrom, startOf, archiveOf, blank, at, parentsOf}
 use Rattle.run.specs.Routes.{AllBelow, Valid}
-use Rattle.run.proofs.From.{EachFrom, from-eq, from-append, from-getD}
+use Rattle.lists.proofs.From.{EachFrom, from-eq, from-append, from-getD}
 use Rattle.run.proofs.Sides.{SlotBelow}
 use Rattle.run.proofs.Taken.{Sound, Followed}
 

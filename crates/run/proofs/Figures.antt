@@ -18,7 +18,7 @@ use Rattle.columns.specs.Limits.{end64}
 use Rattle.archive.specs.File.{Row, Unresolved}
 use Rattle.run.specs.Source.{Source, endOf}
 use Rattle.run.specs.Archive.{Taken, Event, Reference, referencesIn, bodyOf, eventsFrom, startOf}
-use Rattle.run.proofs.Sums.{sum-ext, sum-le, sum-both, sum-flat}
+use Rattle.lists.proofs.Sums.{sum-ext, sum-le, sum-both, sum-flat}
 use Rattle.run.proofs.Taken.{FollowsLast, Followed}
 use Rattle.run.proofs.Events.{eventsIn, length-eventsIn}
 use Rattle.run.proofs.Kept.{groupNumber, level-lower}

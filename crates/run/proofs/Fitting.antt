@@ -22,9 +22,9 @@ use Rattle.archive.specs.Fits.{Wide, DepthFits, UnresolvedFits, RootFits, Links
 use Rattle.run.specs.Source.{SourceCover, Source, coverRead, sourceOf, linkCount}
 use Rattle.run.specs.Taking.{total, groupCount, storedRanges, storedLinkCount, overRecords, coverRules, fileRules, filesRules}
 use Rattle.run.proofs.Good.{LinkFits}
-use Rattle.run.proofs.Rules.{each-none, passed}
+use Rattle.columns.proofs.FirstBroken.{each-none, passed}
 use Rattle.run.proofs.Taken.{cover-rules}
-use Rattle.run.proofs.Sums.{sum-map, sum-ext}
+use Rattle.lists.proofs.Sums.{sum-map, sum-ext}
 
 abbrev pub LabelFits : Label → Type 0
 LabelFits l = (l .chain < 2 ^ 32) × (l .seq < 2 ^ 32)

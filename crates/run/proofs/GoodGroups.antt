@@ -20,7 +20,7 @@ use Rattle.run.specs.Source.{SourceCover, Source, linkCount}
 use Rattle.run.specs.Archive.{Group, linksIn, groupOf, joinDepth, joinLinks, joinGroup, joinAt, addSource, groupsOf}
 use Rattle.run.specs.Summary.{sorted, groupSummary}
 use Rattle.run.proofs.Good.{LinkFits, GoodLinks, GoodGroup, linkNumber}
-use Rattle.run.proofs.Sums.{sum-map, sum-le}
+use Rattle.lists.proofs.Sums.{sum-map, sum-le}
 use Rattle.run.proofs.Taken.{Sound}
 use Rattle.run.proofs.Fitting.{CoverFitting, Fitting}
 

@@ -18,7 +18,7 @@ use Rattle.columns.specs.Building.{inFile}
 use Rattle.run.specs.Summary.{Summary}
 use Rattle.run.specs.Writing.{Numbered, numbered, groupIs, rowsIn, Edge, edgesInto, edgesOf}
 use Rattle.run.proofs.Good.{GoodLists, Good}
-use Rattle.run.proofs.Filters.{each-filter, filter-passes}
+use Rattle.lists.proofs.Filters.{each-filter, filter-passes}
 use Rattle.run.proofs.Numbers.{lists-numbered, counted-within}
 use Rattle.run.proofs.Blocks.{GoodRow, rowsBefore, all-rows, rows-counted, before-next, rows-good}
 

@@ -17,7 +17,7 @@ use Rattle.run.specs.Memo.{tables}
 use Rattle.run.specs.Resolving.{resolveRules}
 use Rattle.run.specs.Step.{Call, takes, resolves, writes, State, taking, resolved, spoiled, Outcome, takeMore, resolveBy, resolve, step}
 use Rattle.run.specs.History.{did, history, filesIn, took}
-use Rattle.run.proofs.Rules.{each-none}
+use Rattle.columns.proofs.FirstBroken.{each-none}
 use Rattle.run.proofs.Taken.{Followed, taken-followed, followed-append}
 
 -- the state of a run whose accepted takings have given the sources ss

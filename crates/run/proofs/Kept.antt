@@ -18,8 +18,8 @@ use Rattle.run.specs.Archive.{Body, Event, Archive, blank, at}
 use Rattle.run.specs.Cleaning.{survivorsFrom, survivors}
 use Rattle.run.specs.Summary.{keptBy, summary}
 use Rattle.run.specs.Resolving.{survivesIn, groupsSurvive}
-use Rattle.run.proofs.Filters.{each-filter}
-use Rattle.run.proofs.Sums.{sum-map, sum-filter}
+use Rattle.lists.proofs.Filters.{each-filter}
+use Rattle.lists.proofs.Sums.{sum-map, sum-filter}
 use Rattle.run.proofs.Survivors.{Survives, getD-past, survive-from}
 
 -- the events that are not erased

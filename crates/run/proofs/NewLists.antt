@@ -20,7 +20,7 @@ use Rattle.run.proofs.Good.{GoodLists, RowsFrom}
 use Rattle.run.proofs.Survivors.{Within, within, map-renumber-survivors}
 use Rattle.run.proofs.Table.{listOf, memo-right}
 use Rattle.run.proofs.New.{new-once, new-distinct, new-below}
-use Rattle.run.proofs.Sums.{sum-map, sum-ext, sum-both}
+use Rattle.lists.proofs.Sums.{sum-map, sum-ext, sum-both}
 
 -- ── rows and their numbers ───────────────────────────────────────────────────────────────────
 

@@ -12,8 +12,6 @@ use lib.Dec.{ltb, eqb}
 use lib.ListN.{length, length-append, length-map}
 use Rattle.lists.specs.Lists.{flat, sum, add, mem}
 use Rattle.lists.proofs.Tests.{tested, both}
-use Rattle.lists.proofs.Each.{each-imp, each-all}
-use Rattle.lists.proofs.Pairs.{each-upFrom}
 use Rattle.lists.proofs.Once.{add-there, add-new}
 use Rattle.lists.proofs.Flat.{length-flat, length-joined}
 use Rattle.columns.specs.EdgeSet.{setOf}
@@ -29,11 +27,12 @@ use Rattle.run.specs.Archive.{Group}
 use Rattle.run.specs.Summary.{Kept, Summary}
 use Rattle.run.specs.Writing.{Numbered, numbered, rowsIn, unresolvedOf, rootOf, rootsFrom, labelList, labelsIn, noGroup, groupAt, coverOfGroup, fileOfRows, outputOf, outputs, groupNumbers}
 use Rattle.run.proofs.Good.{GoodLinks, linkNumber, Good}
-use Rattle.run.proofs.Filters.{map-places}
+use Rattle.lists.proofs.Filters.{each-below, map-places}
 use Rattle.run.proofs.Numbers.{sum-numbered}
 use Rattle.run.proofs.Blocks.{all-rows}
 use Rattle.run.proofs.OutputSets.{setsOf, output-sets}
-use Rattle.run.proofs.Sums.{sum-map, sum-flat, sum-le, sum-ext}
+use Rattle.lists.proofs.Counting.{sum-equal}
+use Rattle.lists.proofs.Sums.{sum-map, sum-flat, sum-le}
 
 -- ── records of some rows ─────────────────────────────────────────────────────────────────────
 
@@ -88,10 +87,12 @@ pub references-counted : (rs : List Numbered) → length (flat unresolvedOf rs) 
 unfolding unresolvedOf
 references-counted rs =
     length-flat unresolvedOf rs
-    ∙ sum-ext (λ r. length (unresolvedOf r)) (λ r. length (r .row .body .unresolved)) rs (each-all _ (λ r. length-map (r .row .body .unresolved) _) rs)
+    ∙ sum-equal (λ r. length (unresolvedOf r)) (λ r. length (r .row .body .unresolved)) (λ r. length-map (r .row .body .unresolved) _) rs
 
 add-few : (s : List ℕ) (x : ℕ) → length (add s x) ≤ suc (length s)
-add-few s x = elim (tested (mem x s)) [ inl e ↦ rw (add-there s x e) (omega arith) | inr e ↦ rw (add-new s x e) (omega (arith, length-append s (x ∷ []))) ]
+add-few s x = elim (tested (mem x s)) [
+    inl e ↦ rw (add-there s x e) (omega arith)
+  | inr e ↦ rw (add-new s x e) (omega (arith, length-append s (x ∷ []))) ]
 
 pub once-few : (s xs : List ℕ) → length (foldl add s xs) ≤ length s + length xs
 once-few s [] = omega arith
@@ -105,13 +106,14 @@ length-deltas first lists = set-count first lists ∙ length-joined lists
 
 module _ (S : Summary) (good : Good S) where
   -- a figure over the files, group by group
-  pub files-sum : (f : File → ℕ) (h : ℕ → ℕ) → ((g : ℕ) → g < length (S .groups) → f (fileOfRows (S .subject) g (groupAt S g) (rowsIn S g) (setsOf S g)) ≤ h g)
+  pub files-sum : (f : File → ℕ) (h : ℕ → ℕ)
+      → ((g : ℕ) → g < length (S .groups) → f (fileOfRows (S .subject) g (groupAt S g) (rowsIn S g) (setsOf S g)) ≤ h g)
       → sum f (outputs S) ≤ sum h (groupNumbers S)
   unfolding outputs
   files-sum f h b =
       omega (arith, sum-map f (outputOf S) (groupNumbers S),
         sum-le (λ g. f (outputOf S g)) h (groupNumbers S)
-        (each-imp (λ g. (0 ≤ g) × (g < 0 + length (S .groups))) (λ g. f (outputOf S g) ≤ h g) (groupNumbers S) (λ g w. rw (output-sets S good g) (b g (omega arith))) (each-upFrom 0 (length (S .groups)))))
+        (each-below (λ g. f (outputOf S g) ≤ h g) (length (S .groups)) (λ g l. rw (output-sets S good g) (b g l))))
 
   -- nothing is taken before them
   pub within : (limit : ℕ) (before : Source → ℕ) (f : File → ℕ) → sum f (outputs S) ≤ limit → ltb limit (total before f [] (outputs S)) ≡ false

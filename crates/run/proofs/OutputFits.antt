@@ -6,16 +6,15 @@ use mathlib.Core.List.{List, [], map}
 use Prim.Native.Nat.{ℕ, zero, suc, _+_, _*_, _≤_, _<_, _^_}
 use native.Mathlib.Omega.{arith}
 use borrow.Author.Tests.{leb-true, eqb-true, eqb-false}
-use lib.Dec.{ltb, leb, eqb}
+use lib.Dec.{ltb, eqb}
 use lib.ListN.{length, length-map}
 use Rattle.lists.specs.Lists.{flat, all, sum, upFrom, Each}
 use Rattle.lists.proofs.Tests.{tested, both, all-each}
-use Rattle.lists.proofs.Each.{each-imp, each-map, each-flat, each-both, each-getD}
-use Rattle.lists.proofs.Pairs.{each-upFrom}
+use Rattle.lists.proofs.Each.{each-imp, each-map, each-both, each-getD}
 use Rattle.lists.proofs.Flat.{length-starts}
 use Rattle.columns.specs.Limits.{kinds, maxRecords, maxNumbers, maxSubject}
 use Rattle.columns.specs.EdgeSet.{setOf}
-use Rattle.columns.specs.Building.{subjectOk, granuleStart, deltasFit, forwardPart, reversePart, inboundPart}
+use Rattle.columns.specs.Building.{Graph, subjectOk, granuleStart, deltasFit, forwardPart, reversePart, inboundPart}
 use Rattle.archive.specs.File.{File}
 use Rattle.archive.specs.Fits.{UnresolvedFits, SetFits, FileFits}
 use Rattle.run.specs.Taking.{storedRanges, storedLinkCount}
@@ -23,15 +22,15 @@ use Rattle.run.specs.Summary.{Summary}
 use Rattle.run.specs.Writing.{Numbered, rowsIn, unresolvedOf, rootsFrom, graphOf, groupAt, noGroup, fileOfRows, outputOf, outputs, groupNumbers}
 use Rattle.run.specs.Accepted.{spansFit}
 use Rattle.run.proofs.Good.{GoodGroup, GoodLabel, GoodRoot, Good}
-use Rattle.run.proofs.Numbers.{counted-within}
-use Rattle.run.proofs.Blocks.{GoodRow, rowsBefore, rows-counted, rows-first, rows-good}
-use Rattle.run.proofs.Outputs.{rowOf}
+use Rattle.lists.proofs.Filters.{each-below}
+use Rattle.run.proofs.Blocks.{GoodRow, rowsBefore, rows-counted, before-within, rows-good}
+use Rattle.run.proofs.Outputs.{rowOf, references-each}
 use Rattle.run.proofs.OutputSides.{firstOf, end-within}
 use Rattle.run.proofs.OutputSets.{forwardOf, reverseOf, inboundOf, setsOf, forward-full, reverse-full, inbound-full, parts-forward, parts-reverse, parts-inbound, starts-first, output-sets}
 use Rattle.run.proofs.OutputLimits.{few-events, few-roots, few-unresolved, few-ranges, few-links, few-forward, few-reverse, few-inbound}
 use Rattle.run.proofs.ByteLengths.{FewEdges, short-rows, short-unresolved, short-roots, short-edges}
 use Rattle.run.proofs.RecordFits.{set-fits, references-ordered, roots-ordered, roots-fit, cover-fits}
-use Rattle.run.proofs.Sums.{sum-map}
+use Rattle.lists.proofs.Sums.{sum-map}
 
 -- one figure is at most the sum of all
 sum-has : (f : ℕ → ℕ) (i n g : ℕ) → i ≤ g → g < i + n → f g ≤ sum f (upFrom i n)
@@ -68,13 +67,13 @@ module _ (S : Summary) (good : Good S) (g : ℕ) (l : g < length (S .groups)) wh
 
   -- ── sets ───────────────────────────────────────────────────────────────────────────────────
 
-  set-fits-here : (lists : List (List ℕ)) → length lists ≡ kinds * length rs → length (setOf (firstOf S g) lists .deltas) ≤ maxNumbers → deltasFit (firstOf S g) lists ≡ true
-      → SetFits (length (map rowOf rs)) (setOf (firstOf S g) lists)
-  set-fits-here lists full few fit = set-fits (firstOf S g) (length (map rowOf rs)) lists (omega (arith, full, row-number)) few fit
+  module _ (lists : List (List ℕ)) (full : length lists ≡ kinds * length rs) (few : length (setOf (firstOf S g) lists .deltas) ≤ maxNumbers) where
+    set-here : deltasFit (firstOf S g) lists ≡ true → SetFits (length (map rowOf rs)) (setOf (firstOf S g) lists)
+    set-here fit = set-fits (firstOf S g) (length (map rowOf rs)) lists (omega (arith, full, row-number)) few fit
 
-  few-here : (lists : List (List ℕ)) → length lists ≡ kinds * length rs → length (setOf (firstOf S g) lists .deltas) ≤ maxNumbers → FewEdges (setOf (firstOf S g) lists)
-  unfolding setOf
-  few-here lists full few = (omega (arith, length-starts 0 lists, row-number, few-rows), few)
+    few-here : FewEdges (setOf (firstOf S g) lists)
+    unfolding setOf
+    few-here = (omega (arith, length-starts 0 lists, row-number, few-rows), few)
 
   forward-few : length (setOf (firstOf S g) (forwardOf S g) .deltas) ≤ maxNumbers
   forward-few = one-file maxNumbers (λ f. length (f .forward .deltas)) (few-forward S good)
@@ -86,25 +85,23 @@ module _ (S : Summary) (good : Good S) (g : ℕ) (l : g < length (S .groups)) wh
   inbound-few = one-file maxNumbers (λ f. length (f .inbound .deltas)) (few-inbound S good)
 
   -- 15 passes the three sets
-  spans : spansFit (graphOf S g) ≡ true → (deltasFit (firstOf S g) (forwardOf S g) ≡ true) × (deltasFit (firstOf S g) (reverseOf S g) ≡ true) × (deltasFit (firstOf S g) (inboundOf S g) ≡ true)
+  abbrev fit : List (List ℕ) → Type 0
+  fit lists = deltasFit (firstOf S g) lists ≡ true
+
+  spans : spansFit (graphOf S g) ≡ true → fit (forwardOf S g) × fit (reverseOf S g) × fit (inboundOf S g)
   unfolding spansFit
   spans h =
-      let p = both (deltasFit (granuleStart (graphOf S g)) (forwardPart (graphOf S g))) _ h in
-      let q = both (deltasFit (granuleStart (graphOf S g)) (reversePart (graphOf S g))) (deltasFit (granuleStart (graphOf S g)) (inboundPart (graphOf S g))) (p .1) in
-      (rw (starts-first S good g, parts-forward S good g) at (p .0), rw (starts-first S good g, parts-reverse S good g) at (q .0), rw (starts-first S good g, parts-inbound S good g) at (q .1))
+      let G : Graph = graphOf S g in
+      let start = starts-first S good g in
+      let p = both (deltasFit (granuleStart G) (forwardPart G)) _ h in
+      let q = both (deltasFit (granuleStart G) (reversePart G)) (deltasFit (granuleStart G) (inboundPart G)) (p .1) in
+      (rw (start, parts-forward S good g) at (p .0), rw (start, parts-reverse S good g) at (q .0), rw (start, parts-inbound S good g) at (q .1))
 
   -- ── records ────────────────────────────────────────────────────────────────────────────────
 
   references-fit : Each UnresolvedFits (flat unresolvedOf rs)
-  unfolding unresolvedOf
   references-fit =
-      let n = S .start + rowsBefore S g in
-      each-flat UnresolvedFits unresolvedOf rs
-      (each-imp (λ r. GoodRow S g r × ((n ≤ r .number) × (r .number < n + length rs))) (λ r. Each UnresolvedFits (unresolvedOf r)) rs
-        (λ r h. each-map UnresolvedFits _ (r .row .body .unresolved)
-          (each-imp (λ u. (u .kind < kinds) × (u .handle < 2 ^ 32)) _ (r .row .body .unresolved)
-            (λ u k. (omega (arith, rows-first S good g l, end-within S good g l, good .numbers), omega arith, k .1)) (h .0 .body .unresolved)))
-        (each-both (GoodRow S g) (λ r. (n ≤ r .number) × (r .number < n + length rs)) rs (rows-good S good g) (counted-within n rs (rows-counted S good g l))))
+      references-each S good g UnresolvedFits l (λ u low high kind handle. (omega (arith, before-within S good (suc g) l, good .numbers), omega arith, handle))
 
   rows-have : (P : Numbered → Type 0) → ((r : Numbered) → GoodRow S g r → P r) → Each P rs
   rows-have P f = each-imp (GoodRow S g) P rs f (rows-good S good g)
@@ -115,12 +112,12 @@ module _ (S : Summary) (good : Good S) (g : ℕ) (l : g < length (S .groups)) wh
       first = omega (arith, end-within S good g l, good .numbers);
       rowCount = omega (arith, few-rows);
       group = omega (arith, good .groupCount);
-      subject = omega (arith, leb-true (length (S .subject)) maxSubject (both (ltb 0 (length (S .subject))) (leb (length (S .subject)) maxSubject) (good .subject) .1));
+      subject = omega (arith, leb-true (length (S .subject)) maxSubject (both (ltb 0 (length (S .subject))) _ (good .subject) .1));
       subjectBytes = good .subjectBytes;
       depth = this-group .1;
-      forward = set-fits-here (forwardOf S g) (forward-full S good g) forward-few (spans h .0);
-      reverse = set-fits-here (reverseOf S g) (reverse-full S good g) reverse-few (spans h .1);
-      inbound = set-fits-here (inboundOf S g) (inbound-full S good g) inbound-few (spans h .2);
+      forward = set-here (forwardOf S g) (forward-full S good g) forward-few (spans h .0);
+      reverse = set-here (reverseOf S g) (reverse-full S good g) reverse-few (spans h .1);
+      inbound = set-here (inboundOf S g) (inbound-full S good g) inbound-few (spans h .2);
       tags = each-map (λ r. r .tag < 256 ^ 8) rowOf rs (rows-have (λ r. r .row .body .tag < 256 ^ 8) (λ r k. k .body .tag));
       unresolvedCount = omega (arith, few-references);
       unresolved = references-fit;
@@ -131,7 +128,8 @@ module _ (S : Summary) (good : Good S) (g : ℕ) (l : g < length (S .groups)) wh
       cover = cover-fits ((groupAt S g) .links) rs (length (map rowOf rs)) (sym row-number) few-rows (this-group .2)
         (one-file maxRecords (λ f. storedRanges (f .cover)) (few-ranges S good)) (one-file maxRecords (λ f. storedLinkCount (f .cover)) (few-links S good))
         (rows-have (λ r. GoodLabel ((groupAt S g) .links) (r .row .body .label)) (λ r k. rw (k .group) at (k .body .label)));
-      edgesShort = short-edges file (few-here (forwardOf S g) (forward-full S good g) forward-few) (few-here (reverseOf S g) (reverse-full S good g) reverse-few) (few-here (inboundOf S g) (inbound-full S good g) inbound-few);
+      edgesShort = short-edges file (few-here (forwardOf S g) (forward-full S good g) forward-few)
+        (few-here (reverseOf S g) (reverse-full S good g) reverse-few) (few-here (inboundOf S g) (inbound-full S good g) inbound-few);
       rowsShort = short-rows (map rowOf rs) few-rows;
       unresolvedShort = short-unresolved (flat unresolvedOf rs) few-references;
       rootsShort = short-roots (rootsFrom 0 rs) few-roots-here }
@@ -145,6 +143,8 @@ module _ (S : Summary) (good : Good S) (g : ℕ) (l : g < length (S .groups)) wh
 pub files-fit : (S : Summary) → Good S → all (λ g. spansFit (graphOf S g)) (groupNumbers S) ≡ true → Each FileFits (outputs S)
 unfolding outputs
 files-fit S good h =
+    let fit : ℕ → Type 0 = λ g. spansFit (graphOf S g) ≡ true in
     each-map FileFits (outputOf S) (groupNumbers S)
-    (each-imp (λ g. ((0 ≤ g) × (g < 0 + length (S .groups))) × (spansFit (graphOf S g) ≡ true)) (λ g. FileFits (outputOf S g)) (groupNumbers S) (λ g w. file-fits S good g (omega arith) (w .1))
-      (each-both (λ g. (0 ≤ g) × (g < 0 + length (S .groups))) (λ g. spansFit (graphOf S g) ≡ true) (groupNumbers S) (each-upFrom 0 (length (S .groups))) (all-each (λ g. spansFit (graphOf S g)) (groupNumbers S) h)))
+    (each-imp (λ g. (g < length (S .groups)) × fit g) (λ g. FileFits (outputOf S g)) (groupNumbers S) (λ g w. file-fits S good g (w .0) (w .1))
+      (each-both (λ g. g < length (S .groups)) fit (groupNumbers S) (each-below (λ g. g < length (S .groups)) (length (S .groups)) (λ g l. l))
+        (all-each (λ g. spansFit (graphOf S g)) (groupNumbers S) h)))

@@ -1,31 +1,30 @@
 -- An output file by itself and after the one before it: no rule of a taking's files refuses it.
-use mathlib.Core.Path.{_≡_, refl, ap, sym, _∙_}
+use mathlib.Core.Path.{_≡_, refl, ap}
 use mathlib.Core.Bool.{Bool, true, or-true}
 use mathlib.Core.List.{List, [], _∷_, map}
 use mathlib.Core.Option.{Option, none, some}
-use Prim.Native.Nat.{ℕ, zero, suc, _+_, _^_, _≤_, _<_}
+use Prim.Native.Nat.{ℕ, zero, suc, _+_, _≤_, _<_}
 use native.Mathlib.Omega.{arith}
 use borrow.Author.Tests.{lt-ltb, le-leb, eq-eqb, ne-eqb}
 use lib.Dec.{ltb, eqb}
 use lib.ListN.{length, length-map}
 use Rattle.lists.specs.Lists.{flat, all, same, upFrom, Each}
-use Rattle.lists.proofs.Each.{each-imp, each-both, each-map, each-append, each-flat, each-getD}
+use Rattle.lists.proofs.Each.{each-imp, each-append, each-getD}
 use Rattle.columns.specs.Limits.{kinds, end64}
 use Rattle.columns.specs.Building.{numbersOk, inFile, Built}
 use Rattle.columns.specs.declared.refusal.Refusal.the-variants.{SubjectLength, NumberRange, DepthOrder, RootOutside, GroupOrder, SourceOrder, CoverInSome, CoverForm}
 use Rattle.cover.specs.Chains.{Link}
 use Rattle.cover.specs.Cover.{rangeRules, linkRules}
 use Rattle.cover.proofs.Stored.{stored-ok, ranges-ok}
-use Rattle.archive.specs.File.{Unresolved, File}
+use Rattle.archive.specs.File.{Root, Unresolved, File}
 use Rattle.run.specs.Source.{Source, sourceOf}
 use Rattle.run.specs.Taking.{groupFollows, sourceFollows, coverFollows, fileEnd, unresolvedRules, coverRules, fileRules, filesRules}
 use Rattle.run.specs.Summary.{Summary}
-use Rattle.run.specs.Writing.{Numbered, rowsIn, firstNumber, unresolvedOf, rootOf, rootsFrom, labelsIn, groupAt, coverOfGroup, fileOfRows, outputOf, outputs}
+use Rattle.run.specs.Writing.{Numbered, rowsIn, unresolvedOf, rootOf, rootsFrom, labelsIn, groupAt, coverOfGroup, fileOfRows, outputOf, outputs}
 use Rattle.run.proofs.Good.{GoodLinks, GoodGroup, Good}
-use Rattle.run.proofs.Rules.{none-of, none-in, passes}
-use Rattle.run.proofs.Numbers.{counted-within}
-use Rattle.run.proofs.Blocks.{GoodRow, rowsBefore, rows-counted, rows-first, rows-good}
-use Rattle.run.proofs.Outputs.{rowOf}
+use Rattle.columns.proofs.FirstBroken.{none-of, none-in, passes}
+use Rattle.run.proofs.Blocks.{rows-first}
+use Rattle.run.proofs.Outputs.{rowOf, references-each}
 use Rattle.run.proofs.OutputSides.{firstOf, endOf, end-next, end-within}
 use Rattle.run.proofs.OutputSets.{setsOf, output-sets, forward-rules, reverse-rules, inbound-rules}
 
@@ -46,7 +45,8 @@ unfolding rootsFrom
 roots-within i [] = tt
 roots-within i (r ∷ rs) =
     each-append _ (rootOf i (r .row .body .root)) (rootsFrom (suc i) rs) (one (r .row .body .root))
-    (each-imp (λ r. (suc i ≤ r .row) × (r .row < suc i + length rs)) (λ r. (i ≤ r .row) × (r .row < i + suc (length rs))) (rootsFrom (suc i) rs) (λ r w. (omega arith, omega arith)) (roots-within (suc i) rs))
+    (each-imp (λ r. (suc i ≤ r .row) × (r .row < suc i + length rs)) (λ r. (i ≤ r .row) × (r .row < i + suc (length rs))) (rootsFrom (suc i) rs)
+      (λ r w. (omega arith, omega arith)) (roots-within (suc i) rs))
   where
     one : (o : Option ℕ) → Each (λ r. (i ≤ r .row) × (r .row < i + suc (length rs))) (rootOf i o)
     one none = tt
@@ -55,7 +55,8 @@ roots-within i (r ∷ rs) =
 -- 6 and 7 of an unresolved record
 record-passes : (f : File) (u : Unresolved) → f .first ≤ u .child → u .child < fileEnd f → u .kind < kinds → unresolvedRules f u ≡ none
 unfolding unresolvedRules inFile
-record-passes f u a b k = rw (le-leb (f .first) (u .child) a, lt-ltb (u .child) (fileEnd f) b, lt-ltb (u .kind) kinds k) (none-of _ (refl, (refl, tt)))
+record-passes f u a b k =
+    rw (le-leb (f .first) (u .child) a, lt-ltb (u .child) (fileEnd f) b, lt-ltb (u .kind) kinds k) (none-of _ (refl, (refl, tt)))
 
 cover-passes : (links : Option (List Link)) (rs : List Numbered) → GoodLinks links → coverRules (coverOfGroup links rs) ≡ none
 unfolding rangeRules linkRules
@@ -77,9 +78,10 @@ module _ (S : Summary) (good : Good S) where
   looks-back zero b l = (refl, refl, refl)
   looks-back (suc g) b l =
       let before : g < length (S .groups) = omega arith in
-      let end : endOf S g ≡ firstNumber (rowsIn S (suc g)) = end-next S good g before ∙ sym (rows-first S good (suc g) l) in
+      let first : firstOf S (suc g) ≡ firstOf S g + length (map rowOf (rowsIn S g)) =
+            omega (arith, end-next S good g before, rows-first S good (suc g) l, length-map (rowsIn S g) rowOf) in
       (rw (eq-eqb (suc g) (g + 1) (omega arith)) (or-true (eqb (suc g) g)),
-        rw (same-self (S .subject)) (eq-eqb (firstNumber (rowsIn S (suc g))) _ (sym end ∙ ap (λ n. firstNumber (rowsIn S g) + n) (sym (length-map (rowsIn S g) rowOf)))),
+        rw (same-self (S .subject)) (eq-eqb (firstOf S (suc g)) (firstOf S g + length (map rowOf (rowsIn S g))) first),
         rw (ne-eqb (suc g) g (omega arith)))
 
   module _ (g : ℕ) (l : g < length (S .groups)) where
@@ -87,16 +89,9 @@ module _ (S : Summary) (good : Good S) where
     this-group = each-getD GoodGroup (S .groups) g _ (good .groups) l
 
     records-pass : (f : File) → f .first ≡ firstOf S g → fileEnd f ≡ endOf S g → Each (λ u. unresolvedRules f u ≡ none) (flat unresolvedOf (rowsIn S g))
-    unfolding unresolvedOf
     records-pass f a b =
-        let n = S .start + rowsBefore S g in
-        each-flat (λ u. unresolvedRules f u ≡ none) unresolvedOf (rowsIn S g)
-        (each-imp (λ r. GoodRow S g r × ((n ≤ r .number) × (r .number < n + length (rowsIn S g)))) (λ r. Each (λ u. unresolvedRules f u ≡ none) (unresolvedOf r)) (rowsIn S g)
-          (λ r h. each-map (λ u. unresolvedRules f u ≡ none) _ (r .row .body .unresolved)
-            (each-imp (λ u. (u .kind < kinds) × (u .handle < 2 ^ 32)) _ (r .row .body .unresolved)
-              (λ u k. record-passes f _ (omega (arith, rows-first S good g l)) (omega (arith, rows-first S good g l)) (k .0))
-              (h .0 .body .unresolved)))
-          (each-both (GoodRow S g) (λ r. (n ≤ r .number) × (r .number < n + length (rowsIn S g))) (rowsIn S g) (rows-good S good g) (counted-within n (rowsIn S g) (rows-counted S good g l))))
+        references-each S good g (λ u. unresolvedRules f u ≡ none) l
+        (λ u low high kind handle. record-passes f u (omega (arith, rows-first S good g l)) (omega (arith, end-next S good g l)) kind)
 
     file-rules : fileRules (prior S g) (outputOf S g) ≡ none
     unfolding fileRules numbersOk
@@ -104,9 +99,11 @@ module _ (S : Summary) (good : Good S) where
         let n : length (map rowOf (rowsIn S g)) ≡ length (rowsIn S g) = length-map (rowsIn S g) rowOf in
         let numbers : numbersOk (firstOf S g) (length (map rowOf (rowsIn S g))) ≡ true =
               lt-ltb (firstOf S g + length (map rowOf (rowsIn S g))) end64 (omega (arith, n, end-within S good g l, good .numbers)) in
-        let roots : all (λ r. ltb (r .row) (length (map rowOf (rowsIn S g)))) (rootsFrom 0 (rowsIn S g)) ≡ true =
-              all-of (λ r. ltb (r .row) (length (map rowOf (rowsIn S g)))) (rootsFrom 0 (rowsIn S g))
-              (each-imp (λ r. (0 ≤ r .row) × (r .row < 0 + length (rowsIn S g))) _ (rootsFrom 0 (rowsIn S g)) (λ r w. lt-ltb (r .row) (length (map rowOf (rowsIn S g))) (omega (arith, n))) (roots-within 0 (rowsIn S g))) in
+        let inside : Root → Bool = λ r. ltb (r .row) (length (map rowOf (rowsIn S g))) in
+        let roots : all inside (rootsFrom 0 (rowsIn S g)) ≡ true =
+              all-of inside (rootsFrom 0 (rowsIn S g))
+              (each-imp (λ r. (0 ≤ r .row) × (r .row < 0 + length (rowsIn S g))) (λ r. inside r ≡ true) (rootsFrom 0 (rowsIn S g))
+                (λ r w. lt-ltb (r .row) (length (map rowOf (rowsIn S g))) (omega (arith, n))) (roots-within 0 (rowsIn S g))) in
         let back = looks-back g (setsOf S g) l in
         rw (output-sets S good g) (none-of _
           ( passes SubjectLength _ (good .subject)
@@ -123,7 +120,7 @@ module _ (S : Summary) (good : Good S) where
           , (cover-passes ((groupAt S g) .links) (rowsIn S g) (this-group .2)
           , tt)))))))))))))
 
--- ── all files ────────────────────────────────────────────────────────────────────────────────
+  -- ── all files ────────────────────────────────────────────────────────────────────────────────
 
   files-from : (g m : ℕ) → g + m ≤ length (S .groups) → filesRules (prior S g) (map (outputOf S) (upFrom g m)) ≡ none
   unfolding filesRules upFrom

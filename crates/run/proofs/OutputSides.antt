@@ -22,8 +22,8 @@ use Rattle.columns.proofs.ReadBack.{AllowedFrom}
 use Rattle.run.specs.Summary.{Summary}
 use Rattle.run.specs.Writing.{Numbered, numbered, groupIs, rowsIn, firstNumber, Edge, edgesInto, edgesOf, inboundColumns, slotsOfRows}
 use Rattle.run.proofs.Good.{GoodLists, Good}
-use Rattle.run.proofs.From.{EachFrom, from-eq}
-use Rattle.run.proofs.Filters.{each-filter, filter-passes}
+use Rattle.lists.proofs.From.{EachFrom, from-eq}
+use Rattle.lists.proofs.Filters.{each-filter, filter-passes}
 use Rattle.run.proofs.Numbers.{Counted, numbered-counted, length-numbered, counted-within}
 use Rattle.run.proofs.Blocks.{rowsBefore, rows-first, before-next, before-within}
 
@@ -55,7 +55,8 @@ module _ (first : ℕ) (rs : List Numbered) (counted : Counted first rs) (fits :
       go n (r ∷ xs) c l h =
           let lists = rw (c .0) at (h .0) in
           ((omega arith, lists .each-kind,
-            each-imp (λ ts. Each (λ t. t < n) ts) (OnSide forward (first + length rs) n) (r .row .parents) (λ ts b. below-side (first + length rs) n ts (omega arith) b) (lists .below)),
+            each-imp (λ ts. Each (λ t. t < n) ts) (OnSide forward (first + length rs) n) (r .row .parents)
+              (λ ts b. below-side (first + length rs) n ts (omega arith) b) (lists .below)),
           go (suc n) xs (c .1) (omega arith) (h .1))
 
 -- ── reverse lists ────────────────────────────────────────────────────────────────────────────
@@ -83,7 +84,8 @@ module _ (first rows end : ℕ) (lists : List (List ℕ)) (side : AllowedFrom fo
   unfolding reverseLists naming allowed
   reverse-side u b =
       allowed-table reverse first end (naming first rows lists) rows (omega arith)
-      (λ n k l h j. each-imp (λ e. ((first ≤ e) × (e < first + rows)) × (mem n (listOf first lists k e) ≡ true)) (λ e. (allowed reverse end n e ≡ true) × (e < end64)) (naming first rows lists n k)
+      (λ n k l h j. each-imp (λ e. ((first ≤ e) × (e < first + rows)) × (mem n (listOf first lists k e) ≡ true))
+        (λ e. (allowed reverse end n e ≡ true) × (e < end64)) (naming first rows lists n k)
         (λ e w. let after : n < e = mem-each (λ t. t < e) n (listOf first lists k e) (list-below k e j) (w .1) in
           (rw (lt-ltb n e after) (lt-ltb e end (omega arith)), omega arith))
         (each-both _ _ (naming first rows lists n k)
@@ -154,7 +156,8 @@ module _ (S : Summary) (good : Good S) (g : ℕ) (l : g < length (S .groups)) wh
       (each-imp (λ e. Inbound (firstOf S g) (endOf S g) e × (e .child < end64)) (λ e. (endOf S g ≤ e .child) × (e .child < end64)) edges (λ e h. (h .0 .0, h .1))
         (each-both (Inbound (firstOf S g) (endOf S g)) (λ e. e .child < end64) edges (rw (end-next, rows-first S good g l) (edges-inbound S good g))
           (each-flat (λ e. e .child < end64) (λ r. edgesInto (firstOf S g) (endOf S g) (r .number) 0 (r .row .parents)) (filter other (numbered S))
-            (each-imp (λ r. r .number < end64) _ (filter other (numbered S)) (λ r h. each-edges (λ c. c < end64) (firstOf S g) (endOf S g) (r .number) 0 (r .row .parents) h)
+            (each-imp (λ r. r .number < end64) _ (filter other (numbered S))
+              (λ r h. each-edges (λ c. c < end64) (firstOf S g) (endOf S g) (r .number) 0 (r .row .parents) h)
               (each-filter other (λ r. r .number < end64) (numbered S) numbers)))))
     where
       edges : List Edge
@@ -166,4 +169,5 @@ module _ (S : Summary) (good : Good S) (g : ℕ) (l : g < length (S .groups)) wh
       numbers : Each (λ r. r .number < end64) (numbered S)
       numbers =
           each-imp (λ r. (S .start ≤ r .number) × (r .number < S .start + length (numbered S))) (λ r. r .number < end64) (numbered S)
-          (λ r w. omega (arith, length-numbered (S .start) (S .rows), good .numbers)) (counted-within (S .start) (numbered S) (numbered-counted (S .start) (S .rows)))
+          (λ r w. omega (arith, length-numbered (S .start) (S .rows), good .numbers))
+          (counted-within (S .start) (numbered S) (numbered-counted (S .start) (S .rows)))

@@ -39,27 +39,31 @@ starts-bounded : {A : Type 0} (a : ℕ) (ls : List (List A)) → Each (λ x. x �
 unfolding starts joined
 starts-bounded a [] = (omega arith, tt)
 starts-bounded a (l ∷ ls) =
-    (omega arith, each-imp (λ x. x ≤ a + length l + length (joined ls)) (λ x. x ≤ a + length (l ++ joined ls)) (starts (a + length l) ls) (λ x h. omega (arith, length-append l (joined ls))) (starts-bounded (a + length l) ls))
+    (omega arith, each-imp (λ x. x ≤ a + length l + length (joined ls)) (λ x. x ≤ a + length (l ++ joined ls)) (starts (a + length l) ls)
+      (λ x h. omega (arith, length-append l (joined ls))) (starts-bounded (a + length l) ls))
 
 fits-signed : (d : ℤ) → fits63 d ≡ true → SFits w64 d
 unfolding fits63
 fits-signed (pos n) e = record { sfits = ltb-true n (2 ^ 63) e }
 fits-signed (negsuc n) e = record { sfits = ltb-true n (2 ^ 63) e }
 
-pub set-fits : (first rows : ℕ) (lists : List (List ℕ)) → length lists ≡ kinds * rows → length (setOf first lists .deltas) ≤ maxNumbers → deltasFit first lists ≡ true
-    → SetFits rows (setOf first lists)
+pub set-fits : (first rows : ℕ) (lists : List (List ℕ)) → length lists ≡ kinds * rows → length (setOf first lists .deltas) ≤ maxNumbers
+    → deltasFit first lists ≡ true → SetFits rows (setOf first lists)
 unfolding setOf deltasFit
 set-fits first rows lists full few fit = record {
     slots = omega (arith, length-starts 0 lists);
     counted = sym (set-count first lists);
     count = omega (arith, set-count first lists);
-    offsets = each-imp (λ x. x ≤ 0 + length (joined lists)) (λ x. x < 256 ^ 8) (starts 0 lists) (λ x h. omega (arith, set-count first lists)) (starts-bounded 0 lists);
-    deltas = each-imp (λ d. fits63 d ≡ true) (λ d. SFits w64 d) (joined (deltasFrom first 0 lists)) fits-signed (all-each fits63 (joined (deltasFrom first 0 lists)) fit) }
+    offsets = each-imp (λ x. x ≤ 0 + length (joined lists)) (λ x. x < 256 ^ 8) (starts 0 lists) (λ x h. omega (arith, set-count first lists))
+      (starts-bounded 0 lists);
+    deltas = each-imp (λ d. fits63 d ≡ true) (λ d. SFits w64 d) (joined (deltasFrom first 0 lists)) fits-signed
+      (all-each fits63 (joined (deltasFrom first 0 lists)) fit) }
 
 -- ── unresolved references ────────────────────────────────────────────────────────────────────
 
 -- the same number, as often as may be, and then numbers from it on
-level-same : {A : Type 0} (low n : ℕ) (us : List A) (rest : List ℕ) → low ≤ n → ((m : ℕ) → m ≤ n → levelAbove m rest ≡ true) → levelAbove low (map (λ u. n) us ++ rest) ≡ true
+level-same : {A : Type 0} (low n : ℕ) (us : List A) (rest : List ℕ) → low ≤ n → ((m : ℕ) → m ≤ n → levelAbove m rest ≡ true)
+    → levelAbove low (map (λ u. n) us ++ rest) ≡ true
 unfolding levelAbove
 level-same low n [] rest l h = h low l
 level-same low n (u ∷ us) rest l h = rw (le-leb low n l) (level-same n n us rest (omega arith) h)
@@ -101,7 +105,8 @@ roots-ordered i (r ∷ rs) = go (r .row .body .root) (roots-ordered (suc i) rs)
 pub roots-fit : (i : ℕ) (rs : List Numbered) → i + length rs < 256 ^ 8 → Each (λ r. GoodRoot (r .row .body .root)) rs → Each RootFits (rootsFrom i rs)
 unfolding rootsFrom
 roots-fit i [] l h = tt
-roots-fit i (r ∷ rs) l h = each-append RootFits (rootOf i (r .row .body .root)) (rootsFrom (suc i) rs) (one (r .row .body .root) (h .0)) (roots-fit (suc i) rs (omega arith) (h .1))
+roots-fit i (r ∷ rs) l h =
+    each-append RootFits (rootOf i (r .row .body .root)) (rootsFrom (suc i) rs) (one (r .row .body .root) (h .0)) (roots-fit (suc i) rs (omega arith) (h .1))
   where
     one : (o : Option ℕ) → GoodRoot o → Each RootFits (rootOf i o)
     one none g = tt
@@ -171,8 +176,9 @@ links-fit ls g few = record {
     n : length (columnsOf ls .fromChains) ≡ length ls
     n = length-fromChains ls g
 
-pub cover-fits : (links : Option (List Link)) (rs : List Numbered) (n : ℕ) → length rs ≡ n → n ≤ maxRecords → GoodLinks links → storedRanges (coverOfGroup links rs) ≤ maxRecords
-    → storedLinkCount (coverOfGroup links rs) ≤ maxRecords → Each (λ r. GoodLabel links (r .row .body .label)) rs → CoverFitsIn n (coverOfGroup links rs)
+pub cover-fits : (links : Option (List Link)) (rs : List Numbered) (n : ℕ) → length rs ≡ n → n ≤ maxRecords → GoodLinks links
+    → storedRanges (coverOfGroup links rs) ≤ maxRecords → storedLinkCount (coverOfGroup links rs) ≤ maxRecords
+    → Each (λ r. GoodLabel links (r .row .body .label)) rs → CoverFitsIn n (coverOfGroup links rs)
 unfolding labelColumns
 cover-fits none rs n e few g ranges counted h = tt
 cover-fits (some ls) rs n e few g ranges counted h = record {

@@ -12,7 +12,6 @@ use lib.Dec.{eqb}
 use lib.ListN.{length, getD, length-map, List·getD-map}
 use Rattle.lists.specs.Lists.{any, sum, upFrom, Each}
 use Rattle.lists.proofs.Each.{each-imp}
-use Rattle.lists.proofs.Pairs.{each-upFrom}
 use Rattle.columns.specs.Limits.{kinds, maxNumbers}
 use Rattle.run.specs.Routes.{Valid}
 use Rattle.run.specs.Memo.{memo, tables}
@@ -22,9 +21,9 @@ use Rattle.run.specs.Writing.{groupNumbers, outputs}
 use Rattle.run.proofs.Good.{RowsFrom, Good}
 use Rattle.run.proofs.New.{new-once}
 use Rattle.run.proofs.Table.{listOf, memo-right}
-use Rattle.run.proofs.Filters.{map-places}
-use Rattle.run.proofs.Sums.{sum-map, sum-ext}
-use Rattle.run.proofs.Counting.{sum-swap}
+use Rattle.lists.proofs.Filters.{each-below, map-places}
+use Rattle.lists.proofs.Sums.{sum-map, sum-ext}
+use Rattle.lists.proofs.Counting.{sum-swap}
 use Rattle.run.proofs.Outputs.{eventOf}
 use Rattle.run.proofs.Unerased.{unerased, blankRow, parents-stay}
 use Rattle.run.proofs.Again.{again, archive-again}
@@ -45,7 +44,7 @@ pub groups-survive : (S : Summary) → Good S → groupsSurvive (unerased S) ≡
 unfolding groupsSurvive
 groups-survive S good =
     all-of (λ g. any (survivesIn g) (map eventOf (S .rows))) (groupNumbers S)
-    (each-imp (λ g. (0 ≤ g) × (g < 0 + length (S .groups))) _ (groupNumbers S) (λ g w. survivor-of g (S .rows) (good .every g (omega arith))) (each-upFrom 0 (length (S .groups))))
+    (each-below _ (length (S .groups)) (λ g l. survivor-of g (S .rows) (good .every g l)))
 
 -- ── the tables ───────────────────────────────────────────────────────────────────────────────
 
@@ -85,7 +84,7 @@ module _ (S : Summary) (good : Good S) where
   entries-again =
       sum-map (sum length) (λ k. memo (unerased S) k (length (map eventOf (S .rows)))) (upFrom 0 kinds)
       ∙ sum-ext (λ k. sum length (memo (unerased S) k (length (map eventOf (S .rows))))) (λ k. sum (λ r. length (list k r)) (S .rows)) (upFrom 0 kinds)
-        (each-imp (λ k. (0 ≤ k) × (k < 0 + kinds)) _ (upFrom 0 kinds) (λ k w. ap (sum length) (memo-rows k (omega arith)) ∙ sum-map length (list k) (S .rows)) (each-upFrom 0 kinds))
+        (each-below _ kinds (λ k h. ap (sum length) (memo-rows k h) ∙ sum-map length (list k) (S .rows)))
       ∙ sum-swap (λ k r. length (list k r)) (upFrom 0 kinds) (S .rows)
       ∙ sum-ext (λ r. sum (λ k. length (list k r)) (upFrom 0 kinds)) (λ r. sum length (r .parents)) (S .rows)
         (each-imp (λ r. length (r .parents) ≡ kinds) _ (S .rows) kind-by-kind (rows-wide (S .start) (S .rows) (good .lists)))

@@ -23,8 +23,8 @@ use Rattle.columns.specs.declared.refusal.Refusal.the-variants.{ParentNotEarlie
 use Rattle.archive.specs.File.{Unresolved}
 use Rattle.run.specs.Writing.{Numbered, Edge, slotsOfRows}
 use Rattle.run.proofs.Good.{GoodLists}
-use Rattle.run.proofs.Rules.{none-of, none-in, passes, fails}
-use Rattle.run.proofs.From.{EachFrom, from-eq, from-append, from-each}
+use Rattle.columns.proofs.FirstBroken.{none-of, none-in, passes, fails}
+use Rattle.lists.proofs.From.{EachFrom, from-eq, from-append, from-each}
 use Rattle.run.proofs.Numbers.{Counted}
 use Rattle.run.proofs.Inbound.{Inbound}
 

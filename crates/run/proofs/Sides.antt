@@ -20,8 +20,8 @@ use Rattle.columns.specs.EdgeSet.{EdgeSet, forward, fromTo, offsetsForm, cutFro
 use Rattle.columns.specs.Reading.{soundFrom, targetsFrom, slotsOf, setRules}
 use Rattle.columns.specs.declared.refusal.Refusal.the-variants.{OffsetsForm, DeltaCount, TargetSide}
 use Rattle.run.specs.Routes.{AllBelow}
-use Rattle.run.proofs.From.{EachFrom}
-use Rattle.run.proofs.Rules.{each-none, not-refused, passed}
+use Rattle.lists.proofs.From.{EachFrom}
+use Rattle.columns.proofs.FirstBroken.{each-none, not-refused, passed}
 
 -- every parent in a slot of a file that starts at `first` is below the slot's event
 abbrev pub SlotBelow : ℕ → ℕ → List ℕ → Type 0

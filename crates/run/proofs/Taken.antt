@@ -20,8 +20,8 @@ use Rattle.columns.specs.declared.refusal.Refusal.the-variants.{SubjectLength, 
 use Rattle.archive.specs.File.{Unresolved, CoverColumns, File}
 use Rattle.run.specs.Source.{Source, coverRead, sourceOf, endOf, isThere}
 use Rattle.run.specs.Taking.{groupFollows, sourceFollows, coverFollows, fileEnd, unresolvedRules, coverRules, overRecords, overNumbers, fileRules, filesRules, takeRules}
-use Rattle.run.proofs.Rules.{each-none, each-none-in, passed}
-use Rattle.run.proofs.From.{EachFrom}
+use Rattle.columns.proofs.FirstBroken.{each-none, each-none-in, passed}
+use Rattle.lists.proofs.From.{EachFrom}
 use Rattle.run.proofs.Sides.{SlotBelow, each-slot, forward-below}
 
 -- ── a source ─────────────────────────────────────────────────────────────────────────────────

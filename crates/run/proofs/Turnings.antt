@@ -12,7 +12,6 @@ use lib.Seq.{ext-getD}
 use Rattle.lists.specs.Lists.{flat, filter, joined, mem, sum, upFrom}
 use Rattle.lists.specs.Order.{insert, sort}
 use Rattle.lists.proofs.Tests.{tested}
-use Rattle.lists.proofs.Each.{each-all}
 use Rattle.lists.proofs.Flat.{length-flat, sum-append}
 use Rattle.columns.specs.Limits.{kinds}
 use Rattle.columns.specs.Questions.{listOf}
@@ -20,24 +19,27 @@ use Rattle.columns.specs.Building.{inFile, childrenTo, slotTable, naming, rever
 use Rattle.columns.proofs.Turned.{length-table, list-table}
 use Rattle.run.specs.Summary.{Summary}
 use Rattle.run.specs.Writing.{Numbered, numbered, groupIs, Edge, edgesInto, edgesOf, inboundColumns}
-use Rattle.run.proofs.Sums.{sum-map, sum-flat, sum-le, sum-ext, sum-filter}
-use Rattle.run.proofs.Counting.{sum-ones, sum-swap, sum-zero, bit, length-filter, at-most-one, members-counted}
+use Rattle.lists.proofs.Sums.{sum-map, sum-flat, sum-filter}
+use Rattle.lists.proofs.Counting.{sum-below, sum-equal, sum-ones, sum-swap, sum-zero, bit, length-filter, at-most-one, members-counted}
 
 -- ── tables ───────────────────────────────────────────────────────────────────────────────────
 
 -- the entries of a table, kind by kind
-table-entries : (f : ℕ → ℕ → List ℕ) (first rows : ℕ) → sum length (slotTable f first rows) ≡ sum (λ k. sum (λ n. length (f n k)) (upFrom first rows)) (upFrom 0 kinds)
+table-entries : (f : ℕ → ℕ → List ℕ) (first rows : ℕ)
+    → sum length (slotTable f first rows) ≡ sum (λ k. sum (λ n. length (f n k)) (upFrom first rows)) (upFrom 0 kinds)
 unfolding slotTable
 table-entries f first rows =
     sum-flat length (λ n. map (f n) (upFrom 0 kinds)) (upFrom first rows)
-    ∙ sum-ext (λ n. sum length (map (f n) (upFrom 0 kinds))) (λ n. sum (λ k. length (f n k)) (upFrom 0 kinds)) (upFrom first rows)
-      (each-all (λ n. sum length (map (f n) (upFrom 0 kinds)) ≡ sum (λ k. length (f n k)) (upFrom 0 kinds)) (λ n. sum-map length (f n) (upFrom 0 kinds)) (upFrom first rows))
+    ∙ sum-equal (λ n. sum length (map (f n) (upFrom 0 kinds))) (λ n. sum (λ k. length (f n k)) (upFrom 0 kinds))
+      (λ n. sum-map length (f n) (upFrom 0 kinds)) (upFrom first rows)
     ∙ sum-swap (λ n k. length (f n k)) (upFrom first rows) (upFrom 0 kinds)
 
 -- the list of the number and the kind of a slot
 list-slot : (first : ℕ) (lists : List (List ℕ)) (j : ℕ) → listOf first lists (j % kinds) (first + j / kinds) ≡ getD lists j []
 unfolding listOf
-list-slot first lists j = rw (le-ltb (first + j / kinds) first (omega arith)) (ap (λ i. getD lists i []) {x = kinds * (first + j / kinds - first) + j % kinds} {y = j} (omega arith))
+list-slot first lists j =
+    rw (le-ltb (first + j / kinds) first (omega arith))
+    (ap (λ i. getD lists i []) {x = kinds * (first + j / kinds - first) + j % kinds} {y = j} (omega arith))
 
 -- lists are the table of the lists of their numbers
 table-back : (first rows : ℕ) (lists : List (List ℕ)) → length lists ≡ kinds * rows → slotTable (λ n k. listOf first lists k n) first rows ≡ lists
@@ -50,21 +52,26 @@ table-back first rows lists e =
 
 -- ── reverse lists ────────────────────────────────────────────────────────────────────────────
 
-pub reverse-entries : (first rows : ℕ) (lists : List (List ℕ)) → length lists ≡ kinds * rows → sum length (reverseLists first rows lists) ≤ sum length lists
+pub reverse-entries : (first rows : ℕ) (lists : List (List ℕ)) → length lists ≡ kinds * rows
+    → sum length (reverseLists first rows lists) ≤ sum length lists
 unfolding reverseLists naming
 reverse-entries first rows lists e =
-    let L : ℕ → ℕ → List ℕ = λ n k. listOf first lists k n in
-    omega (arith, table-entries (naming first rows lists) first rows, table-entries L first rows, ap (sum length) (table-back first rows lists e),
-      sum-le (λ k. sum (λ n. length (naming first rows lists n k)) (upFrom first rows)) (λ k. sum (λ n. length (L n k)) (upFrom first rows)) (upFrom 0 kinds) (each-all _ one-kind (upFrom 0 kinds)))
+    omega (arith, table-entries (naming first rows lists) first rows, table-entries list first rows, ap (sum length) (table-back first rows lists e),
+      sum-below (λ k. sum (λ n. length (naming first rows lists n k)) numbers) (λ k. sum (λ n. length (list n k)) numbers) one-kind (upFrom 0 kinds))
   where
-    one-kind : (k : ℕ) → sum (λ n. length (naming first rows lists n k)) (upFrom first rows) ≤ sum (λ n. length (listOf first lists k n)) (upFrom first rows)
+    list : ℕ → ℕ → List ℕ
+    list n k = listOf first lists k n
+
+    numbers : List ℕ
+    numbers = upFrom first rows
+
+    one-kind : (k : ℕ) → sum (λ n. length (naming first rows lists n k)) numbers ≤ sum (λ n. length (list n k)) numbers
     one-kind k =
         omega (arith,
-          sum-ext (λ n. length (naming first rows lists n k)) (λ n. sum (λ m. bit (mem n (listOf first lists k m))) (upFrom first rows)) (upFrom first rows)
-            (each-all (λ n. length (naming first rows lists n k) ≡ sum (λ m. bit (mem n (listOf first lists k m))) (upFrom first rows)) (λ n. length-filter (λ m. mem n (listOf first lists k m)) (upFrom first rows)) (upFrom first rows)),
-          sum-swap (λ n m. bit (mem n (listOf first lists k m))) (upFrom first rows) (upFrom first rows),
-          sum-le (λ m. sum (λ n. bit (mem n (listOf first lists k m))) (upFrom first rows)) (λ m. length (listOf first lists k m)) (upFrom first rows)
-            (each-all (λ m. sum (λ n. bit (mem n (listOf first lists k m))) (upFrom first rows) ≤ length (listOf first lists k m)) (λ m. members-counted (listOf first lists k m) first rows) (upFrom first rows)))
+          sum-equal (λ n. length (naming first rows lists n k)) (λ n. sum (λ m. bit (mem n (list m k))) numbers)
+            (λ n. length-filter (λ m. mem n (list m k)) numbers) numbers,
+          sum-swap (λ n m. bit (mem n (list m k))) numbers numbers,
+          sum-below (λ m. sum (λ n. bit (mem n (list m k))) numbers) (λ m. length (list m k)) (λ m. members-counted (list m k) first rows) numbers)
 
 -- ── inbound lists ────────────────────────────────────────────────────────────────────────────
 
@@ -82,10 +89,13 @@ length-sort (x ∷ xs) = length-insert x (sort xs) ∙ ap suc (length-sort xs)
 abbrev isTo : ℕ → ℕ → Edge → Bool
 isTo n k e = eqb (e .parent) n && eqb (e .kind) k
 
-length-children : (n k : ℕ) (es : List Edge) → length (childrenTo n k (map (λ e. e .child) es) (map (λ e. e .parent) es) (map (λ e. e .kind) es)) ≡ sum (λ e. bit (isTo n k e)) es
+length-children : (n k : ℕ) (es : List Edge)
+    → length (childrenTo n k (map (λ e. e .child) es) (map (λ e. e .parent) es) (map (λ e. e .kind) es)) ≡ sum (λ e. bit (isTo n k e)) es
 unfolding childrenTo sum
 length-children n k [] = refl
-length-children n k (e ∷ es) = elim (tested (isTo n k e)) [ inl q ↦ rw q (omega (arith, length-children n k es)) | inr q ↦ rw q (omega (arith, length-children n k es)) ]
+length-children n k (e ∷ es) = elim (tested (isTo n k e)) [
+    inl q ↦ rw q (omega (arith, length-children n k es))
+  | inr q ↦ rw q (omega (arith, length-children n k es)) ]
 
 one-equal : (x i m : ℕ) → sum (λ n. bit (eqb x n)) (upFrom i m) ≤ 1
 one-equal x i m = at-most-one (λ n. eqb x n) (λ j k e l. ne-eqb x k (λ d. omega (arith, eqb-true x j e))) i m
@@ -94,7 +104,7 @@ one-equal x i m = at-most-one (λ n. eqb x n) (λ j k e l. ne-eqb x k (λ d. ome
 one-list : (e : Edge) (first rows : ℕ) → sum (λ n. sum (λ k. bit (isTo n k e)) (upFrom 0 kinds)) (upFrom first rows) ≤ 1
 one-list e first rows =
     omega (arith, one-equal (e .parent) first rows,
-      sum-le (λ n. sum (λ k. bit (isTo n k e)) (upFrom 0 kinds)) (λ n. bit (eqb (e .parent) n)) (upFrom first rows) (each-all _ (λ n. of-kind (eqb (e .parent) n)) (upFrom first rows)))
+      sum-below (λ n. sum (λ k. bit (isTo n k e)) (upFrom 0 kinds)) (λ n. bit (eqb (e .parent) n)) (λ n. of-kind (eqb (e .parent) n)) (upFrom first rows))
   where
     of-kind : (b : Bool) → sum (λ k. bit (b && eqb (e .kind) k)) (upFrom 0 kinds) ≤ bit b
     of-kind true = one-equal (e .kind) 0 kinds
@@ -104,25 +114,31 @@ pub inbound-entries : (first rows : ℕ) (es : List Edge) → sum length (inboun
 unfolding inboundLists inboundColumns
 inbound-entries first rows es =
     omega (arith, table-entries list first rows,
-      sum-ext (λ k. sum (λ n. length (list n k)) (upFrom first rows)) (λ k. sum (λ e. sum (λ n. bit (isTo n k e)) (upFrom first rows)) es) (upFrom 0 kinds) (each-all _ one-kind (upFrom 0 kinds)),
-      sum-swap (λ k e. sum (λ n. bit (isTo n k e)) (upFrom first rows)) (upFrom 0 kinds) es,
-      sum-le (λ e. sum (λ k. sum (λ n. bit (isTo n k e)) (upFrom first rows)) (upFrom 0 kinds)) (λ e. 1) es (each-all _ one-edge es), sum-ones es)
+      sum-equal (λ k. sum (λ n. length (list n k)) numbers) (λ k. sum (λ e. sum (λ n. bit (isTo n k e)) numbers) es) one-kind (upFrom 0 kinds),
+      sum-swap (λ k e. sum (λ n. bit (isTo n k e)) numbers) (upFrom 0 kinds) es,
+      sum-below (λ e. sum (λ k. sum (λ n. bit (isTo n k e)) numbers) (upFrom 0 kinds)) (λ e. 1) one-edge es, sum-ones es)
   where
+    numbers : List ℕ
+    numbers = upFrom first rows
+
+    to : ℕ → ℕ → List ℕ
+    to n k = childrenTo n k (map (λ e. e .child) es) (map (λ e. e .parent) es) (map (λ e. e .kind) es)
+
     list : ℕ → ℕ → List ℕ
-    list n k = sort (childrenTo n k (map (λ e. e .child) es) (map (λ e. e .parent) es) (map (λ e. e .kind) es))
+    list n k = sort (to n k)
 
-    one-kind : (k : ℕ) → sum (λ n. length (list n k)) (upFrom first rows) ≡ sum (λ e. sum (λ n. bit (isTo n k e)) (upFrom first rows)) es
+    one-kind : (k : ℕ) → sum (λ n. length (list n k)) numbers ≡ sum (λ e. sum (λ n. bit (isTo n k e)) numbers) es
     one-kind k =
-        sum-ext (λ n. length (list n k)) (λ n. sum (λ e. bit (isTo n k e)) es) (upFrom first rows)
-        (each-all _ (λ n. length-sort (childrenTo n k (map (λ e. e .child) es) (map (λ e. e .parent) es) (map (λ e. e .kind) es)) ∙ length-children n k es) (upFrom first rows))
-        ∙ sum-swap (λ n e. bit (isTo n k e)) (upFrom first rows) es
+        sum-equal (λ n. length (list n k)) (λ n. sum (λ e. bit (isTo n k e)) es) (λ n. length-sort (to n k) ∙ length-children n k es) numbers
+        ∙ sum-swap (λ n e. bit (isTo n k e)) numbers es
 
-    one-edge : (e : Edge) → sum (λ k. sum (λ n. bit (isTo n k e)) (upFrom first rows)) (upFrom 0 kinds) ≤ 1
-    one-edge e = omega (arith, sum-swap (λ k n. bit (isTo n k e)) (upFrom 0 kinds) (upFrom first rows), one-list e first rows)
+    one-edge : (e : Edge) → sum (λ k. sum (λ n. bit (isTo n k e)) numbers) (upFrom 0 kinds) ≤ 1
+    one-edge e = omega (arith, sum-swap (λ k n. bit (isTo n k e)) (upFrom 0 kinds) numbers, one-list e first rows)
 
 -- ── edges into some numbers ──────────────────────────────────────────────────────────────────
 
-length-edgesInto : (first end child k : ℕ) (lists : List (List ℕ)) → length (edgesInto first end child k lists) ≡ sum (λ p. bit (inFile first end p)) (joined lists)
+length-edgesInto : (first end child k : ℕ) (lists : List (List ℕ))
+    → length (edgesInto first end child k lists) ≡ sum (λ p. bit (inFile first end p)) (joined lists)
 unfolding edgesInto joined sum
 length-edgesInto first end child k [] = refl
 length-edgesInto first end child k (ps ∷ lists) =
@@ -140,6 +156,6 @@ edges-entries S g first end =
     let into : Numbered → List Edge = λ r. edgesInto first end (r .number) 0 (r .row .parents) in
     let others : List Numbered = filter (λ r. not (groupIs g r)) (numbered S) in
     omega (arith, length-flat into others, sum-filter (λ r. length (into r)) (λ r. not (groupIs g r)) (numbered S),
-      sum-ext (λ r. length (into r)) (λ r. sum (λ p. bit (inFile first end p)) (joined (r .row .parents))) (numbered S)
-        (each-all _ (λ r. length-edgesInto first end (r .number) 0 (r .row .parents)) (numbered S)),
+      sum-equal (λ r. length (into r)) (λ r. sum (λ p. bit (inFile first end p)) (joined (r .row .parents)))
+        (λ r. length-edgesInto first end (r .number) 0 (r .row .parents)) (numbered S),
       sum-flat (λ p. bit (inFile first end p)) (λ r. joined (r .row .parents)) (numbered S))

@@ -23,7 +23,7 @@ use Rattle.run.specs.Cleaning.{count, rank, renumber, newParents, surviv
 use Rattle.run.specs.Summary.{Kept, kept, Summary, sorted, groupSummary, keptBy, summary}
 use Rattle.run.proofs.Good.{GoodLists, RowsFrom, GoodLinks, GoodGroup, Good}
 use Rattle.run.proofs.Inj.{renumber-before, renumber-past}
-use Rattle.run.proofs.Filters.{map-places}
+use Rattle.lists.proofs.Filters.{map-places}
 use Rattle.run.proofs.Outputs.{eventOf}
 
 -- a summary as an archive: its rows are the events

@@ -25,7 +25,7 @@ use Rattle.run.specs.Summary.{Summary, summary}
 use Rattle.run.specs.Writing.{Numbered, rowsIn, firstNumber, unresolvedOf, labelList, labelsIn, labelColumns, labelsOfGroup, slotsOfRows, unresolvedColumns, edgesOf, inboundColumns, graphOfRows, noGroup, groupAt, graphOf, groupNumbers, writeRules}
 use Rattle.run.specs.Accepted.{archiveOfFiles, labelsRise, chainsRise, spansFit, Cleanable}
 use Rattle.run.proofs.Good.{GoodLabel, GoodGroup, GoodLists, Good}
-use Rattle.run.proofs.Rules.{none-of, none-in, passes, fails}
+use Rattle.columns.proofs.FirstBroken.{none-of, none-in, passes, fails}
 use Rattle.run.proofs.Numbers.{Counted, counted-within}
 use Rattle.run.proofs.Blocks.{GoodRow, rowsBefore, rows-counted, rows-first, before-next, before-within, rows-good}
 use Rattle.run.proofs.Followed.{Labelled, length-slots}

@@ -22,7 +22,7 @@ use Rattle.run.specs.Writing.{written}
 use Rattle.run.specs.Step.{takes, resolves, writes, done, wrote, taking, resolved, fresh, outcome, resolve, step}
 use Rattle.run.specs.History.{history, Wrote, cleaned}
 use Rattle.run.specs.Accepted.{archiveOfFiles, Cleanable, Accepted}
-use Rattle.run.proofs.Rules.{none-of, passes, fails}
+use Rattle.columns.proofs.FirstBroken.{none-of, passes, fails}
 use Rattle.run.proofs.Taken.{taken-followed}
 use Rattle.run.proofs.Events.{valid-sources}
 use Rattle.run.proofs.Tabled.{tabled-summary}

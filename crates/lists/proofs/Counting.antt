@@ -8,11 +8,11 @@ use native.Mathlib.Omega.{arith}
 use borrow.Author.Tests.{eqb-true, ne-eqb}
 use lib.Dec.{eqb}
 use lib.ListN.{length}
 use Rattle.lists.specs.Lists.{filter, mem, sum, upFrom}
 use Rattle.lists.proofs.Tests.{tested}
 use Rattle.lists.proofs.Each.{each-imp, each-all}
 use Rattle.lists.proofs.Pairs.{each-upFrom}
-use Rattle.run.proofs.Sums.{sum-le, sum-ext, sum-both}
+use Rattle.lists.proofs.Sums.{sum-le, sum-ext, sum-both}
 
 -- ── sums ─────────────────────────────────────────────────────────────────────────────────────
 
@@ -31,6 +31,13 @@ module _ {A : Type 0} where
   unfolding sum
   sum-swap f [] ys = sym (sum-zero ys)
   sum-swap f (x ∷ xs) ys = omega (arith, sum-both (f x) (λ y. sum (λ z. f z y) xs) ys, sum-swap f xs ys)
+
+module _ {A : Type 0} (f g : A → ℕ) where
+  pub sum-below : ((x : A) → f x ≤ g x) → (xs : List A) → sum f xs ≤ sum g xs
+  sum-below h xs = sum-le f g xs (each-all (λ x. f x ≤ g x) h xs)
+
+  pub sum-equal : ((x : A) → f x ≡ g x) → (xs : List A) → sum f xs ≡ sum g xs
+  sum-equal h xs = sum-ext f g xs (each-all (λ x. f x ≡ g x) h xs)
 
 -- ── tests counted ────────────────────────────────────────────────────────────────────────────
 
@@ -66,6 +73,5 @@ pub members-counted : (l : List ℕ) (i m : ℕ) → sum (λ n. bit (mem n l)) (
 unfolding mem
 members-counted [] i m = omega (arith, sum-zero (upFrom i m))
 members-counted (x ∷ xs) i m =
-    omega (arith, sum-le (λ n. bit (eqb n x || mem n xs)) (λ n. bit (eqb n x) + bit (mem n xs)) (upFrom i m)
-        (each-all (λ n. bit (eqb n x || mem n xs) ≤ bit (eqb n x) + bit (mem n xs)) (λ n. either (eqb n x) (mem n xs)) (upFrom i m)),
+    omega (arith, sum-below (λ n. bit (eqb n x || mem n xs)) (λ n. bit (eqb n x) + bit (mem n xs)) (λ n. either (eqb n x) (mem n xs)) (upFrom i m),
       sum-both (λ n. bit (eqb n x)) (λ n. bit (mem n xs)) (upFrom i m), one-number x i m, members-counted xs i m)

@@ -1,14 +1,16 @@
--- Joined and filtered lists: what each part keeps; and a list out of its places.
+-- Joined and filtered lists: what each part keeps. Numbers below a bound, and a list out of its places.
 use mathlib.Core.Path.{_≡_, refl, ap, ap₂, sym, _∙_}
 use mathlib.Core.Bool.{Bool, true, false}
 use mathlib.Core.Logic.{inl, inr}
 use mathlib.Core.List.{List, [], _∷_, _++_, map}
-use Prim.Native.Nat.{ℕ, suc, _+_, _<_}
+use Prim.Native.Nat.{ℕ, suc, _+_, _≤_, _<_}
 use native.Mathlib.Omega.{arith}
 use native.Mathlib.Nat.{add-zero}
 use lib.ListN.{length, getD}
 use Rattle.lists.specs.Lists.{filter, upFrom, Each}
 use Rattle.lists.proofs.Tests.{tested}
+use Rattle.lists.proofs.Each.{each-imp}
+use Rattle.lists.proofs.Pairs.{each-upFrom}
 
 -- ── joined lists ─────────────────────────────────────────────────────────────────────────────
 
@@ -49,10 +51,17 @@ module _ {A : Type 0} (p : A → Bool) where
   filter-append [] ys = refl
   filter-append (x ∷ xs) ys = elim (tested (p x)) [ inl e ↦ rw (e, filter-append xs ys) | inr e ↦ rw e (filter-append xs ys) ]
 
+-- ── numbers ──────────────────────────────────────────────────────────────────────────────────
+
+-- what holds of each number below n
+pub each-below : (P : ℕ → Type 0) (n : ℕ) → ((i : ℕ) → i < n → P i) → Each P (upFrom 0 n)
+each-below P n f = each-imp (λ i. (0 ≤ i) × (i < 0 + n)) P (upFrom 0 n) (λ i w. f i (omega arith)) (each-upFrom 0 n)
+
 -- ── places ───────────────────────────────────────────────────────────────────────────────────
 
 -- what is made of the numbers from i on is a list where it is at each place
-pub map-places : {A : Type 0} (f : ℕ → A) (i : ℕ) (xs : List A) (d : A) → ((j : ℕ) → j < length xs → f (i + j) ≡ getD xs j d) → map f (upFrom i (length xs)) ≡ xs
+pub map-places : {A : Type 0} (f : ℕ → A) (i : ℕ) (xs : List A) (d : A) → ((j : ℕ) → j < length xs → f (i + j) ≡ getD xs j d)
+    → map f (upFrom i (length xs)) ≡ xs
 unfolding upFrom
 map-places f i [] d h = refl
 map-places f i (x ∷ xs) d h =
