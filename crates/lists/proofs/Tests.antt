@@ -19,3 +19,8 @@ pub all-each : {A : Type 0} (p : A → Bool) (xs : List A) → all p xs ≡ true
 unfolding all
 all-each p [] h = tt
 all-each p (x ∷ xs) h = let q = both (p x) (all p xs) h in (q .0, all-each p xs (q .1))
+
+pub all-of : {A : Type 0} (p : A → Bool) (xs : List A) → Each (λ x. p x ≡ true) xs → all p xs ≡ true
+unfolding all
+all-of p [] h = refl
+all-of p (x ∷ xs) h = rw (h .0) (all-of p xs (h .1))

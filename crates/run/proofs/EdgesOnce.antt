@@ -10,7 +10,7 @@ use lib.ListN.{length}
 use borrow.Author.Tests.{eqb-true, eqb-false, ne-eqb, not-true}
 use Rattle.lists.specs.Lists.{flat, all, filter, mem, distinct, Each}
 use Rattle.lists.specs.Order.{sort}
-use Rattle.lists.proofs.Tests.{tested, both}
+use Rattle.lists.proofs.Tests.{tested, both, all-of}
 use Rattle.lists.proofs.Each.{each-flat, each-imp, each-both}
 use Rattle.lists.proofs.Once.{or-is-false, eqb-sym}
 use Rattle.lists.proofs.Rising.{distinct-sort}
@@ -131,11 +131,6 @@ distinct-flat f (r ∷ rs) h g = elim (g .0) [
       (λ s b. elim (b .1) [ inl e ↦ rw e tt | inr e ↦ rw e ((λ c. omega arith), tt) ])
       (each-both (λ s. r .number < s .number) (λ s. AtMost (s .number) (f s)) rs (h .0) (g .1)))
 
-all-of-each : {A : Type 0} (p : A → Bool) (xs : List A) → Each (λ x. p x ≡ true) xs → all p xs ≡ true
-unfolding all
-all-of-each p [] h = refl
-all-of-each p (x ∷ xs) h = rw (h .0) (all-of-each p xs (h .1))
-
 module _ (S : Summary) (good : Good S) (g first end : ℕ) where
   children-distinct : (n k : ℕ) → distinct (childrenOf n k (edgesOf S g first end)) ≡ true
   unfolding edgesOf numbered
@@ -154,7 +149,7 @@ module _ (S : Summary) (good : Good S) (g first end : ℕ) where
   edges-once low rows =
       let es : List Edge = edgesOf S g first end in
       let f : ℕ → ℕ → List ℕ = λ n k. sort (childrenTo n k (map (λ e. e .child) es) (map (λ e. e .parent) es) (map (λ e. e .kind) es)) in
-      all-of-each distinct (inboundLists low rows (inboundColumns es))
+      all-of distinct (inboundLists low rows (inboundColumns es))
       (each-table f low rows (λ l. distinct l ≡ true)
       (λ n k. distinct-sort (childrenTo n k (map (λ e. e .child) es) (map (λ e. e .parent) es) (map (λ e. e .kind) es))
         ∙ ap distinct (children-to n k es) ∙ children-distinct n k))

@@ -133,3 +133,13 @@ pub labels-columns : (ls : List Label) → labelsOf (labelColumns ls .chains) (l
 unfolding labelsOf labelColumns
 labels-columns [] = refl
 labels-columns (l ∷ ls) = ap (λ ks. l ∷ ks) (labels-columns ls)
+
+-- as many labels as rows
+pub length-labels : (links : List Link) (rs : List Numbered) → Each (Labelled links) rs → length (labelsIn rs) ≡ length rs
+unfolding labelsIn
+length-labels links [] h = refl
+length-labels links (r ∷ rs) h = go (r .row .body .label) (h .0) (length-labels links rs (h .1))
+  where
+    go : (o : Option Label) → GoodLabel (some links) o → length (labelsIn rs) ≡ length rs → length (labelList o ++ labelsIn rs) ≡ suc (length rs)
+    go none g e = absurd g
+    go (some l) g e = rw e

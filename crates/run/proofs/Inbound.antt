@@ -20,7 +20,7 @@ use Rattle.run.specs.Writing.{Numbered, numbered, groupIs, rowsIn, Edge,
 use Rattle.run.proofs.Good.{GoodLists, Good}
 use Rattle.lists.proofs.Filters.{each-filter, filter-passes}
 use Rattle.run.proofs.Numbers.{lists-numbered, counted-within}
-use Rattle.run.proofs.Blocks.{GoodRow, rowsBefore, all-rows, rows-counted, before-next, rows-good}
+use Rattle.run.proofs.Blocks.{GoodRow, rowsBefore, all-rows, rows-counted, before-next, rows-good, before-rises, rows-within}
 
 -- ── the edges of one row ─────────────────────────────────────────────────────────────────────
 
@@ -69,19 +69,11 @@ abbrev pub Inbound : ℕ → ℕ → Edge → Type 0
 Inbound first end e = (end ≤ e .child) × (first ≤ e .parent) × (e .parent < end) × (e .kind < kinds)
 
 module _ (S : Summary) (good : Good S) where
-  before-rises : (i j : ℕ) → i ≤ j → rowsBefore S i ≤ rowsBefore S j
-  before-rises i j l =
-      let e : j ≡ i + (j - i) = omega arith in
-      rw (e, upFrom-append 0 i (j - i)) (omega (arith, sum-append (λ n. length (rowsIn S n)) (upFrom 0 i) (upFrom (0 + i) (j - i))))
-
   block : (j : ℕ) → j < length (S .groups) → Each (InBlock S) (rowsIn S j)
   block j l =
-      let n = S .start + rowsBefore S j in
-      each-imp (λ r. ((n ≤ r .number) × (r .number < n + length (rowsIn S j))) × GoodRow S j r) (InBlock S) (rowsIn S j)
-      (λ r b. subst (λ g. (S .start + rowsBefore S g ≤ r .number) × (r .number < S .start + rowsBefore S (suc g))) (sym (b .1 .group))
-        (b .0 .0, omega (arith, b .0 .1, before-next S good j)))
-      (each-both (λ r. (n ≤ r .number) × (r .number < n + length (rowsIn S j))) (GoodRow S j) (rowsIn S j)
-        (counted-within n (rowsIn S j) (rows-counted S good j l)) (rows-good S good j))
+      each-imp (λ r. GoodRow S j r × ((S .start + rowsBefore S j ≤ r .number) × (r .number < S .start + rowsBefore S (suc j)))) (InBlock S) (rowsIn S j)
+      (λ r b. subst (λ g. (S .start + rowsBefore S g ≤ r .number) × (r .number < S .start + rowsBefore S (suc g))) (sym (b .0 .group)) (b .1))
+      (rows-within S good j l)
 
   blocks : Each (InBlock S) (numbered S)
   blocks = subst (Each (InBlock S)) (all-rows S good)
@@ -93,8 +85,8 @@ module _ (S : Summary) (good : Good S) where
   past-end : (g : ℕ) (r : Numbered) (p : ℕ) → groupIs g r ≡ false → InBlock S r → S .start + rowsBefore S g ≤ p → p < r .number
       → S .start + rowsBefore S (suc g) ≤ r .number
   past-end g r p d b l h = elim (tested (ltb (r .row .body .group) g)) [
-      inl e ↦ absurd (omega (arith, before-rises (suc (r .row .body .group)) g (ltb-true (r .row .body .group) g e)))
-    | inr e ↦ omega (arith, before-rises (suc g) (r .row .body .group) (omega (arith, ltb-false (r .row .body .group) g e, eqb-false (r .row .body .group) g d))) ]
+      inl e ↦ absurd (omega (arith, before-rises S good (suc (r .row .body .group)) g (ltb-true (r .row .body .group) g e)))
+    | inr e ↦ omega (arith, before-rises S good (suc g) (r .row .body .group) (omega (arith, ltb-false (r .row .body .group) g e, eqb-false (r .row .body .group) g d))) ]
 
   pub edges-inbound : (g : ℕ) → Each (Inbound (S .start + rowsBefore S g) (S .start + rowsBefore S (suc g)))
       (edgesOf S g (S .start + rowsBefore S g) (S .start + rowsBefore S (suc g)))

@@ -9,6 +9,7 @@ use borrow.Author.Tests.{lt-ltb, le-leb, eq-eqb, ne-eqb}
 use lib.Dec.{ltb, eqb}
 use lib.ListN.{length, length-map}
 use Rattle.lists.specs.Lists.{flat, all, same, upFrom, Each}
+use Rattle.lists.proofs.Tests.{all-of}
 use Rattle.lists.proofs.Each.{each-imp, each-append, each-getD}
 use Rattle.columns.specs.Limits.{kinds, end64}
 use Rattle.columns.specs.Building.{numbersOk, inFile, Built}
@@ -29,11 +30,6 @@ use Rattle.run.proofs.OutputSides.{firstOf, endOf, end-next, end-within
 use Rattle.run.proofs.OutputSets.{setsOf, output-sets, forward-rules, reverse-rules, inbound-rules}
 
 -- ── records ──────────────────────────────────────────────────────────────────────────────────
-
-pub all-of : {A : Type 0} (p : A → Bool) (xs : List A) → Each (λ x. p x ≡ true) xs → all p xs ≡ true
-unfolding all
-all-of p [] h = refl
-all-of p (x ∷ xs) h = rw (h .0) (all-of p xs (h .1))
 
 same-self : (xs : List ℕ) → same xs xs ≡ true
 unfolding same

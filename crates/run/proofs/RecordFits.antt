@@ -29,7 +29,7 @@ use Rattle.run.specs.Taking.{storedRanges, storedLinkCount}
 use Rattle.run.specs.Writing.{Numbered, unresolvedOf, rootOf, rootsFrom, labelList, labelsIn, labelColumns, coverOfGroup}
 use Rattle.run.proofs.Good.{LinkFits, GoodLinks, GoodLabel, GoodRoot}
 use Rattle.run.proofs.Numbers.{Counted}
-use Rattle.run.proofs.Followed.{Labelled}
+use Rattle.run.proofs.Followed.{Labelled, length-labels}
 use Rattle.run.proofs.OutputFigures.{length-fromChains}
 use Rattle.run.proofs.ByteLengths.{short-cover}
 
@@ -118,15 +118,6 @@ abbrev SmallLabel : Label → Type 0
 SmallLabel l = (l .chain < 2 ^ 32) × (l .seq < 2 ^ 32)
 
 module _ (links : List Link) where
-  labels-all : (rs : List Numbered) → Each (Labelled links) rs → length (labelsIn rs) ≡ length rs
-  unfolding labelsIn
-  labels-all [] h = refl
-  labels-all (r ∷ rs) h = go (r .row .body .label) (h .0) (labels-all rs (h .1))
-    where
-      go : (o : Option Label) → GoodLabel (some links) o → length (labelsIn rs) ≡ length rs → length (labelList o ++ labelsIn rs) ≡ suc (length rs)
-      go none g e = absurd g
-      go (some l) g e = ap suc e
-
   labels-small : (rs : List Numbered) → Each (Labelled links) rs → Each SmallLabel (labelsIn rs)
   unfolding labelsIn
   labels-small [] h = tt
@@ -197,7 +188,7 @@ cover-fits (some ls) rs n e few g ranges counted h = record {
     fit = links-fit ls g (omega (arith, length-fromChains ls g))
 
     chains : length (labelColumns (labelsIn rs) .chains) ≡ n
-    chains = length-map (labelsIn rs) (λ l. l .chain) ∙ labels-all ls rs h ∙ e
+    chains = length-map (labelsIn rs) (λ l. l .chain) ∙ length-labels ls rs h ∙ e
 
     seqs : length (labelColumns (labelsIn rs) .seqs) ≡ n
-    seqs = length-map (labelsIn rs) (λ l. l .seq) ∙ labels-all ls rs h ∙ e
+    seqs = length-map (labelsIn rs) (λ l. l .seq) ∙ length-labels ls rs h ∙ e

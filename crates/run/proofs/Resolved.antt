@@ -29,7 +29,8 @@ use Rattle.run.proofs.Unerased.{unerased, blankRow, parents-stay}
 use Rattle.run.proofs.Again.{again, archive-again}
 use Rattle.run.proofs.Taken.{taken-followed}
 use Rattle.run.proofs.Events.{valid-sources}
-use Rattle.run.proofs.OutputRules.{all-of, files-rules}
+use Rattle.lists.proofs.Tests.{all-of}
+use Rattle.run.proofs.OutputRules.{files-rules}
 
 -- ── survivors ────────────────────────────────────────────────────────────────────────────────
 

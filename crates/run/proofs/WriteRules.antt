@@ -28,7 +28,7 @@ use Rattle.run.proofs.Good.{GoodLabel, GoodGroup, GoodLists, Good}
 use Rattle.columns.proofs.FirstBroken.{none-of, none-in, passes, fails}
 use Rattle.run.proofs.Numbers.{Counted, counted-within}
 use Rattle.run.proofs.Blocks.{GoodRow, rowsBefore, rows-counted, rows-first, before-next, before-within, rows-good}
-use Rattle.run.proofs.Followed.{Labelled, length-slots}
+use Rattle.run.proofs.Followed.{Labelled, length-labels, length-slots}
 use Rattle.run.proofs.Outputs.{rows-kinds}
 use Rattle.run.proofs.Inbound.{Inbound, edges-inbound}
 use Rattle.run.proofs.EdgesOnce.{edges-once}
@@ -36,15 +36,6 @@ use Rattle.run.proofs.RowRules.{row-slots-none, RecordPasses, unresolve
 use Rattle.run.proofs.Goodness.{good}
 
 -- ── 9 ────────────────────────────────────────────────────────────────────────────────────────
-
-length-labels : (links : List Link) (rs : List Numbered) → Each (Labelled links) rs → length (labelsIn rs) ≡ length rs
-unfolding labelsIn
-length-labels links [] h = refl
-length-labels links (r ∷ rs) h = go (r .row .body .label) (h .0) (length-labels links rs (h .1))
-  where
-    go : (o : Option Label) → GoodLabel (some links) o → length (labelsIn rs) ≡ length rs → length (labelList o ++ labelsIn rs) ≡ suc (length rs)
-    go none g e = absurd g
-    go (some l) g e = rw e
 
 labels-none : (links : Option (List Link)) (rs : List Numbered) → Each (λ r. GoodLabel links (r .row .body .label)) rs
     → labelsRise (labelsOfGroup links rs) ≡ true → labelsRules (length rs) (labelsOfGroup links rs) ≡ none

@@ -1,0 +1,13 @@
+//! The renumbering is the original's; a row is its tag.
+
+pub mod build {
+    use crate::events::EventRelationships;
+
+    #[derive(Debug, Clone, PartialEq)]
+    pub struct BuildRow {
+        pub relationships: Option<EventRelationships>,
+        pub tag: u64,
+    }
+}
+
+include!(concat!(env!("OUT_DIR"), "/writer.rs"));
