@@ -7,4 +7,6 @@ pub mod Building
 pub mod Roots
 pub mod Walk
 pub mod Ancestor
+pub mod Answers
+pub mod Readable
 pub mod Computes

@@ -1,0 +1,299 @@
+-- Rules in order and what is answered of them, and what columns whose rules are kept are.
+use mathlib.Core.Path.{_≡_, refl, sym, _∙_, ap}
+use mathlib.Core.Bool.{Bool, true, false, _&&_, _||_, not, or-false, or-assoc}
+use mathlib.Core.List.{List, [], _∷_, _++_}
+use mathlib.Core.Option.{Option, none, some}
+use Prim.Native.Nat.{ℕ, _≤_, _<_, _+_}
+use native.Mathlib.Omega.{arith}
+use lib.Dec.{ltb, eqb}
+use lib.IntN.{ℤ}
+use lib.ListN.{length}
+use lib.Seq.{sets}
+use borrow.Author.Tests.{lt-ltb, le-ltb, ltb-false, eqb-true, not-false}
+use Rattle.lists.specs.Lists.{any, all, joined}
+use Rattle.lists.proofs.Tests.{both}
+use Rattle.columns.specs.Limits.{maxRecords, maxNumbers, numbersRoom}
+use Rattle.columns.specs.Refusal.{Verdict, accepted, refused, unless, refuse, firstOf, Lent, short, limits}
+use Rattle.columns.specs.EdgeSet.{EdgeSet, reverse, inbound, cut, fromTo, offsetsForm}
+use Rattle.columns.specs.Reading.{soundFrom, targetsFrom, slotsOf, setRules, setLengths, decodeSet, labelRules}
+use Rattle.columns.specs.Answers.{short32, columnsOf, labelColumns, room, limitsOf, lentRules, bothRules, childrenRules, lentLabelRules, checkedOf, inOne, countedOf, writtenOver}
+use Rattle.columns.specs.Readable.{Readable, Edged}
+use Rattle.columns.specs.declared.reading.Checked.{Checked}
+use Rattle.columns.specs.declared.reading.Checked.the-variants.{Kept, Broken}
+use Rattle.columns.specs.declared.reading.Counted.the-variants.{Entries, Refused}
+use Rattle.columns.specs.declared.refusal.Refusal.{Refusal}
+use Rattle.columns.specs.declared.refusal.Refusal.the-variants.{OffsetsForm, DeltaCount, TargetSide, LabelColumns, LabelRange, OverRecords, OverNumbers, SliceShort}
+use Rattle.columns.proofs.FirstBroken.{each-none, not-refused, passed}
+use Rattle.columns.proofs.Offsets.{form-climbs}
+
+-- ── rules in order ───────────────────────────────────────────────────────────────────────────
+
+pub is-kept : (k : Checked) (o : Option Refusal) → k ≡ checkedOf o → k ≡ Kept → o ≡ none
+is-kept k none e h = refl
+is-kept k (some r) e h = let z : _≡_ {A = ℕ} 0 1 = cc in absurd (omega arith)
+
+pub is-broken : (k : Checked) (o : Option Refusal) (why : Refusal) → k ≡ checkedOf o → k ≡ Broken why → o ≡ some why
+is-broken k none why e h = let z : _≡_ {A = ℕ} 0 1 = cc in absurd (omega arith)
+is-broken k (some r) why e h = cc
+
+first-alone : (o : Option Refusal) → firstOf (o ∷ []) ≡ o
+unfolding firstOf
+first-alone none = refl
+first-alone (some r) = refl
+
+or-kept : (a b : Bool) → a || b ≡ false → (a ≡ false) × (b ≡ false)
+or-kept true b f = let z : _≡_ {A = ℕ} 0 1 = cc in absurd (omega arith)
+or-kept false b f = (refl, f)
+
+any-kept : (p : ℕ → Bool) (x : ℕ) (xs : List ℕ) → any p (x ∷ xs) ≡ false → (p x ≡ false) × (any p xs ≡ false)
+unfolding any
+any-kept p x xs e = or-kept (p x) (any p xs) e
+
+pub any-append : (p : ℕ → Bool) (xs ys : List ℕ) → any p (xs ++ ys) ≡ any p xs || any p ys
+unfolding any
+any-append p [] ys = refl
+any-append p (x ∷ xs) ys = rw (any-append p xs ys) (sym (or-assoc (p x) (any p xs) (any p ys)))
+
+-- rules in two parts: those of the second count where the first are kept
+module _ (k : Checked) (o : Option Refusal) (os : List (Option Refusal)) (e : k ≡ checkedOf o) where
+  then-rest : k ≡ Kept → (q : Checked) → q ≡ checkedOf (firstOf os) → q ≡ checkedOf (firstOf (o ∷ os))
+  unfolding firstOf
+  then-rest h q g = rw (is-kept k o e h) g
+
+  then-broken : (why : Refusal) → k ≡ Broken why → Broken why ≡ checkedOf (firstOf (o ∷ os))
+  unfolding firstOf
+  then-broken why h = rw (is-broken k o why e h)
+
+-- ── limits ───────────────────────────────────────────────────────────────────────────────────
+
+module _ (a b : ℕ) where
+  pub over-first : 4096 < a → true ≡ any (ltb maxNumbers) (a ∷ b ∷ [])
+  unfolding any
+  over-first h = rw (lt-ltb 4096 a h)
+
+  pub over-second : a ≤ 4096 → ltb 4096 b ≡ any (ltb maxNumbers) (a ∷ b ∷ [])
+  unfolding any
+  over-second h = rw (le-ltb 4096 a h, or-false)
+
+module _ (a b c d : ℕ) (r : Bool) (e : r ≡ any (ltb maxNumbers) (a ∷ b ∷ [])) where
+  pub over-front : r ≡ true → true ≡ any (ltb maxNumbers) (a ∷ b ∷ c ∷ d ∷ [])
+  over-front h = rw (any-append (ltb maxNumbers) (a ∷ b ∷ []) (c ∷ d ∷ []), sym e ∙ h)
+
+  pub over-back : r ≡ false → (q : Bool) → q ≡ any (ltb maxNumbers) (c ∷ d ∷ []) → q ≡ any (ltb maxNumbers) (a ∷ b ∷ c ∷ d ∷ [])
+  over-back h q f = rw (any-append (ltb maxNumbers) (a ∷ b ∷ []) (c ∷ d ∷ []), sym e ∙ h) f
+
+module _ (rows : ℕ) (over short : Bool) where
+  pub many-rows : 1024 < rows → Broken OverRecords ≡ checkedOf (limitsOf rows over short)
+  unfolding limitsOf firstOf any
+  many-rows h = rw (lt-ltb 1024 rows h)
+
+  module _ (h : rows ≤ 1024) where
+    pub long-column : over ≡ true → Broken OverNumbers ≡ checkedOf (limitsOf rows over short)
+    unfolding limitsOf firstOf any
+    long-column f = rw (le-ltb 1024 rows h, f)
+
+    module _ (f : over ≡ false) where
+      pub short-slice : short ≡ true → Broken SliceShort ≡ checkedOf (limitsOf rows over short)
+      unfolding limitsOf firstOf any
+      short-slice g = rw (le-ltb 1024 rows h, f, g)
+
+      pub in-limits : short ≡ false → Kept ≡ checkedOf (limitsOf rows over short)
+      unfolding limitsOf firstOf any
+      in-limits g = rw (le-ltb 1024 rows h, f, g)
+
+-- one set that is lent by itself
+module _ (set first rows end count : ℕ) (offsets : List ℕ) (deltas : List ℤ) (out : ℕ) where
+  module _ (over : Bool) (k : Checked) (f : over ≡ any (ltb maxNumbers) (length offsets ∷ length deltas ∷ []))
+      (e : k ≡ checkedOf (limitsOf rows over (ltb out 4096))) where
+    limits-are : limits (rows ∷ []) (setLengths (columnsOf count offsets deltas)) (room out) ≡ limitsOf rows over (ltb out 4096)
+    unfolding limits limitsOf setLengths short any
+    limits-are = rw (f, or-false (ltb out 4096))
+
+    pub lent-kept : k ≡ Kept → (q : Checked) → q ≡ checkedOf (setRules set first rows end (columnsOf count offsets deltas))
+        → q ≡ checkedOf (lentRules set first rows end (columnsOf count offsets deltas) (room out))
+    unfolding lentRules
+    lent-kept h q g = then-rest k _ _ (e ∙ ap checkedOf (sym limits-are)) h q (g ∙ ap checkedOf (sym (first-alone (setRules set first rows end (columnsOf count offsets deltas)))))
+
+    pub lent-broken : (why : Refusal) → k ≡ Broken why → Broken why ≡ checkedOf (lentRules set first rows end (columnsOf count offsets deltas) (room out))
+    unfolding lentRules
+    lent-broken why h = then-broken k _ _ (e ∙ ap checkedOf (sym limits-are)) why h
+
+-- a reverse set and an inbound set
+module _ (first rows end rc : ℕ) (ro : List ℕ) (rd : List ℤ) (ic : ℕ) (io : List ℕ) (id : List ℤ) where
+  module _ (k : Checked) (e : k ≡ checkedOf (setRules 1 first rows end (columnsOf rc ro rd))) where
+    pub both-kept : k ≡ Kept → (q : Checked) → q ≡ checkedOf (setRules 2 first rows end (columnsOf ic io id)) → q ≡ checkedOf (bothRules first rows end (columnsOf rc ro rd) (columnsOf ic io id))
+    unfolding bothRules
+    both-kept h q g = then-rest k _ _ e h q (g ∙ ap checkedOf (sym (first-alone (setRules 2 first rows end (columnsOf ic io id)))))
+
+    pub both-broken : (why : Refusal) → k ≡ Broken why → Broken why ≡ checkedOf (bothRules first rows end (columnsOf rc ro rd) (columnsOf ic io id))
+    unfolding bothRules
+    both-broken why h = then-broken k _ _ e why h
+
+  module _ (out : ℕ) (over : Bool) (k : Checked) (f : over ≡ any (ltb maxNumbers) (length ro ∷ length rd ∷ length io ∷ length id ∷ []))
+      (e : k ≡ checkedOf (limitsOf rows over (ltb out 4096))) where
+    both-limits : limits (rows ∷ []) (setLengths (columnsOf rc ro rd) ++ setLengths (columnsOf ic io id)) (room out) ≡ limitsOf rows over (ltb out 4096)
+    unfolding limits limitsOf setLengths short any
+    both-limits = rw (f, or-false (ltb out 4096))
+
+    pub children-kept : k ≡ Kept → (q : Checked) → q ≡ checkedOf (bothRules first rows end (columnsOf rc ro rd) (columnsOf ic io id)) → q ≡ checkedOf (childrenRules first rows end (columnsOf rc ro rd) (columnsOf ic io id) (room out))
+    unfolding childrenRules bothRules
+    children-kept h q g = then-rest k _ _ (e ∙ ap checkedOf (sym both-limits)) h q g
+
+    pub children-broken : (why : Refusal) → k ≡ Broken why → Broken why ≡ checkedOf (childrenRules first rows end (columnsOf rc ro rd) (columnsOf ic io id) (room out))
+    unfolding childrenRules
+    children-broken why h = then-broken k _ _ (e ∙ ap checkedOf (sym both-limits)) why h
+
+-- label columns
+module _ (rows : ℕ) (chains seqs : List ℕ) (over : Bool) (k : Checked) (f : over ≡ any (ltb maxNumbers) (length chains ∷ length seqs ∷ []))
+    (e : k ≡ checkedOf (limitsOf rows over false)) where
+  label-limits : limits (rows ∷ []) (length chains ∷ length seqs ∷ []) [] ≡ limitsOf rows over false
+  unfolding limits limitsOf any
+  label-limits = rw f
+
+  pub labels-in : k ≡ Kept → (q : Checked) → q ≡ checkedOf (labelRules rows (labelColumns chains seqs)) → q ≡ checkedOf (lentLabelRules rows (labelColumns chains seqs))
+  unfolding lentLabelRules
+  labels-in h q g = then-rest k _ _ (e ∙ ap checkedOf (sym label-limits)) h q (g ∙ ap checkedOf (sym (first-alone (labelRules rows (labelColumns chains seqs)))))
+
+  pub labels-out : (why : Refusal) → k ≡ Broken why → Broken why ≡ checkedOf (lentLabelRules rows (labelColumns chains seqs))
+  unfolding lentLabelRules
+  labels-out why h = then-broken k _ _ (e ∙ ap checkedOf (sym label-limits)) why h
+
+-- ── columns whose rules are kept ─────────────────────────────────────────────────────────────
+
+-- no column is over its limit
+pub few-numbers : (records : List ℕ) (columns : List ℕ) (lent : List Lent) → limits records columns lent ≡ none → any (ltb maxNumbers) columns ≡ false
+unfolding limits
+few-numbers records columns lent e = not-refused OverNumbers _ (each-none _ e .1 .0)
+
+pub few-deltas : (s : EdgeSet) → any (ltb maxNumbers) (setLengths s) ≡ false → length (s .deltas) ≤ maxNumbers
+unfolding setLengths
+few-deltas s e = ltb-false maxNumbers (length (s .deltas)) (any-kept (ltb maxNumbers) _ _ (any-kept (ltb maxNumbers) _ _ e .1) .0)
+
+module _ (set first rows end : ℕ) (s : EdgeSet) (e : setRules set first rows end s ≡ none) where
+  pub kept-form : offsetsForm rows (s .count) (s .offsets) ≡ true
+  unfolding setRules
+  kept-form = passed OffsetsForm _ (each-none _ e .0)
+
+  module _ (h : 0 < s .count) where
+    kept-count : length (s .deltas) ≡ s .count
+    unfolding setRules
+    kept-count =
+        let p : ltb 0 (s .count) && not (eqb (length (s .deltas)) (s .count)) ≡ false = not-refused DeltaCount _ (each-none _ e .1 .0) in
+        eqb-true _ _ (not-false _ (rw (lt-ltb 0 (s .count) h) at p))
+
+    pub kept-climbs : fromTo 0 (length (s .deltas)) (s .offsets) ≡ true
+    kept-climbs = rw kept-count (form-climbs rows (s .count) (s .offsets) kept-form)
+
+    pub kept-sides : soundFrom set first end 0 (cut (s .offsets) (s .deltas)) ≡ true
+    unfolding setRules
+    kept-sides =
+        let p : ltb 0 (s .count) && not (soundFrom set first end 0 (cut (s .offsets) (s .deltas))) ≡ false = not-refused TargetSide _ (each-none _ e .1 .1 .0) in
+        not-false _ (rw (lt-ltb 0 (s .count) h) at p)
+
+pub edged : (first count : ℕ) (offsets : List ℕ) (deltas : List ℤ) → Readable first (columnsOf count offsets deltas) → (count ≡ 0 → ⊥) → Edged first offsets deltas
+edged first count offsets deltas r h =
+    let s = columnsOf count offsets deltas in
+    record {
+      set = r .set;
+      end = r .end;
+      climbs = kept-climbs (r .set) first (r .rows) (r .end) s (r .kept) (omega arith);
+      sides = kept-sides (r .set) first (r .rows) (r .end) s (r .kept) (omega arith);
+      few = r .few;
+    }
+
+module _ (set first rows end : ℕ) (s : EdgeSet) (lent : List Lent) (k : Checked) (e : k ≡ checkedOf (lentRules set first rows end s lent)) where
+  pub readable : k ≡ Kept → Readable first s
+  unfolding lentRules
+  readable h =
+      let p = each-none _ (is-kept k _ e h) in
+      record {
+        set = set;
+        rows = rows;
+        end = end;
+        kept = p .1 .0;
+        few = few-deltas s (few-numbers _ _ lent (p .0));
+      }
+
+module _ (first rows end : ℕ) (r i : EdgeSet) (lent : List Lent) (k : Checked) (e : k ≡ checkedOf (childrenRules first rows end r i lent)) (h : k ≡ Kept) where
+  apart : (any (ltb maxNumbers) (setLengths r) ≡ false) × (any (ltb maxNumbers) (setLengths i) ≡ false)
+  unfolding childrenRules
+  apart = or-kept _ _ (sym (any-append (ltb maxNumbers) (setLengths r) (setLengths i)) ∙ few-numbers _ _ lent (each-none _ (is-kept k _ e h) .0))
+
+  rules : (setRules reverse first rows end r ≡ none) × (setRules inbound first rows end i ≡ none)
+  unfolding childrenRules
+  rules =
+      let p = each-none _ (is-kept k _ e h) in
+      (p .1 .0, p .1 .1 .0)
+
+  pub readable-reverse : Readable first r
+  readable-reverse = record { set = reverse; rows = rows; end = end; kept = rules .0; few = few-deltas r (apart .0) }
+
+  pub readable-inbound : Readable first i
+  readable-inbound = record { set = inbound; rows = rows; end = end; kept = rules .1; few = few-deltas i (apart .1) }
+
+-- label columns
+module _ (rows : ℕ) (chains seqs : List ℕ) (k : Checked) (e : k ≡ checkedOf (lentLabelRules rows (labelColumns chains seqs))) (h : k ≡ Kept) where
+  lent-labels : labelRules rows (labelColumns chains seqs) ≡ none
+  unfolding lentLabelRules
+  lent-labels = each-none _ (is-kept k _ e h) .1 .0
+
+  counts : (length chains ≡ rows) × (length seqs ≡ rows)
+  unfolding labelRules
+  counts =
+      let p = both (eqb (length chains) rows) _ (passed LabelColumns _ (each-none _ lent-labels .0)) in
+      (eqb-true _ _ (p .0), eqb-true _ _ (p .1))
+
+  ranges : (all short32 chains ≡ true) × (all short32 seqs ≡ true)
+  unfolding labelRules
+  ranges = both (all short32 chains) _ (passed LabelRange _ (each-none _ lent-labels .1 .0))
+
+  pub as-many : length seqs ≡ length chains
+  as-many = omega (arith, counts .0, counts .1)
+
+  pub short-chains : all short32 chains ≡ true
+  short-chains = ranges .0
+
+  pub short-seqs : all short32 seqs ≡ true
+  short-seqs = ranges .1
+
+-- ── answers ──────────────────────────────────────────────────────────────────────────────────
+
+-- a list as the answer, and in the slice that is lent for it
+module _ (k : Checked) (o : Option Refusal) (l old : List ℕ) (e : k ≡ checkedOf o) where
+  pub list-counted : k ≡ Kept → (n : ℕ) → n ≡ length l → Entries n ≡ countedOf (unless o l)
+  unfolding unless countedOf
+  list-counted h n f = rw (is-kept k o e h, f)
+
+  pub list-written : k ≡ Kept → (out : List ℕ) → out ≡ sets old 0 l → out ≡ writtenOver old (unless o l)
+  unfolding unless writtenOver
+  list-written h out f = rw (is-kept k o e h, f)
+
+  pub list-refused : (why : Refusal) → k ≡ Broken why → Refused why ≡ countedOf (unless o l)
+  unfolding unless countedOf
+  list-refused why h = rw (is-broken k o why e h)
+
+  pub list-as-was : (why : Refusal) → k ≡ Broken why → old ≡ writtenOver old (unless o l)
+  unfolding unless writtenOver
+  list-as-was why h = rw (is-broken k o why e h)
+
+in-one : (o : Option Refusal) (lists : List (List ℕ)) → inOne (unless o lists) ≡ unless o (joined lists)
+unfolding inOne unless
+in-one none lists = refl
+in-one (some r) lists = refl
+
+module _ (set first rows end : ℕ) (s : EdgeSet) (old : List ℕ) (k : Checked) (e : k ≡ checkedOf (lentRules set first rows end s (room (length old)))) where
+  decoded : inOne (decodeSet set first rows end s (room (length old))) ≡ unless (lentRules set first rows end s (room (length old))) (joined (slotsOf first s))
+  unfolding decodeSet lentRules
+  decoded = in-one _ _
+
+  pub set-counted : k ≡ Kept → (n : ℕ) → n ≡ length (joined (slotsOf first s)) → Entries n ≡ countedOf (inOne (decodeSet set first rows end s (room (length old))))
+  set-counted h n f = rw decoded (list-counted k _ _ old e h n f)
+
+  pub set-written : k ≡ Kept → (out : List ℕ) → out ≡ sets old 0 (joined (slotsOf first s)) → out ≡ writtenOver old (inOne (decodeSet set first rows end s (room (length old))))
+  set-written h out f = rw decoded (list-written k _ _ old e h out f)
+
+  pub set-refused : (why : Refusal) → k ≡ Broken why → Refused why ≡ countedOf (inOne (decodeSet set first rows end s (room (length old))))
+  set-refused why h = rw decoded (list-refused k _ (joined (slotsOf first s)) old e why h)
+
+  pub set-as-was : (why : Refusal) → k ≡ Broken why → old ≡ writtenOver old (inOne (decodeSet set first rows end s (room (length old))))
+  set-as-was why h = rw decoded (list-as-was k _ (joined (slotsOf first s)) old e why h)

@@ -1,0 +1,55 @@
+-- `columns::reading::all_short` meets its contract.
+use mathlib.Core.Path.{_≡_}
+use Prim.Native.Nat.{_-_}
+use lib.ListN.{length, drop}
+use borrow.Author.Needs.{needs}
+use Rattle.lists.specs.Lists.{all}
+use Rattle.columns.specs.Answers.{short32}
+use Rattle.columns.proofs.Turns.{short-done, short-stop, short-on}
+use Rattle.columns.proofs.reading.all_short.Statement.{statement}
+use Rattle.columns.proofs.reading.all_short.Tie as tie
+
+abbrev Inv-loop : tie.InvT-loop
+Inv-loop column i₀ i = all short32 column ≡ all short32 (drop i column)
+
+abbrev μ-loop : tie.MeasureT-loop
+μ-loop column i₀ i = length column - i
+
+loop-holds : tie.Need-loop-holds Inv-loop μ-loop
+loop-holds c = search needs
+
+mul-if1 : tie.Need-mul-if1 Inv-loop μ-loop
+mul-if1 c = search needs
+
+shared-slice-read-if1 : tie.Need-shared-slice-read-if1 Inv-loop μ-loop
+shared-slice-read-if1 c = search needs
+
+returns : tie.Need-returns Inv-loop μ-loop
+returns c = search short-stop
+
+add-i : tie.Need-add-i Inv-loop μ-loop
+add-i c = search needs
+
+loop-less : tie.Need-loop-less Inv-loop μ-loop
+loop-less c = search needs
+
+loop-again : tie.Need-loop-again Inv-loop μ-loop
+loop-again c = search short-on
+
+returns-2 : tie.Need-returns-2 Inv-loop μ-loop
+returns-2 c = search short-done
+
+pub all-short-spec : {M : Type 1} → statement M
+all-short-spec =
+    tie.close
+    (tie.spec
+    Inv-loop
+    μ-loop
+    loop-holds
+    mul-if1
+    shared-slice-read-if1
+    returns
+    add-i
+    loop-less
+    loop-again
+    returns-2)

@@ -1,0 +1,54 @@
+-- `columns::reading::climbs` meets its contract.
+use mathlib.Core.Path.{_≡_}
+use Prim.Native.Nat.{_-_}
+use lib.ListN.{length, drop}
+use borrow.Author.Needs.{needs}
+use Rattle.lists.specs.Order.{climbsTo}
+use Rattle.columns.proofs.Turns.{climb-done, climb-falls, climb-on}
+use Rattle.columns.proofs.reading.climbs.Statement.{statement}
+use Rattle.columns.proofs.reading.climbs.Tie as tie
+
+abbrev Inv-loop : tie.InvT-loop
+Inv-loop high offsets low₀ i₀ low i = climbsTo high 0 (drop 1 offsets) ≡ climbsTo high low (drop i offsets)
+
+abbrev μ-loop : tie.MeasureT-loop
+μ-loop high offsets low₀ i₀ low i = length offsets - i
+
+loop-holds : tie.Need-loop-holds Inv-loop μ-loop
+loop-holds c = search needs
+
+mul-next : tie.Need-mul-next Inv-loop μ-loop
+mul-next c = search needs
+
+shared-slice-read-next : tie.Need-shared-slice-read-next Inv-loop μ-loop
+shared-slice-read-next c = search needs
+
+returns : tie.Need-returns Inv-loop μ-loop
+returns c = search climb-falls
+
+add-i : tie.Need-add-i Inv-loop μ-loop
+add-i c = search needs
+
+loop-less : tie.Need-loop-less Inv-loop μ-loop
+loop-less c = search needs
+
+loop-again : tie.Need-loop-again Inv-loop μ-loop
+loop-again c = search climb-on
+
+returns-2 : tie.Need-returns-2 Inv-loop μ-loop
+returns-2 c = search climb-done
+
+pub climbs-spec : {M : Type 1} → statement M
+climbs-spec =
+    tie.close
+    (tie.spec
+    Inv-loop
+    μ-loop
+    loop-holds
+    mul-next
+    shared-slice-read-next
+    returns
+    add-i
+    loop-less
+    loop-again
+    returns-2)

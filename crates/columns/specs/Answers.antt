@@ -1,0 +1,105 @@
+-- What a reader answers and leaves in the slices that it is lent, as a view of the verdict that the definitions give.
+use mathlib.Core.Bool.{Bool}
+use mathlib.Core.List.{List, [], _∷_, _++_}
+use mathlib.Core.Option.{Option, none, some}
+use Prim.Native.Nat.{ℕ}
+use lib.Dec.{ltb}
+use lib.IntN.{ℤ, pos, _-ℤ_}
+use lib.ListN.{length}
+use lib.Seq.{sets}
+use Rattle.lists.specs.Lists.{any, joined}
+use Rattle.columns.specs.Limits.{numbersRoom, maxRecords, end32}
+use Rattle.columns.specs.Refusal.{Verdict, refused, accepted, refuse, firstOf, Lent, limits}
+use Rattle.columns.specs.EdgeSet.{EdgeSet, reverse, inbound, isNumber}
+use Rattle.columns.specs.Reading.{Label, Labels, setRules, setLengths, labelRules}
+use Rattle.columns.specs.declared.kind.Kind.{Kind}
+use Rattle.columns.specs.declared.kind.Kind.the-variants.{Prev, Auth}
+use Rattle.columns.specs.declared.refusal.Refusal.{Refusal}
+use Rattle.columns.specs.declared.refusal.Refusal.the-variants.{SliceShort, OverRecords, OverNumbers}
+use Rattle.columns.specs.declared.reading.Checked.{Checked}
+use Rattle.columns.specs.declared.reading.Checked.the-variants.{Kept, Broken}
+use Rattle.columns.specs.declared.reading.Counted.{Counted}
+use Rattle.columns.specs.declared.reading.Counted.the-variants.{Entries, Refused}
+use Rattle.columns.specs.declared.questions.Labelled.{Labelled}
+use Rattle.columns.specs.declared.questions.Labelled.the-variants as labelled
+
+-- a kind's place among the slots of a row
+abbrev pub kindOf : Kind → ℕ
+kindOf Prev = 0
+kindOf Auth = 1
+
+-- whether a delta of an event names a number, on whichever side
+unfoldable pub named : ℕ → ℤ → Bool
+named event delta = isNumber (pos event -ℤ delta)
+
+-- a number of 32 bits
+abbrev pub short32 : ℕ → Bool
+short32 x = ltb x end32
+
+-- ── what is lent ─────────────────────────────────────────────────────────────────────────────
+
+-- a set as it is lent: a number and two columns
+abbrev pub columnsOf : ℕ → List ℕ → List ℤ → EdgeSet
+columnsOf count offsets deltas = record { count = count; offsets = offsets; deltas = deltas }
+
+-- labels as they are lent
+abbrev pub labelColumns : List ℕ → List ℕ → Labels
+labelColumns chains seqs = record { chains = chains; seqs = seqs }
+
+-- one slice of a length, lent for the numbers of an answer
+abbrev pub room : ℕ → List Lent
+room n = record { has = n; needs = numbersRoom } ∷ []
+
+-- ── rules ────────────────────────────────────────────────────────────────────────────────────
+
+-- 42, 43 and 41, by whether a column is too long and whether a lent slice is too short
+unfoldable pub limitsOf : ℕ → Bool → Bool → Option Refusal
+limitsOf rows over short =
+    firstOf (refuse OverRecords (any (ltb maxRecords) (rows ∷ [])) ∷ refuse OverNumbers over ∷ refuse SliceShort short ∷ [])
+
+-- the limits and the rules of one set that is lent by itself
+unfoldable pub lentRules : ℕ → ℕ → ℕ → ℕ → EdgeSet → List Lent → Option Refusal
+lentRules set first rows end s lent = firstOf (limits (rows ∷ []) (setLengths s) lent ∷ setRules set first rows end s ∷ [])
+
+-- the rules of the two sets that children come from
+unfoldable pub bothRules : ℕ → ℕ → ℕ → EdgeSet → EdgeSet → Option Refusal
+bothRules first rows end r i = firstOf (setRules reverse first rows end r ∷ setRules inbound first rows end i ∷ [])
+
+-- the same with their limits
+unfoldable pub childrenRules : ℕ → ℕ → ℕ → EdgeSet → EdgeSet → List Lent → Option Refusal
+childrenRules first rows end r i lent =
+    firstOf (limits (rows ∷ []) (setLengths r ++ setLengths i) lent ∷ setRules reverse first rows end r ∷ setRules inbound first rows end i ∷ [])
+
+-- the limits and the rules of label columns that are lent by themselves
+unfoldable pub lentLabelRules : ℕ → Labels → Option Refusal
+lentLabelRules rows c = firstOf (limits (rows ∷ []) (length (c .chains) ∷ length (c .seqs) ∷ []) [] ∷ labelRules rows c ∷ [])
+
+-- what is answered of rules: the first that is broken, if one is
+abbrev pub checkedOf : Option Refusal → Checked
+checkedOf none = Kept
+checkedOf (some r) = Broken r
+
+-- ── lists of numbers as answers ──────────────────────────────────────────────────────────────
+
+-- the lists of all slots, one after the other
+unfoldable pub inOne : Verdict (List (List ℕ)) → Verdict (List ℕ)
+inOne (refused r) = refused r
+inOne (accepted lists) = accepted (joined lists)
+
+-- how many numbers there are, or the refusal
+unfoldable pub countedOf : Verdict (List ℕ) → Counted
+countedOf (refused r) = Refused r
+countedOf (accepted l) = Entries (length l)
+
+-- a lent slice after the answer: the numbers from its start on, and as it was behind them; after a refusal all as it was
+unfoldable pub writtenOver : List ℕ → Verdict (List ℕ) → List ℕ
+writtenOver old (refused r) = old
+writtenOver old (accepted l) = sets old 0 l
+
+-- ── a label as the answer ────────────────────────────────────────────────────────────────────
+
+-- the label, none, or the refusal
+abbrev pub labelledOf : Verdict (Option Label) → Labelled
+labelledOf (refused r) = labelled.Refused r
+labelledOf (accepted none) = labelled.Unlabelled
+labelledOf (accepted (some l)) = labelled.At (record { chain = l .chain; seq = l .seq })

@@ -1,0 +1,66 @@
+// A delta of an event and the target that it names, event minus delta, in numbers of 64 bits.
+ghost use mathlib.Core.Path.{_≡_};
+ghost use mathlib.Core.Bool.{true};
+ghost use lib.IntN.{natAbs};
+ghost use Rattle.columns.specs.EdgeSet.{targetOf, allowed, sound};
+ghost use Rattle.columns.specs.Answers.{named};
+
+// How far a delta reaches, whichever way.
+fn magnitude(delta: i64) -> u64
+    ensures { λ r. ⌜ r ≡ natAbs delta ⌝ }
+{
+    if delta < 0 {
+        let less: i64 = -1 - delta;
+        return (less as u64) + 1;
+    }
+    delta as u64
+}
+
+// Whether event minus delta is a number. A delta below 0 leads up, and may lead past the greatest one.
+fn is_number(event: u64, delta: i64) -> bool
+    ensures { λ r. ⌜ r ≡ named event delta ⌝ }
+{
+    let far = magnitude(delta);
+    if delta < 0 {
+        return event <= 18446744073709551615 - far;
+    }
+    far <= event
+}
+
+// That number.
+pub(crate) fn target(event: u64, delta: i64) -> u64
+    requires { ⌜ named event delta ≡ true ⌝ }
+    ensures { λ r. ⌜ r ≡ targetOf event delta ⌝ }
+{
+    let far = magnitude(delta);
+    if delta < 0 {
+        return event + far;
+    }
+    event - far
+}
+
+// Whether a target lies on its set's side.
+fn is_allowed(set: u64, end: u64, event: u64, target: u64) -> bool
+    ensures { λ r. ⌜ r ≡ allowed set end event target ⌝ }
+{
+    if set == 0 {
+        return target < event;
+    }
+    if set == 1 {
+        if target <= event {
+            return false;
+        }
+        return target < end;
+    }
+    end <= target
+}
+
+// Whether a delta names a number on its set's side.
+pub(crate) fn is_sound(set: u64, end: u64, event: u64, delta: i64) -> bool
+    ensures { λ r. ⌜ r ≡ sound set end event delta ⌝ }
+{
+    if !is_number(event, delta) {
+        return false;
+    }
+    is_allowed(set, end, event, target(event, delta))
+}

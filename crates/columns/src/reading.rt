@@ -1,0 +1,391 @@
+// Reading the columns of a set of edges: what is refused (17, 18, 19), and the targets that its deltas name.
+use super::delta;
+use super::refusal::Refusal;
+ghost use mathlib.Core.Path.{_≡_};
+ghost use mathlib.Core.Bool.{true, _&&_};
+ghost use mathlib.Core.List.{[], _∷_, map};
+ghost use Prim.Native.Nat.{_+_, _-_, _*_, _<_, _≤_};
+ghost use lib.Dec.{ltb};
+ghost use lib.ListN.{length, getD, drop, set};
+ghost use lib.Seq.{slice, sets};
+ghost use Rattle.lists.specs.Lists.{all, any, joined};
+ghost use Rattle.lists.specs.Order.{climbsTo};
+ghost use Rattle.columns.specs.Limits.{end64, maxNumbers};
+ghost use Rattle.columns.specs.EdgeSet.{cut, eventOf, fromTo, offsetsForm, targetOf, sound};
+ghost use Rattle.columns.specs.Reading.{soundFrom, targetsFrom, slotsOf, setRules, decodeSet, labelRules};
+ghost use Rattle.columns.specs.Answers.{named, short32, columnsOf, labelColumns, room, limitsOf, lentRules, bothRules, checkedOf, inOne, countedOf, writtenOver};
+ghost use Rattle.columns.specs.Readable.{Readable, Edged};
+
+// How many numbers an answer has, or why there is no answer.
+pub enum Counted {
+    Entries(usize),
+    Refused(Refusal),
+}
+
+// What the rules say: all are kept, or the first that is broken.
+pub enum Checked {
+    Kept,
+    Broken(Refusal),
+}
+
+// ── offsets: 17 ──
+
+fn index(x: u64) -> usize
+    ensures { λ r. ⌜ r ≡ x ⌝ }
+{
+    x as usize
+}
+
+// Whether the offsets after the first rise or stay level from 0, and end at `high`.
+fn climbs(high: u64, offsets: &[u64]) -> bool
+    ensures { λ r. ⌜ r ≡ climbsTo high 0 (drop 1 (now (offsets .entry))) ⌝ }
+{
+    let mut low = 0;
+    let mut i = 1;
+    while i < offsets.len() {
+        let next = offsets[i];
+        if next < low {
+            return false;
+        }
+        low = next;
+        i += 1;
+    }
+    low == high
+}
+
+// Whether there is an offset for each slot and one more, from 0 to the number of edges.
+fn is_form(rows: usize, count: u64, offsets: &[u64]) -> bool
+    ensures { λ r. ⌜ r ≡ offsetsForm rows count (now (offsets .entry)) ⌝ }
+{
+    if offsets.len() % 2 != 1 {
+        return false;
+    }
+    if offsets.len() / 2 != rows {
+        return false;
+    }
+    if offsets[0] != 0 {
+        return false;
+    }
+    climbs(count, offsets)
+}
+
+// ── the side of every target: 19 ──
+
+// Whether the row of a slot has a number of 64 bits.
+fn has_event(first: u64, slot: usize) -> bool
+    ensures { λ r. ⌜ r ≡ ltb (eventOf first slot) end64 ⌝ }
+{
+    let row = (slot / 2) as u64;
+    first <= 18446744073709551615 - row
+}
+
+// That number.
+fn event(first: u64, slot: usize) -> u64
+    requires { ⌜ eventOf first slot < end64 ⌝ }
+    ensures { λ r. ⌜ r ≡ eventOf first slot ⌝ }
+{
+    let row = (slot / 2) as u64;
+    first + row
+}
+
+// Whether each of an event's deltas from one place up to another is sound.
+fn all_sound(set: u64, end: u64, event: u64, deltas: &[i64], from: usize, to: usize) -> bool
+    requires { ⌜ to ≤ length (now deltas) ⌝ }
+    ensures { λ r. ⌜ r ≡ all (sound set end event) (slice from to (now (deltas .entry))) ⌝ }
+{
+    let mut i = from;
+    while i < to {
+        if !delta::is_sound(set, end, event, deltas[i]) {
+            return false;
+        }
+        i += 1;
+    }
+    true
+}
+
+// Whether a slot's row has a number and its deltas are sound.
+fn is_slot_sound(
+    set: u64,
+    first: u64,
+    end: u64,
+    offsets: &[u64],
+    deltas: &[i64],
+    slot: usize,
+) -> bool
+    requires { ⌜ (slot + 1 < length (now offsets)) × (fromTo 0 (length (now deltas)) (now offsets) ≡ true) ⌝ }
+    ensures { λ r. ⌜ r ≡ (ltb (eventOf first slot) end64 && all (sound set end (eventOf first slot)) (getD (cut (now (offsets .entry)) (now (deltas .entry))) slot [])) ⌝ }
+{
+    if !has_event(first, slot) {
+        return false;
+    }
+    let from = index(offsets[slot]);
+    let to = index(offsets[slot + 1]);
+    all_sound(set, end, event(first, slot), deltas, from, to)
+}
+
+// The same of every slot.
+fn are_sound(set: u64, first: u64, end: u64, offsets: &[u64], deltas: &[i64]) -> bool
+    requires { ⌜ fromTo 0 (length (now deltas)) (now offsets) ≡ true ⌝ }
+    ensures { λ r. ⌜ r ≡ soundFrom set first end 0 (cut (now (offsets .entry)) (now (deltas .entry))) ⌝ }
+{
+    let mut slot = 0;
+    while slot + 1 < offsets.len() {
+        if !is_slot_sound(set, first, end, offsets, deltas, slot) {
+            return false;
+        }
+        slot += 1;
+    }
+    true
+}
+
+// ── the rules of one set ──
+
+// 17, 18, 19. A set without edges has no deltas to look at.
+pub(crate) fn set_rules(
+    set: u64,
+    first: u64,
+    rows: usize,
+    end: u64,
+    count: u64,
+    offsets: &[u64],
+    deltas: &[i64],
+) -> Checked
+    ensures { λ r. ⌜ r ≡ checkedOf (setRules set first rows end (columnsOf count (now (offsets .entry)) (now (deltas .entry)))) ⌝ }
+{
+    if !is_form(rows, count, offsets) {
+        return Checked::Broken(Refusal::OffsetsForm);
+    }
+    if count == 0 {
+        return Checked::Kept;
+    }
+    if deltas.len() as u64 != count {
+        return Checked::Broken(Refusal::DeltaCount);
+    }
+    if !are_sound(set, first, end, offsets, deltas) {
+        return Checked::Broken(Refusal::TargetSide);
+    }
+    Checked::Kept
+}
+
+// ── limits: 42, 43, 41 ──
+
+// Whether one of two columns is too long.
+pub(crate) fn is_over(a: usize, b: usize) -> bool
+    ensures { λ r. ⌜ r ≡ any (ltb maxNumbers) (a ∷ b ∷ []) ⌝ }
+{
+    if 4096 < a {
+        return true;
+    }
+    4096 < b
+}
+
+// Whether one of four columns is too long.
+pub(crate) fn is_any_over(a: usize, b: usize, c: usize, d: usize) -> bool
+    ensures { λ r. ⌜ r ≡ any (ltb maxNumbers) (a ∷ b ∷ c ∷ d ∷ []) ⌝ }
+{
+    if is_over(a, b) {
+        return true;
+    }
+    is_over(c, d)
+}
+
+// The limits, by whether a column is too long and whether a lent slice is too short.
+pub(crate) fn limit_rules(rows: usize, over: bool, short: bool) -> Checked
+    ensures { λ r. ⌜ r ≡ checkedOf (limitsOf rows over short) ⌝ }
+{
+    if 1024 < rows {
+        return Checked::Broken(Refusal::OverRecords);
+    }
+    if over {
+        return Checked::Broken(Refusal::OverNumbers);
+    }
+    if short {
+        return Checked::Broken(Refusal::SliceShort);
+    }
+    Checked::Kept
+}
+
+// The limits and the rules of one set that is lent by itself, with a slice of length `out` for its answer.
+pub(crate) fn csr_rules(
+    set: u64,
+    first: u64,
+    rows: usize,
+    end: u64,
+    count: u64,
+    offsets: &[u64],
+    deltas: &[i64],
+    out: usize,
+) -> Checked
+    ensures { λ r. ⌜ r ≡ checkedOf (lentRules set first rows end (columnsOf count (now (offsets .entry)) (now (deltas .entry))) (room out)) ⌝ }
+{
+    let over = is_over(offsets.len(), deltas.len());
+    let limit = limit_rules(rows, over, out < 4096);
+    match limit {
+        Checked::Kept => set_rules(set, first, rows, end, count, offsets, deltas),
+        Checked::Broken(why) => Checked::Broken(why),
+    }
+}
+
+// The rules of a reverse set, then those of an inbound set.
+pub(crate) fn both_rules(
+    first: u64,
+    rows: usize,
+    end: u64,
+    rcount: u64,
+    roffsets: &[u64],
+    rdeltas: &[i64],
+    icount: u64,
+    ioffsets: &[u64],
+    ideltas: &[i64],
+) -> Checked
+    ensures { λ r. ⌜ r ≡ checkedOf (bothRules first rows end (columnsOf rcount (now (roffsets .entry)) (now (rdeltas .entry))) (columnsOf icount (now (ioffsets .entry)) (now (ideltas .entry)))) ⌝ }
+{
+    let rules = set_rules(1, first, rows, end, rcount, roffsets, rdeltas);
+    match rules {
+        Checked::Kept => set_rules(2, first, rows, end, icount, ioffsets, ideltas),
+        Checked::Broken(why) => Checked::Broken(why),
+    }
+}
+
+// ── label columns: 20, 21 ──
+
+// Whether every number of a column is one of 32 bits.
+fn all_short(column: &[u64]) -> bool
+    ensures { λ r. ⌜ r ≡ all short32 (now (column .entry)) ⌝ }
+{
+    let mut i = 0;
+    while i < column.len() {
+        if 4294967295 < column[i] {
+            return false;
+        }
+        i += 1;
+    }
+    true
+}
+
+// A label for each row, in numbers of 32 bits.
+pub(crate) fn label_rules(rows: usize, chains: &[u64], seqs: &[u64]) -> Checked
+    ensures { λ r. ⌜ r ≡ checkedOf (labelRules rows (labelColumns (now (chains .entry)) (now (seqs .entry)))) ⌝ }
+{
+    if chains.len() != rows {
+        return Checked::Broken(Refusal::LabelColumns);
+    }
+    if seqs.len() != rows {
+        return Checked::Broken(Refusal::LabelColumns);
+    }
+    if !all_short(chains) {
+        return Checked::Broken(Refusal::LabelRange);
+    }
+    if !all_short(seqs) {
+        return Checked::Broken(Refusal::LabelRange);
+    }
+    Checked::Kept
+}
+
+// ── writing targets ──
+
+// Puts a number at a place of a slice that reaches so far.
+fn put(out: &mut [u64], at: usize, x: u64)
+    ensures { λ _. ⌜ now (out .exit) ≡ set (now (out .entry)) at x ⌝ }
+{
+    if at < out.len() {
+        out[at] = x;
+    }
+}
+
+// Writes the targets of an event's deltas from one place up to another, from `at` on, and answers where they end.
+fn write_targets(
+    event: u64,
+    deltas: &[i64],
+    from: usize,
+    to: usize,
+    out: &mut [u64],
+    at: usize,
+) -> usize
+    requires { ⌜ (from ≤ to) × ((to ≤ length (now deltas)) × ((length (now deltas) ≤ maxNumbers) × (at ≤ maxNumbers))) ⌝ }
+    requires { ⌜ all (named event) (slice from to (now deltas)) ≡ true ⌝ }
+    ensures { λ r. ⌜ r ≡ at + (to - from) ⌝ }
+    ensures { λ _. ⌜ now (out .exit) ≡ sets (now (out .entry)) at (map (targetOf event) (slice from to (now (deltas .entry)))) ⌝ }
+{
+    let mut past = at;
+    let mut i = from;
+    while i < to {
+        put(out, past, delta::target(event, deltas[i]));
+        past += 1;
+        i += 1;
+    }
+    past
+}
+
+// Writes the targets of a slot.
+pub(crate) fn write_slot(
+    first: u64,
+    offsets: &[u64],
+    deltas: &[i64],
+    slot: usize,
+    out: &mut [u64],
+    at: usize,
+) -> usize
+    requires { ⌜ (slot + 1 < length (now offsets)) × (at ≤ maxNumbers) ⌝ }
+    requires { ⌜ Edged first (now offsets) (now deltas) ⌝ }
+    ensures { λ r. ⌜ r ≡ at + length (getD (targetsFrom first 0 (cut (now (offsets .entry)) (now (deltas .entry)))) slot []) ⌝ }
+    ensures { λ _. ⌜ now (out .exit) ≡ sets (now (out .entry)) at (getD (targetsFrom first 0 (cut (now (offsets .entry)) (now (deltas .entry)))) slot []) ⌝ }
+{
+    let from = index(offsets[slot]);
+    let to = index(offsets[slot + 1]);
+    write_targets(event(first, slot), deltas, from, to, out, at)
+}
+
+// Writes the targets of all slots.
+fn write_set(first: u64, offsets: &[u64], deltas: &[i64], out: &mut [u64]) -> usize
+    requires { ⌜ Edged first (now offsets) (now deltas) ⌝ }
+    ensures { λ r. ⌜ r ≡ length (joined (targetsFrom first 0 (cut (now (offsets .entry)) (now (deltas .entry))))) ⌝ }
+    ensures { λ _. ⌜ now (out .exit) ≡ sets (now (out .entry)) 0 (joined (targetsFrom first 0 (cut (now (offsets .entry)) (now (deltas .entry))))) ⌝ }
+{
+    let mut at = 0;
+    let mut slot = 0;
+    while slot + 1 < offsets.len() {
+        at = write_slot(first, offsets, deltas, slot, out, at);
+        slot += 1;
+    }
+    at
+}
+
+// Writes the targets of a set whose rules are kept, and answers how many there are.
+pub(crate) fn write_csr(
+    first: u64,
+    count: u64,
+    offsets: &[u64],
+    deltas: &[i64],
+    out: &mut [u64],
+) -> usize
+    requires { ⌜ Readable first (columnsOf count (now offsets) (now deltas)) ⌝ }
+    ensures { λ r. ⌜ r ≡ length (joined (slotsOf first (columnsOf count (now (offsets .entry)) (now (deltas .entry))))) ⌝ }
+    ensures { λ _. ⌜ now (out .exit) ≡ sets (now (out .entry)) 0 (joined (slotsOf first (columnsOf count (now (offsets .entry)) (now (deltas .entry))))) ⌝ }
+{
+    if count == 0 {
+        return 0;
+    }
+    write_set(first, offsets, deltas, out)
+}
+
+// Reads one set that is lent by itself: its targets, slot after slot.
+pub fn decode_csr(
+    set: u64,
+    first: u64,
+    rows: usize,
+    end: u64,
+    count: u64,
+    offsets: &[u64],
+    deltas: &[i64],
+    targets: &mut [u64],
+) -> Counted
+    ensures { λ r. ⌜ r ≡ countedOf (inOne (decodeSet set first rows end (columnsOf count (now (offsets .entry)) (now (deltas .entry))) (room (length (now (targets .entry)))))) ⌝ }
+    ensures { λ _. ⌜ now (targets .exit) ≡ writtenOver (now (targets .entry)) (inOne (decodeSet set first rows end (columnsOf count (now (offsets .entry)) (now (deltas .entry))) (room (length (now (targets .entry)))))) ⌝ }
+{
+    let rules = csr_rules(set, first, rows, end, count, offsets, deltas, targets.len());
+    match rules {
+        Checked::Kept => Counted::Entries(write_csr(first, count, offsets, deltas, targets)),
+        Checked::Broken(why) => Counted::Refused(why),
+    }
+}
