@@ -1,0 +1,106 @@
+-- A table of offsets that climbs from 0 to a count: its slots lie one after the other in the column, and what they cut out joins to a part of it.
+use mathlib.Core.Path.{_≡_, refl, sym, _∙_, ap}
+use mathlib.Core.Bool.{true}
+use mathlib.Core.List.{List, [], _∷_, _++_}
+use Prim.Native.Nat.{ℕ, zero, suc, _≤_, _<_, _+_, _-_, _*_}
+use native.Mathlib.Nat.{le-refl, le-trans, add-zero}
+use native.Mathlib.Numerals.{add-one}
+use native.Mathlib.Omega.{arith}
+use lib.Dec.{leb, eqb}
+use lib.ListN.{length, getD, take, drop, length-take, take-append-drop}
+use lib.Seq.{slice, slice-empty, take-take, drop-append-le, drop-cons}
+use borrow.Author.Tests.{leb-true, eqb-true}
+use Rattle.lists.specs.Lists.{joined, part}
+use Rattle.lists.specs.Order.{climbsTo}
+use Rattle.lists.proofs.Tests.{both}
+use Rattle.columns.specs.Limits.{kinds}
+use Rattle.columns.specs.EdgeSet.{fromTo, offsetsForm, cutFrom, cut}
+
+-- ── climbing ─────────────────────────────────────────────────────────────────────────────────
+
+low-high : (high low : ℕ) (xs : List ℕ) → climbsTo high low xs ≡ true → low ≤ high
+unfolding climbsTo
+low-high high low [] e = omega (arith, eqb-true low high e)
+low-high high low (x ∷ xs) e = let p = both (leb low x) (climbsTo high x xs) e in le-trans (leb-true low x (p .0)) (low-high high x xs (p .1))
+
+-- any place of a climb is at or above each one before it and not above the top
+climb : (high low : ℕ) (xs : List ℕ) → climbsTo high low xs ≡ true → (i j : ℕ) → i ≤ j → j < length (low ∷ xs) → getD (low ∷ xs) i 0 ≤ getD (low ∷ xs) j 0
+unfolding climbsTo
+climb high low xs e zero zero k h = le-refl low
+climb high low [] e zero (suc j) k h = absurd (omega arith)
+climb high low (x ∷ xs) e zero (suc j) k h =
+    let p = both (leb low x) (climbsTo high x xs) e in
+    le-trans (leb-true low x (p .0)) (climb high x xs (p .1) zero j (omega arith) (omega arith))
+climb high low xs e (suc i) zero k h = absurd (omega arith)
+climb high low [] e (suc i) (suc j) k h = absurd (omega arith)
+climb high low (x ∷ xs) e (suc i) (suc j) k h = climb high x xs (both (leb low x) (climbsTo high x xs) e .1) i j (omega arith) (omega arith)
+
+climb-top : (high low : ℕ) (xs : List ℕ) → climbsTo high low xs ≡ true → (j : ℕ) → j < length (low ∷ xs) → getD (low ∷ xs) j 0 ≤ high
+unfolding climbsTo
+climb-top high low xs e zero h = low-high high low xs e
+climb-top high low [] e (suc j) h = absurd (omega arith)
+climb-top high low (x ∷ xs) e (suc j) h = climb-top high x xs (both (leb low x) (climbsTo high x xs) e .1) j (omega arith)
+
+pub table-rises : (count : ℕ) (os : List ℕ) → fromTo 0 count os ≡ true → (i j : ℕ) → i ≤ j → j < length os → getD os i 0 ≤ getD os j 0
+unfolding fromTo
+table-rises count [] e i j k h = absurd (omega arith)
+table-rises count (o ∷ os) e i j k h = climb count o os (both (eqb o 0) (climbsTo count o os) e .1) i j k h
+
+pub table-within : (count : ℕ) (os : List ℕ) → fromTo 0 count os ≡ true → (j : ℕ) → j < length os → getD os j 0 ≤ count
+unfolding fromTo
+table-within count [] e j h = absurd (omega arith)
+table-within count (o ∷ os) e j h = climb-top count o os (both (eqb o 0) (climbsTo count o os) e .1) j h
+
+-- ── what a table cuts out ────────────────────────────────────────────────────────────────────
+
+cutFrom-at : (a : ℕ) (bs all : List ℕ) (q : ℕ) → q < length bs → getD (cutFrom a bs all) q [] ≡ slice (getD (a ∷ bs) q 0) (getD bs q 0) all
+unfolding cutFrom
+cutFrom-at a [] all q h = absurd (omega arith)
+cutFrom-at a (b ∷ bs) all zero h = refl
+cutFrom-at a (b ∷ bs) all (suc q) h = cutFrom-at b bs all q (omega arith)
+
+pub cut-at : (os all : List ℕ) (q : ℕ) → q + 1 < length os → getD (cut os all) q [] ≡ slice (getD os q 0) (getD os (q + 1) 0) all
+unfolding cut
+cut-at [] all q h = absurd (omega arith)
+cut-at (a ∷ bs) all q h = rw add-one (cutFrom-at a bs all q (omega arith))
+
+cutFrom-length : (a : ℕ) (bs all : List ℕ) → length (cutFrom a bs all) ≡ length bs
+unfolding cutFrom
+cutFrom-length a [] all = refl
+cutFrom-length a (b ∷ bs) all = ap suc (cutFrom-length b bs all)
+
+pub cut-length : (os all : List ℕ) → length (cut os all) ≡ length os - 1
+unfolding cut
+cut-length [] all = refl
+cut-length (a ∷ bs) all = rw (cutFrom-length a bs all) (omega arith)
+
+slice-join : (a b c : ℕ) (l : List ℕ) → a ≤ b → b ≤ c → c ≤ length l → slice a b l ++ slice b c l ≡ slice a c l
+slice-join a b c l h i j =
+    let whole : take b (take c l) ++ drop b (take c l) ≡ take c l = take-append-drop b (take c l) in
+    rw (← take-take b c l i) (sym (drop-append-le a (take b (take c l)) (drop b (take c l)) (simp (length-take, length-take) (omega arith))) ∙ ap (drop a) whole)
+
+-- the lists of n slots, joined, are what lies between the first one's start and the last one's end
+pub joined-slots : (count : ℕ) (os all : List ℕ) → fromTo 0 count os ≡ true → count ≤ length all → (n s : ℕ) → s + n < length os
+    → joined (part s n (cut os all)) ≡ slice (getD os s 0) (getD os (s + n) 0) all
+unfolding joined part
+joined-slots count os all e k zero s h = rw add-zero (sym (slice-empty (getD os s 0) all))
+joined-slots count os all e k (suc n) s h =
+    let rest : joined (part (suc s) n (cut os all)) ≡ slice (getD os (suc s) 0) (getD os (suc s + n) 0) all = joined-slots count os all e k n (suc s) (omega arith) in
+    let here : s < length (cut os all) = omega (arith, cut-length os all) in
+    let same : suc s + n ≡ s + suc n = omega arith in
+    rw (drop-cons (cut os all) s [] here, rest, cut-at os all s (omega arith), add-one, same)
+    (slice-join (getD os s 0) (getD os (suc s) 0) (getD os (s + suc n) 0) all
+    (table-rises count os e s (suc s) (omega arith) (omega arith))
+    (table-rises count os e (suc s) (s + suc n) (omega arith) (omega arith))
+    (le-trans (table-within count os e (s + suc n) (omega arith)) k))
+
+-- ── 17's form ────────────────────────────────────────────────────────────────────────────────
+
+module _ (rows count : ℕ) (os : List ℕ) (e : offsetsForm rows count os ≡ true) where
+  pub form-length : length os ≡ kinds * rows + 1
+  unfolding offsetsForm
+  form-length = eqb-true _ _ (both (eqb (length os) (kinds * rows + 1)) (fromTo 0 count os) e .0)
+
+  pub form-table : fromTo 0 count os ≡ true
+  unfolding offsetsForm
+  form-table = both (eqb (length os) (kinds * rows + 1)) (fromTo 0 count os) e .1

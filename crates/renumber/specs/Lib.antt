@@ -1,0 +1,5 @@
+pub mod Numbers
+pub mod NewLists
+pub mod Reparented
+pub mod Answers
+pub mod Computes
