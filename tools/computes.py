@@ -8,9 +8,10 @@ import re
 import sys
 
 ROOT = pathlib.Path(__file__).resolve().parents[1] / "crates"
-# the named crates, each above the one before it, and the modules that state theorems or compute nothing
-ORDER = ["lists", "columns", "cover", "archive", "run"]
+# the crates whose definitions compute, with those right below, and the modules that state theorems or compute nothing
+BELOW = {"lists": [], "columns": ["lists"], "cover": ["columns"], "bigend": ["columns"], "archive": ["cover", "bigend"], "run": ["archive"]}
 LEFT_OUT = {"Lib", "Computes", "Listing", "Alike", "History", "Trace", "Claim", "Accepted", "Worked"}
+LEFT_OUT |= {"Answers", "Cursor", "Granules", "Layout", "Places", "Readable", "Sums", "View"}  # what code answers, as a view of a definition
 
 
 def text_of(crate, below):
@@ -21,18 +22,18 @@ def text_of(crate, below):
             modules[path.stem] = names
     lines = ["-- One name that opens every definition of this crate and of those below it, for whoever computes with them: `unfolding computes`."]
     lines += [f"use Rattle.{crate}.specs.{module}" for module in modules]
-    lines += [f"use Rattle.{below}.specs.Computes"] if below else []
+    lines += [f"use Rattle.{other}.specs.Computes.{{computes as {other}Opens}}" for other in below]
     opened = [" ".join(f"{module}.{name}" for name in names) for module, names in modules.items()]
     lines += ["", "unfoldable pub computes : Unit {0}", "unfolding"]
-    lines += ["  " + line for line in (["Computes.computes"] if below else []) + opened]
+    lines += ["  " + line for line in ([" ".join(f"{other}Opens" for other in below)] if below else []) + opened]
     return "\n".join(lines + ["computes = tt", ""])
 
 
 def main():
     stale = []
-    for i, crate in enumerate(ORDER):
+    for crate, below in BELOW.items():
         path = ROOT / crate / "specs" / "Computes.antt"
-        text = text_of(crate, ORDER[i - 1] if i else None)
+        text = text_of(crate, below)
         if not path.exists() or path.read_text().split() != text.split():
             stale.append(str(path.relative_to(ROOT.parent)))
             if "--check" not in sys.argv:

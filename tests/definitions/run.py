@@ -61,7 +61,7 @@ def main():
     archives = choose(folder, args.most, args.bytes)
     with tempfile.TemporaryDirectory() as scratch:
         work = pathlib.Path(scratch) / "work"
-        shutil.copytree(root, work, ignore=shutil.ignore_patterns(".git", "must-fail"))
+        shutil.copytree(root, work, ignore=shutil.ignore_patterns(".git", "must-fail", "differential"))
         crate = work / "crates" / "computed"
         (crate / "src").mkdir(parents=True)
         (crate / "specs").mkdir()

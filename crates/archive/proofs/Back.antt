@@ -13,7 +13,7 @@ use Rattle.lists.proofs.Tests.{both}
 use Rattle.archive.specs.Bytes.{be, bytesOf, several}
 use Rattle.archive.specs.Reader.{Parsed, broken, got, Reader, andThen, _>>=_, byte, number, bytes, table, numbers, checked, ahead}
 use Rattle.archive.specs.Encode.{columnBytes}
-use Rattle.archive.proofs.Numbers.{AllBytes, be-small, bytesOf-be, getD-small}
+use Rattle.bigend.proofs.Numbers.{AllBytes, be-small, bytesOf-be, getD-small}
 
 -- the bytes from place p up to place q
 abbrev pub span : ℕ → ℕ → List ℕ → List ℕ
@@ -123,7 +123,7 @@ bytes-back n = leaf-back n (λ l p. true) (λ l p. take n (drop p l)) (λ l h p 
 
 -- ── tables ───────────────────────────────────────────────────────────────────────────────────
 
-length-several : {A : Type 0} (w : ℕ) (f : List ℕ → A) (n : ℕ) (l : List ℕ) → length (several w f n l) ≡ n
+pub length-several : {A : Type 0} (w : ℕ) (f : List ℕ → A) (n : ℕ) (l : List ℕ) → length (several w f n l) ≡ n
 unfolding several
 length-several w f zero l = refl
 length-several w f (suc n) l = ap suc (length-several w f n (drop w l))

@@ -1,10 +1,14 @@
 -- One name that opens every definition of this crate and of those below it, for whoever computes with them: `unfolding computes`.
-use Rattle.archive.specs.Bytes
 use Rattle.archive.specs.Encode
 use Rattle.archive.specs.Parse
 use Rattle.archive.specs.Reader
-use Rattle.cover.specs.Computes
+use Rattle.cover.specs.Computes.{computes as coverOpens}
+use Rattle.bigend.specs.Computes.{computes as bigendOpens}
 
 unfoldable pub computes : Unit {0}
-unfolding Computes.computes Bytes.be Bytes.signedOf Bytes.unsignedOf Bytes.bytesOf Bytes.several Encode.recordBytes Encode.depthBytes Encode.headBytes Encode.setBytes Encode.edgesBytes Encode.rowBytes Encode.unresolvedBytes Encode.rootBytes Encode.rangeBytes Encode.linksBytes Encode.coverBytes Encode.countedBytes Encode.fileBytes Encode.encode Parse.depthFlagOk Parse.headEnd Parse.head Parse.edgeSet Parse.sets Parse.rowAt Parse.rows Parse.unresolvedAt Parse.unresolved Parse.rootAt Parse.roots Parse.rangeAt Parse.links Parse.cover Parse.file Parse.files Parse.parse Reader._>>=_ Reader.table Reader.whole Reader.body Reader.recordOf Reader.optionally
+unfolding
+    coverOpens bigendOpens
+    Encode.recordBytes Encode.depthBytes Encode.headBytes Encode.setBytes Encode.edgesBytes Encode.rowBytes Encode.unresolvedBytes Encode.rootBytes Encode.rangeBytes Encode.linksBytes Encode.coverBytes Encode.countedBytes Encode.fileBytes Encode.encode
+    Parse.depthFlagOk Parse.headEnd Parse.head Parse.edgeSet Parse.sets Parse.rowAt Parse.rows Parse.unresolvedAt Parse.unresolved Parse.rootAt Parse.roots Parse.rangeAt Parse.links Parse.cover Parse.file Parse.files Parse.parse
+    Reader._>>=_ Reader.table Reader.whole Reader.body Reader.recordOf Reader.optionally
 computes = tt

@@ -1,10 +1,9 @@
 -- Document 01, "Archive records": the files that have bytes. Every number fits its field, and what 23 asks of an order holds.
-use mathlib.Core.Bool.{Bool, true, false}
-use mathlib.Core.List.{List, [], _∷_, map}
+use mathlib.Core.Bool.{true}
+use mathlib.Core.List.{List, map}
 use mathlib.Core.Option.{Option, none, some}
 use mathlib.Core.Path.{_≡_}
 use Prim.Native.Nat.{ℕ, _+_, _*_, _<_, _^_}
-use lib.IntN.{ℤ}
 use lib.ListN.{length}
 use mir.Syntax.{w64}
 use mir.Val.{SFits}
@@ -15,12 +14,10 @@ use Rattle.columns.specs.EdgeSet.{EdgeSet}
 use Rattle.columns.specs.Building.{Depth}
 use Rattle.cover.specs.Chains.{Range}
 use Rattle.cover.specs.Cover.{LinkColumns}
-use Rattle.archive.specs.File.{Row, Unresolved, Root, CoverColumns, File}
+use Rattle.archive.specs.File.{Unresolved, Root, CoverColumns, File}
 use Rattle.archive.specs.Encode.{edgesBytes, rowBytes, unresolvedBytes, rootBytes, countedBytes, coverBytes}
-
 -- numbers of w bytes
-abbrev pub Wide : ℕ → List ℕ → Type 0
-Wide w xs = Each (λ x. x < 256 ^ w) xs
+pub use Rattle.bigend.specs.Bytes.{Wide}
 
 -- a body whose record has a length of 4 bytes
 abbrev pub Short : List ℕ → Type 0

@@ -1,20 +1,19 @@
 -- Document 01, "Archive records" and 23: what an archive's bytes say. Every rule of 23 is a test here.
-use mathlib.Core.Bool.{Bool, true, false, cond, _&&_, _||_}
+use mathlib.Core.Bool.{Bool, cond, _&&_, _||_}
 use mathlib.Core.List.{List, [], _∷_, map}
 use mathlib.Core.Option.{Option, none, some}
-use Prim.Native.Nat.{ℕ, zero, suc, _+_, _-_, _*_}
+use Prim.Native.Nat.{ℕ, zero, suc, _+_, _*_}
 use lib.Dec.{leb, eqb}
 use lib.ListN.{length, getD}
 use Rattle.lists.specs.Lists.{all}
 use Rattle.lists.specs.Order.{rising, notFalling}
 use Rattle.columns.specs.Limits.{kinds}
 use Rattle.columns.specs.EdgeSet.{EdgeSet}
-use Rattle.columns.specs.Reading.{Labels}
 use Rattle.columns.specs.Building.{Depth}
 use Rattle.cover.specs.Chains.{Range}
 use Rattle.cover.specs.Cover.{LinkColumns}
-use Rattle.archive.specs.Bytes.{be, signedOf, several}
-use Rattle.archive.specs.Reader.{Parsed, broken, got, Reader, andThen, _>>=_, return, fail, byte, number, bytes, table, numbers, checked, counted, ahead, whole, within, unlessEnd, recordOf, optionally}
+use Rattle.archive.specs.Bytes.{be, signedOf}
+use Rattle.archive.specs.Reader.{Parsed, Reader, _>>=_, return, fail, byte, number, bytes, table, numbers, checked, counted, ahead, unlessEnd, recordOf, optionally}
 use Rattle.archive.specs.File.{Row, Unresolved, Root, CoverColumns, File}
 
 -- ── 1 file ───────────────────────────────────────────────────────────────────────────────────
@@ -138,9 +137,18 @@ file = do
   ts ← recordOf 5 roots
   c ← optionally 6 (cover (h .rows))
   return (record {
-    first = h .first; group = h .group; subject = h .subject; depth = h .depth;
-    forward = s .forward; reverse = s .reverse; inbound = s .inbound;
-    rows = rs; unresolved = us; roots = ts; cover = c })
+    first = h .first;
+    group = h .group;
+    subject = h .subject;
+    depth = h .depth;
+    forward = s .forward;
+    reverse = s .reverse;
+    inbound = s .inbound;
+    rows = rs;
+    unresolved = us;
+    roots = ts;
+    cover = c;
+  })
 
 -- files to the end of the bytes, at most n
 unfoldable pub files : ℕ → Reader (List File)

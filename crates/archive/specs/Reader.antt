@@ -1,9 +1,9 @@
 -- Readers of bytes. Each reads from a place on and says which place is next. A single number past the end reads as zeros: that nothing was
 -- read past the end is tested once, at the end of a body (`whole`) and of a record (`body`). A count is tested before its things are read.
-use mathlib.Core.Bool.{Bool, true, false, cond, _&&_}
-use mathlib.Core.List.{List, [], _∷_}
+use mathlib.Core.Bool.{Bool, cond, _&&_}
+use mathlib.Core.List.{List}
 use mathlib.Core.Option.{Option, none, some}
-use Prim.Native.Nat.{ℕ, zero, suc, _+_, _-_, _*_}
+use Prim.Native.Nat.{ℕ, _+_, _-_, _*_}
 use lib.Dec.{leb, eqb}
 use lib.ListN.{length, getD, take, drop}
 use Rattle.archive.specs.Bytes.{be, several}

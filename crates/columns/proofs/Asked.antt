@@ -1,8 +1,8 @@
 -- What is written and answered for a question over lent columns, as laws of the lists of a set whose rules are kept.
-use mathlib.Core.Path.{_≡_, refl, sym, _∙_, ap}
+use mathlib.Core.Path.{_≡_, refl, _∙_, ap}
 use mathlib.Core.Bool.{Bool, true, false, cond}
 use mathlib.Core.List.{List, [], _∷_, _++_}
-use mathlib.Core.Option.{Option, none, some}
+use mathlib.Core.Option.{none, some}
 use Prim.Native.Nat.{ℕ, zero, suc, _≤_, _<_, _+_, _-_, _*_, _/_}
 use native.Mathlib.Omega.{arith}
 use lib.Dec.{ltb}
@@ -13,12 +13,12 @@ use borrow.Author.Tests.{lt-ltb, le-ltb, ltb-true}
 use Rattle.lists.specs.Lists.{all, joined}
 use Rattle.lists.proofs.Tests.{both}
 use Rattle.columns.specs.Limits.{kinds, maxNumbers, end32}
-use Rattle.columns.specs.Refusal.{Verdict, accepted, unless, firstOf, Lent, limits}
+use Rattle.columns.specs.Refusal.{accepted, unless}
 use Rattle.columns.specs.EdgeSet.{EdgeSet, cut, cutFrom, eventOf, targetOf}
 use Rattle.columns.specs.Reading.{targetsFrom, slotsOf, labelsOf}
 use Rattle.columns.specs.Questions.{listOf, parents, children, labelAt, label}
 use Rattle.columns.specs.Answers.{kindOf, short32, columnsOf, labelColumns, room, lentRules, childrenRules, lentLabelRules, checkedOf, countedOf, writtenOver, labelledOf}
-use Rattle.columns.specs.Readable.{Readable, Edged}
+use Rattle.columns.specs.Readable.{Readable}
 use Rattle.columns.specs.declared.kind.Kind.{Kind}
 use Rattle.columns.specs.declared.kind.Kind.the-variants.{Prev, Auth}
 use Rattle.columns.specs.declared.reading.Checked.{Checked}

@@ -12,10 +12,10 @@ use lib.Seq.{sets}
 use borrow.Author.Tests.{lt-ltb, le-ltb, ltb-false, eqb-true, not-false}
 use Rattle.lists.specs.Lists.{any, all, joined}
 use Rattle.lists.proofs.Tests.{both}
-use Rattle.columns.specs.Limits.{maxRecords, maxNumbers, numbersRoom}
-use Rattle.columns.specs.Refusal.{Verdict, accepted, refused, unless, refuse, firstOf, Lent, short, limits}
+use Rattle.columns.specs.Limits.{maxNumbers}
+use Rattle.columns.specs.Refusal.{unless, firstOf, Lent, short, limits}
 use Rattle.columns.specs.EdgeSet.{EdgeSet, reverse, inbound, cut, fromTo, offsetsForm}
-use Rattle.columns.specs.Reading.{soundFrom, targetsFrom, slotsOf, setRules, setLengths, decodeSet, labelRules}
+use Rattle.columns.specs.Reading.{soundFrom, slotsOf, setRules, setLengths, decodeSet, labelRules}
 use Rattle.columns.specs.Answers.{short32, columnsOf, labelColumns, room, limitsOf, lentRules, bothRules, childrenRules, lentLabelRules, checkedOf, inOne, countedOf, writtenOver}
 use Rattle.columns.specs.Readable.{Readable, Edged}
 use Rattle.columns.specs.declared.reading.Checked.{Checked}
@@ -36,12 +36,12 @@ pub is-broken : (k : Checked) (o : Option Refusal) (why : Refusal) → k ≡ che
 is-broken k none why e h = let z : _≡_ {A = ℕ} 0 1 = cc in absurd (omega arith)
 is-broken k (some r) why e h = cc
 
-first-alone : (o : Option Refusal) → firstOf (o ∷ []) ≡ o
+pub first-alone : (o : Option Refusal) → firstOf (o ∷ []) ≡ o
 unfolding firstOf
 first-alone none = refl
 first-alone (some r) = refl
 
-or-kept : (a b : Bool) → a || b ≡ false → (a ≡ false) × (b ≡ false)
+pub or-kept : (a b : Bool) → a || b ≡ false → (a ≡ false) × (b ≡ false)
 or-kept true b f = let z : _≡_ {A = ℕ} 0 1 = cc in absurd (omega arith)
 or-kept false b f = (refl, f)
 
@@ -56,11 +56,11 @@ any-append p (x ∷ xs) ys = rw (any-append p xs ys) (sym (or-assoc (p x) (any p
 
 -- rules in two parts: those of the second count where the first are kept
 module _ (k : Checked) (o : Option Refusal) (os : List (Option Refusal)) (e : k ≡ checkedOf o) where
-  then-rest : k ≡ Kept → (q : Checked) → q ≡ checkedOf (firstOf os) → q ≡ checkedOf (firstOf (o ∷ os))
+  pub then-rest : k ≡ Kept → (q : Checked) → q ≡ checkedOf (firstOf os) → q ≡ checkedOf (firstOf (o ∷ os))
   unfolding firstOf
   then-rest h q g = rw (is-kept k o e h) g
 
-  then-broken : (why : Refusal) → k ≡ Broken why → Broken why ≡ checkedOf (firstOf (o ∷ os))
+  pub then-broken : (why : Refusal) → k ≡ Broken why → Broken why ≡ checkedOf (firstOf (o ∷ os))
   unfolding firstOf
   then-broken why h = rw (is-broken k o why e h)
 
@@ -159,6 +159,10 @@ module _ (rows : ℕ) (chains seqs : List ℕ) (over : Bool) (k : Checked) (f : 
   labels-out why h = then-broken k _ _ (e ∙ ap checkedOf (sym label-limits)) why h
 
 -- ── columns whose rules are kept ─────────────────────────────────────────────────────────────
+
+pub over-none : (rows : ℕ) (over tight : Bool) → limitsOf rows over tight ≡ none → over ≡ false
+unfolding limitsOf
+over-none rows over tight e = not-refused OverNumbers over (each-none _ e .1 .0)
 
 -- no column is over its limit
 pub few-numbers : (records : List ℕ) (columns : List ℕ) (lent : List Lent) → limits records columns lent ≡ none → any (ltb maxNumbers) columns ≡ false

@@ -48,8 +48,9 @@ module _ (parentsOf : ℕ → List ℕ) where
   from-count (suc bound) limit visited frontier =
       let found = level parentsOf limit visited frontier in
       elim (tested (isEmpty found)) [
-        inl e ↦ rw e (omega arith)
-      | inr e ↦ rw e (omega (arith, level-short limit visited frontier, from-count bound (limit - length found) (visited ++ found) found)) ]
+        | inl e ↦ rw e (omega arith)
+        | inr e ↦ rw e (omega (arith, level-short limit visited frontier, from-count bound (limit - length found) (visited ++ found) found))
+      ]
 
   -- a walk hands out no more numbers than its limit
   pub walk-count : (limit start : ℕ) → walked (levels parentsOf limit start) .count ≤ limit
@@ -63,8 +64,9 @@ module _ (parentsOf : ℕ → List ℕ) where
   from-levels (suc bound) limit visited frontier =
       let found = level parentsOf limit visited frontier in
       elim (tested (isEmpty found)) [
-        inl e ↦ rw e tt
-      | inr e ↦ rw e ((e, level-rising limit visited frontier), from-levels bound (limit - length found) (visited ++ found) found) ]
+        | inl e ↦ rw e tt
+        | inr e ↦ rw e ((e, level-rising limit visited frontier), from-levels bound (limit - length found) (visited ++ found) found)
+      ]
 
   -- every level has a number and rises
   pub walk-levels : (limit start : ℕ) → Each (λ l. (isEmpty l ≡ false) × (rising l ≡ true)) (levels parentsOf limit start)
@@ -95,5 +97,6 @@ module _ (parentsOf : ℕ → List ℕ) where
   bound-enough (suc bound) (suc more) limit visited frontier h k =
       let found = level parentsOf limit visited frontier in
       elim (tested (isEmpty found)) [
-        inl e ↦ rw e
-      | inr e ↦ let n = not-empty found e in rw (e, bound-enough bound more (limit - length found) (visited ++ found) found (omega arith) (omega arith)) ]
+        | inl e ↦ rw e
+        | inr e ↦ let n = not-empty found e in rw (e, bound-enough bound more (limit - length found) (visited ++ found) found (omega arith) (omega arith))
+      ]

@@ -8,3 +8,4 @@ pub mod Turns
 pub mod Checks
 pub mod Writes
 pub mod Asked
+pub mod ThreeSets

@@ -121,8 +121,14 @@ module _ (set first rows end : ℕ) (lists : List (List ℕ)) (full : length lis
   pub set-rules : setRules set first rows end (setOf first lists) ≡ none
   unfolding setRules setOf firstOf
   set-rules =
-      rw (starts-form rows lists full, length-deltas first 0 lists, eq-eqb (length (joined lists)) (length (joined lists)) refl,
-        cut-set first lists, sound-deltas set first end 0 lists side, and-false (ltb 0 (length (joined lists))))
+      rw (
+        starts-form rows lists full,
+        length-deltas first 0 lists,
+        eq-eqb (length (joined lists)) (length (joined lists)) refl,
+        cut-set first lists,
+        sound-deltas set first end 0 lists side,
+        and-false (ltb 0 (length (joined lists))),
+      )
 
   pub read-set : readSet set first rows end (setOf first lists) ≡ accepted lists
   unfolding readSet unless

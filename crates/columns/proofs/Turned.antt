@@ -38,8 +38,12 @@ module _ (f : ℕ → ℕ → List ℕ) (first rows : ℕ) where
   unfolding listOf slotTable
   list-table n k l h j =
       let place : getD (upFrom first rows) (n - first) 0 ≡ n = getD-upFrom first rows (n - first) 0 (omega arith) ∙ omega arith in
-      rw (le-ltb n first l, getD-blocks (row f) kinds row-wide (upFrom first rows) (n - first) k 0 [] (omega (arith, length-upFrom first rows)) j,
-        place, getD-map-upFrom (f n) 0 kinds k [] j) (ap (f n) (omega arith))
+      rw (
+        le-ltb n first l,
+        getD-blocks (row f) kinds row-wide (upFrom first rows) (n - first) k 0 [] (omega (arith, length-upFrom first rows)) j,
+        place,
+        getD-map-upFrom (f n) 0 kinds k [] j,
+      ) (ap (f n) (omega arith))
 
   pub each-table : (P : List ℕ → Type 0) → ((n k : ℕ) → P (f n k)) → Each P (slotTable f first rows)
   unfolding slotTable
@@ -80,15 +84,16 @@ module _ (first rows : ℕ) (lists : List (List ℕ)) (k n : ℕ) where
   unfolding inFile mem
   turned j l h e b =
       turned-events j l h e ∙ elim (tested (ltb e first)) [
-        inl t ↦ rw (lt-leb first e (ltb-true e first t), list-before first lists k e t)
-      | inr t ↦ rw (le-leb first e (ltb-false e first t), lt-ltb e (first + rows) b) ]
+        | inl t ↦ rw (lt-leb first e (ltb-true e first t), list-before first lists k e t)
+        | inr t ↦ rw (le-leb first e (ltb-false e first t), lt-ltb e (first + rows) b)
+      ]
 
   pub turned-rising : rising (listOf first (reverseLists first rows lists) k n) ≡ true
   unfolding reverseLists naming rising
   turned-rising =
       list-each (λ l. rising l ≡ true) first (reverseLists first rows lists) k n refl
       (each-table (naming first rows lists) first rows (λ l. rising l ≡ true)
-        (λ m j. filter-rising (λ event. mem m (listOf first lists j event)) (upFrom first rows) (upFrom-rising first rows)))
+      (λ m j. filter-rising (λ event. mem m (listOf first lists j event)) (upFrom first rows) (upFrom-rising first rows)))
 
 -- ── inbound lists ────────────────────────────────────────────────────────────────────────────
 
@@ -108,10 +113,12 @@ module _ (child parent kind : ℕ) where
   child-edge (c ∷ cs) (p ∷ ps) (k ∷ ks) h =
       let rest = child-edge cs ps ks in
       elim (tested (eqb p parent && eqb k kind)) [
-        inl e ↦ let q = both (eqb p parent) (eqb k kind) e in elim (tested (eqb child c)) [
-          inl f ↦ (0, ap some (sym (eqb-true child c f)), ap some (eqb-true p parent (q .0)), ap some (eqb-true k kind (q .1)))
-        | inr f ↦ later (rest (rw (e, f) at h)) ]
-      | inr e ↦ later (rest (rw e at h)) ]
+        | inl e ↦ let q = both (eqb p parent) (eqb k kind) e in elim (tested (eqb child c)) [
+          | inl f ↦ (0, ap some (sym (eqb-true child c f)), ap some (eqb-true p parent (q .0)), ap some (eqb-true k kind (q .1)))
+          | inr f ↦ later (rest (rw (e, f) at h))
+        ]
+        | inr e ↦ later (rest (rw e at h))
+      ]
     where
       later : EdgeIn cs ps ks child parent kind → EdgeIn (c ∷ cs) (p ∷ ps) (k ∷ ks) child parent kind
       later d = (suc (d .0), d .1, d .2, d .3)
@@ -135,8 +142,10 @@ module _ (first rows : ℕ) (e : InboundColumns) (k n : ℕ) where
   pub inbound-edges : k < kinds → first ≤ n → n < first + rows → (c : ℕ) → (mem c (listOf first (inboundLists first rows e) k n) ≡ true) ↔ GivenEdge e c n k
   unfolding inboundLists
   inbound-edges j l h c =
-      rw (list-table (λ number kind. sort (childrenTo number kind (e .children) (e .parents) (e .kindsGiven))) first rows n k l h j,
-        mem-sort c (childrenTo n k (e .children) (e .parents) (e .kindsGiven)))
+      rw (
+        list-table (λ number kind. sort (childrenTo number kind (e .children) (e .parents) (e .kindsGiven))) first rows n k l h j,
+        mem-sort c (childrenTo n k (e .children) (e .parents) (e .kindsGiven)),
+      )
       (child-edge c n k (e .children) (e .parents) (e .kindsGiven), λ g. edge-child c n k (e .children) (e .parents) (e .kindsGiven) (g .0) (g .1) (g .2) (g .3))
 
   pub inbound-level : notFalling (listOf first (inboundLists first rows e) k n) ≡ true

@@ -1,11 +1,10 @@
 -- The turns of the loops that check offsets and deltas, and the tests between them, as laws of the definitions.
-use mathlib.Core.Path.{_≡_, refl, sym, _∙_, ap}
+use mathlib.Core.Path.{_≡_, refl, sym, _∙_}
 use mathlib.Core.Bool.{Bool, true, false, _&&_, not}
 use mathlib.Core.List.{List, [], _∷_}
-use Prim.Native.Nat.{ℕ, suc, _≤_, _<_, _+_, _-_, _*_, _/_, _%_, _^_}
+use Prim.Native.Nat.{ℕ, _≤_, _<_, _+_, _-_, _*_, _/_, _%_, _^_}
 use native.Mathlib.Numerals.{add-one}
 use native.Mathlib.Omega.{arith}
-use native.Mathlib.Nat.{div-add-mod'}
 use lib.Dec.{leb, ltb, eqb}
 use lib.IntN.{ℤ, pos}
 use lib.ListN.{length, getD, drop, drop-of-length-le}
@@ -16,7 +15,7 @@ use mir.ValLaws.{toZ-ofZ}
 use borrow.Author.Tests.{le-leb, lt-leb, lt-ltb, le-ltb, eq-eqb, ne-eqb, ltb-true, leb-true, not-true, not-false}
 use Rattle.lists.specs.Lists.{all}
 use Rattle.lists.specs.Order.{climbsTo}
-use Rattle.columns.specs.Limits.{end64, end32, kinds}
+use Rattle.columns.specs.Limits.{end64, end32}
 use Rattle.columns.specs.Refusal.{firstOf}
 use Rattle.columns.specs.EdgeSet.{cut, eventOf, fromTo, offsetsForm, sound}
 use Rattle.columns.specs.Reading.{soundFrom, setRules, labelRules}

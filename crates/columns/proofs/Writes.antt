@@ -1,8 +1,7 @@
 -- The turns of the loops that write targets, as laws of lists, and where a slot's targets stand among all.
 use mathlib.Core.Path.{_≡_, refl, sym, _∙_, ap}
-use mathlib.Core.Bool.{Bool, true, _&&_}
-use mathlib.Core.List.{List, [], _∷_, _++_, map, append-assoc}
-use mathlib.Core.Option.{none}
+use mathlib.Core.Bool.{true, _&&_}
+use mathlib.Core.List.{List, [], _∷_, _++_, map}
 use Prim.Native.Nat.{ℕ, zero, suc, _≤_, _<_, _+_, _-_}
 use native.Mathlib.Nat.{zero-add, add-zero, add-suc, suc-add}
 use native.Mathlib.Numerals.{add-one}
@@ -12,14 +11,14 @@ use lib.IntN.{ℤ, pos}
 use lib.ListN.{length, getD, set, drop, length-append, length-map, length-set, drop-of-length-le}
 use lib.Seq.{slice, slice-cons, sets, set-out, drop-cons, length-slice}
 use mir.Syntax.{w64}
-use mir.Val.{SFits, toZ, ofZ}
+use mir.Val.{SFits}
 use mir.ValLaws.{toZ-ofZ}
-use borrow.Author.Tests.{ltb-true, leb-true}
+use borrow.Author.Tests.{ltb-true}
 use Rattle.lists.specs.Lists.{all, joined}
 use Rattle.lists.specs.Order.{climbsTo}
 use Rattle.lists.proofs.Tests.{both}
 use Rattle.columns.specs.Limits.{end64, maxNumbers}
-use Rattle.columns.specs.EdgeSet.{cut, cutFrom, eventOf, fromTo, targetOf, allowed, sound}
+use Rattle.columns.specs.EdgeSet.{cut, cutFrom, eventOf, fromTo, targetOf, sound}
 use Rattle.columns.specs.Reading.{soundFrom, targetsFrom, slotsOf}
 use Rattle.columns.specs.Answers.{named, columnsOf}
 use Rattle.columns.specs.Readable.{Readable, Edged}

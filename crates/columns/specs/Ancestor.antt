@@ -1,5 +1,5 @@
 -- Document 01, "Walk and shared ancestor": some number that two numbers reach in zero or more parent steps, none exactly if there is none.
-use mathlib.Core.List.{List, [], _∷_, List·Memᴰ}
+use mathlib.Core.List.{List, List·Memᴰ}
 use mathlib.Core.Option.{Option, none, some}
 use Prim.Native.Nat.{ℕ}
 

@@ -1,14 +1,14 @@
 -- Document 01, 1 to 15 and "Edge columns": what building a granule's columns refuses, in order, and what it makes.
-use mathlib.Core.Bool.{Bool, true, false, cond, _&&_, _||_, not}
-use mathlib.Core.List.{List, [], _∷_, _++_, map, foldl}
+use mathlib.Core.Bool.{Bool, true, false, cond, _&&_, not}
+use mathlib.Core.List.{List, [], _∷_, map}
 use mathlib.Core.Option.{Option, none, some}
-use Prim.Native.Nat.{ℕ, zero, suc, _+_, _-_, _*_, _^_}
+use Prim.Native.Nat.{ℕ, suc, _+_, _*_, _^_}
 use lib.Dec.{ltb, leb, eqb}
 use lib.IntN.{ℤ, pos, negsuc}
-use lib.ListN.{length, getD, getElem?}
-use Rattle.lists.specs.Lists.{all, any, flat, filter, mem, distinct, part, upFrom, joined}
+use lib.ListN.{length, getElem?}
+use Rattle.lists.specs.Lists.{all, flat, filter, mem, distinct, part, upFrom, joined}
 use Rattle.lists.specs.Order.{sort}
-use Rattle.columns.specs.Limits.{kinds, maxSubject, end64, offsetsRoom, numbersRoom}
+use Rattle.columns.specs.Limits.{kinds, maxSubject, end64}
 use Rattle.columns.specs.Refusal.{Verdict, unless, refuse, firstOf, firstIn, Lent, limits}
 use Rattle.columns.specs.EdgeSet.{EdgeSet, offsetsForm, cut, eventOf, deltasFrom, setOf}
 use Rattle.columns.specs.Reading.{Label, Labels, labelsOf, labelLengths}
@@ -235,7 +235,8 @@ unfoldable pub builtOf : Graph → Built
 builtOf g = record {
   forward = setOf (granuleStart g) (forwardPart g);
   reverse = setOf (granuleStart g) (reversePart g);
-  inbound = setOf (granuleStart g) (inboundPart g) }
+  inbound = setOf (granuleStart g) (inboundPart g);
+}
 
 -- the lengths of the columns that building is lent to read
 unfoldable pub graphLengths : Graph → List ℕ

@@ -1,12 +1,12 @@
 -- Document 01, "Edge columns": a set of edges as columns, the slots that its offsets cut out, and the side on which its targets lie.
-use mathlib.Core.Bool.{Bool, true, false, _&&_}
+use mathlib.Core.Bool.{Bool, false, _&&_}
 use mathlib.Core.List.{List, [], _∷_, map}
 use Prim.Native.Nat.{ℕ, zero, suc, _+_, _*_, _/_}
 use lib.Dec.{ltb, leb, eqb}
 use lib.IntN.{ℤ, pos, negsuc, _-ℤ_}
 use lib.ListN.{length}
 use lib.Seq.{slice}
-use Rattle.lists.specs.Lists.{all, joined, starts}
+use Rattle.lists.specs.Lists.{joined, starts}
 use Rattle.lists.specs.Order.{climbsTo}
 use Rattle.columns.specs.Limits.{kinds, end64}
 

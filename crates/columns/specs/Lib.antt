@@ -9,4 +9,5 @@ pub mod Walk
 pub mod Ancestor
 pub mod Answers
 pub mod Readable
+pub mod Granules
 pub mod Computes

@@ -1,14 +1,14 @@
 -- Document 01, 17 to 21 and "Edge columns": what a reader makes of a granule's columns.
-use mathlib.Core.Bool.{Bool, true, false, _&&_, not}
+use mathlib.Core.Bool.{Bool, true, _&&_, not}
 use mathlib.Core.List.{List, [], _∷_, _++_, map}
 use mathlib.Core.Option.{Option, none, some}
-use Prim.Native.Nat.{ℕ, zero, suc, _+_, _*_}
+use Prim.Native.Nat.{ℕ, suc}
 use lib.Dec.{ltb, eqb}
 use lib.IntN.{ℤ}
 use lib.ListN.{length}
 use Rattle.lists.specs.Lists.{all}
-use Rattle.columns.specs.Limits.{kinds, end64, end32, offsetsRoom, numbersRoom}
-use Rattle.columns.specs.Refusal.{Verdict, refused, accepted, unless, refuse, firstOf, Lent, limits}
+use Rattle.columns.specs.Limits.{end64, end32}
+use Rattle.columns.specs.Refusal.{Verdict, unless, refuse, firstOf, Lent, limits}
 use Rattle.columns.specs.EdgeSet.{EdgeSet, forward, reverse, inbound, offsetsForm, cut, eventOf, targetOf, sound}
 use Rattle.columns.specs.declared.refusal.Refusal.{Refusal}
 use Rattle.columns.specs.declared.refusal.Refusal.the-variants.{OffsetsForm, DeltaCount, TargetSide, LabelColumns, LabelRange}

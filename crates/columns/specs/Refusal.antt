@@ -1,5 +1,5 @@
 -- Document 01, "Refused for the input" and "Refused for the state": a word for each condition, its number, and the order of tests.
-use mathlib.Core.Bool.{Bool, true, false, cond}
+use mathlib.Core.Bool.{Bool, true, false}
 use mathlib.Core.List.{List, [], _∷_}
 use mathlib.Core.Option.{Option, none, some}
 use Prim.Native.Nat.{ℕ}

@@ -1,7 +1,6 @@
 -- Document 01, 16: `state_root_entries`, its own question, answered in the given order.
-use mathlib.Core.Bool.{Bool, true, false, not}
+use mathlib.Core.Bool.{not}
 use mathlib.Core.List.{List, [], _∷_, map}
-use mathlib.Core.Option.{Option}
 use Prim.Native.Nat.{ℕ, _+_, _-_}
 use lib.ListN.{length}
 use Rattle.lists.specs.Lists.{all}

@@ -1,7 +1,7 @@
 -- Document 01, "Walk and shared ancestor", `GraphWalk::next`: levels of parents.
-use mathlib.Core.Bool.{Bool, true, false, cond, not}
+use mathlib.Core.Bool.{cond, not}
 use mathlib.Core.List.{List, [], _∷_, _++_}
-use Prim.Native.Nat.{ℕ, zero, suc, _+_, _-_}
+use Prim.Native.Nat.{ℕ, zero, suc, _-_}
 use lib.ListN.{length, take}
 use Rattle.lists.specs.Lists.{flat, filter, mem, once, isEmpty, sum}
 use Rattle.lists.specs.Order.{sort}

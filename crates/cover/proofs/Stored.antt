@@ -111,10 +111,12 @@ add-ordered l [] o = rw (le-leb (l .seq) (l .seq) (omega arith))
 add-ordered l (r ∷ rs) o =
     let p = both (inOrder r) (all inOrder rs) o in
     elim (tested (ltb (r .chain) (l .chain))) [
-      inl e ↦ rw (e, p .0) (add-ordered l rs (p .1))
-    | inr e ↦ elim (tested (eqb (r .chain) (l .chain))) [
-        inl f ↦ rw (e, f, widen-ordered r (l .seq) (p .0)) (p .1)
-      | inr f ↦ rw (e, f, le-leb (l .seq) (l .seq) (omega arith)) o ] ]
+      | inl e ↦ rw (e, p .0) (add-ordered l rs (p .1))
+      | inr e ↦ elim (tested (eqb (r .chain) (l .chain))) [
+        | inl f ↦ rw (e, f, widen-ordered r (l .seq) (p .0)) (p .1)
+        | inr f ↦ rw (e, f, le-leb (l .seq) (l .seq) (omega arith)) o
+      ]
+    ]
 
 -- a chain that is neither above another nor level with it is below it
 below : (r : Range) (l : Label) → ltb (r .chain) (l .chain) ≡ false → eqb (r .chain) (l .chain) ≡ false → ltb (l .chain) (r .chain) ≡ true
@@ -126,16 +128,18 @@ above-add low l [] h a = rw h
 above-add low l (r ∷ rs) h a =
     let p = both (ltb low (r .chain)) (risesAbove (r .chain) (chainsOf rs)) a in
     elim (tested (ltb (r .chain) (l .chain))) [
-      inl e ↦ rw (e, p .0) (above-add (r .chain) l rs e (p .1))
-    | inr e ↦ elim (tested (eqb (r .chain) (l .chain))) [ inl f ↦ rw (e, f) a | inr f ↦ rw (e, f, h, below r l e f) (p .1) ] ]
+      | inl e ↦ rw (e, p .0) (above-add (r .chain) l rs e (p .1))
+      | inr e ↦ elim (tested (eqb (r .chain) (l .chain))) [ inl f ↦ rw (e, f) a | inr f ↦ rw (e, f, h, below r l e f) (p .1) ]
+    ]
 
 add-rises : (l : Label) (rs : List Range) → rising (chainsOf rs) ≡ true → rising (chainsOf (addLabel rs l)) ≡ true
 unfolding rising risesAbove addLabel widen
 add-rises l [] a = refl
 add-rises l (r ∷ rs) a =
     elim (tested (ltb (r .chain) (l .chain))) [
-      inl e ↦ rw e (above-add (r .chain) l rs e a)
-    | inr e ↦ elim (tested (eqb (r .chain) (l .chain))) [ inl f ↦ rw (e, f) a | inr f ↦ rw (e, f, below r l e f) a ] ]
+      | inl e ↦ rw e (above-add (r .chain) l rs e a)
+      | inr e ↦ elim (tested (eqb (r .chain) (l .chain))) [ inl f ↦ rw (e, f) a | inr f ↦ rw (e, f, below r l e f) a ]
+    ]
 
 add-ok : (l : Label) (rs : List Range) → rangesOk rs ≡ true → rangesOk (addLabel rs l) ≡ true
 unfolding rangesOk

@@ -1,5 +1,5 @@
 -- Document 01, "Chain cover": ranges and links, as values.
-use mathlib.Core.Bool.{Bool, true, false, cond, _&&_, _||_}
+use mathlib.Core.Bool.{Bool, true, cond, _&&_, _||_}
 use mathlib.Core.List.{List, [], _∷_, foldl}
 use Prim.Native.Nat.{ℕ}
 use lib.Dec.{ltb, eqb}

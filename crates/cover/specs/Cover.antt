@@ -1,7 +1,7 @@
 -- Document 01, "Chain cover" and 22: a cover built, stored as columns, and read back.
-use mathlib.Core.Bool.{Bool, true, false, cond, _&&_, not}
+use mathlib.Core.Bool.{Bool, _&&_, not}
 use mathlib.Core.List.{List, [], _∷_, map}
-use mathlib.Core.Option.{Option, none, some}
+use mathlib.Core.Option.{Option}
 use Prim.Native.Nat.{ℕ, _+_, _-_, _%_}
 use lib.Dec.{ltb, leb, eqb}
 use lib.ListN.{length}
@@ -62,7 +62,8 @@ columnsOf ls = record {
   fromChains = differences 0 (map (λ l. l .fromChain) ls);
   fromSeqs = map (λ l. l .fromSeq) ls;
   toChains = map (λ l. l .toChain) ls;
-  toSeqs = map (λ l. l .toSeq) ls }
+  toSeqs = map (λ l. l .toSeq) ls;
+}
 
 -- the links that stored columns hold
 unfoldable pub storedLinks : LinkColumns → List Link
@@ -82,8 +83,15 @@ coverOf labels links = record { ranges = rangesOf labels; links = sortLinks link
 unfoldable pub buildCover : Labels → LinkColumns → List Lent → Verdict Cover
 buildCover l c lent =
     unless (firstOf (limits (length (l .chains) ∷ length (l .seqs) ∷ length (c .fromChains) ∷ length (c .fromSeqs) ∷ length (c .toChains) ∷ length (c .toSeqs) ∷ []) [] lent
-      ∷ refuse CoverForm (not (evenColumns c)) ∷ []))
+    ∷ refuse CoverForm (not (evenColumns c)) ∷ []))
     (coverOf (labelsOf (l .chains) (l .seqs)) (linksOf (c .fromChains) (c .fromSeqs) (c .toChains) (c .toSeqs)))
+
+-- `ChainCover::encode`: the stored columns of links that come as four columns, in whatever order
+unfoldable pub encode : LinkColumns → List Lent → Verdict LinkColumns
+encode c lent =
+    unless (firstOf (limits (length (c .fromChains) ∷ length (c .fromSeqs) ∷ length (c .toChains) ∷ length (c .toSeqs) ∷ []) [] lent
+    ∷ refuse CoverForm (not (evenColumns c)) ∷ []))
+    (columnsOf (linksOf (c .fromChains) (c .fromSeqs) (c .toChains) (c .toSeqs)))
 
 -- 22 of ranges: chain ids rise, no minimum is above its maximum
 unfoldable pub rangesOk : List Range → Bool
@@ -103,5 +111,5 @@ linkRules c = refuse CoverForm (not (linksOk c))
 unfoldable pub readCover : List Range → LinkColumns → List Lent → Verdict Cover
 readCover rs c lent =
     unless (firstOf (limits (length rs ∷ length (c .fromChains) ∷ length (c .fromSeqs) ∷ length (c .toChains) ∷ length (c .toSeqs) ∷ []) [] lent
-      ∷ rangeRules rs ∷ linkRules c ∷ []))
+    ∷ rangeRules rs ∷ linkRules c ∷ []))
     (record { ranges = rs; links = storedLinks c })

@@ -1,5 +1,5 @@
 -- Document 01, "Chain cover": the window question and the links question. Each first reads, by 22, what it uses.
-use mathlib.Core.Bool.{Bool, true, false, _&&_}
+use mathlib.Core.Bool.{Bool, _&&_}
 use mathlib.Core.List.{List, [], _∷_}
 use Prim.Native.Nat.{ℕ}
 use lib.Dec.{leb, eqb}

@@ -55,11 +55,12 @@ pub at-most-one : (t : ℕ → Bool) → ((j k : ℕ) → t j ≡ true → j < k
 unfolding sum upFrom
 at-most-one t h i zero = omega arith
 at-most-one t h i (suc m) = elim (tested (t i)) [
-    inl e ↦ let none-more : sum (λ j. bit (t j)) (upFrom (suc i) m) ≡ sum (λ j. 0) (upFrom (suc i) m) =
-              sum-ext (λ j. bit (t j)) (λ j. 0) (upFrom (suc i) m)
-              (each-imp (λ j. (suc i ≤ j) × (j < suc i + m)) (λ j. bit (t j) ≡ 0) (upFrom (suc i) m) (λ j w. ap bit (h i j e (w .0))) (each-upFrom (suc i) m)) in
+  | inl e ↦ let none-more : sum (λ j. bit (t j)) (upFrom (suc i) m) ≡ sum (λ j. 0) (upFrom (suc i) m) =
+      sum-ext (λ j. bit (t j)) (λ j. 0) (upFrom (suc i) m)
+      (each-imp (λ j. (suc i ≤ j) × (j < suc i + m)) (λ j. bit (t j) ≡ 0) (upFrom (suc i) m) (λ j w. ap bit (h i j e (w .0))) (each-upFrom (suc i) m)) in
       rw e (omega (arith, none-more, sum-zero (upFrom (suc i) m)))
-  | inr e ↦ rw e (omega (arith, at-most-one t h (suc i) m)) ]
+  | inr e ↦ rw e (omega (arith, at-most-one t h (suc i) m))
+]
 
 one-number : (x i m : ℕ) → sum (λ n. bit (eqb n x)) (upFrom i m) ≤ 1
 one-number x i m = at-most-one (λ n. eqb n x) (λ j k e l. ne-eqb k x (λ d. omega (arith, eqb-true j x e))) i m
@@ -73,5 +74,10 @@ pub members-counted : (l : List ℕ) (i m : ℕ) → sum (λ n. bit (mem n l)) (
 unfolding mem
 members-counted [] i m = omega (arith, sum-zero (upFrom i m))
 members-counted (x ∷ xs) i m =
-    omega (arith, sum-below (λ n. bit (eqb n x || mem n xs)) (λ n. bit (eqb n x) + bit (mem n xs)) (λ n. either (eqb n x) (mem n xs)) (upFrom i m),
-      sum-both (λ n. bit (eqb n x)) (λ n. bit (mem n xs)) (upFrom i m), one-number x i m, members-counted xs i m)
+    omega (
+      arith,
+      sum-below (λ n. bit (eqb n x || mem n xs)) (λ n. bit (eqb n x) + bit (mem n xs)) (λ n. either (eqb n x) (mem n xs)) (upFrom i m),
+      sum-both (λ n. bit (eqb n x)) (λ n. bit (mem n xs)) (upFrom i m),
+      one-number x i m,
+      members-counted xs i m,
+    )

@@ -14,8 +14,9 @@ module _ {A : Type 0} where
   unfolding sum filter
   sum-filter f p [] = omega arith
   sum-filter f p (x ∷ xs) = elim (tested (p x)) [
-      inl e ↦ rw e (omega (arith, sum-filter f p xs))
-    | inr e ↦ rw e (omega (arith, sum-filter f p xs)) ]
+    | inl e ↦ rw e (omega (arith, sum-filter f p xs))
+    | inr e ↦ rw e (omega (arith, sum-filter f p xs))
+  ]
 
   pub sum-le : (f g : A → ℕ) (xs : List A) → Each (λ x. f x ≤ g x) xs → sum f xs ≤ sum g xs
   unfolding sum

@@ -2,7 +2,7 @@
 use mathlib.Core.List.{List}
 use mathlib.Core.List
 use Prim.Native.Nat.{ℕ}
-use Prim.Native.Char.{Char, code}
+use Prim.Native.Char.{code}
 use Prim.Native.String.{String, [], _∷_}
 
 -- the bytes of a text in ASCII

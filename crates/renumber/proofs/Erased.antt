@@ -11,7 +11,7 @@ use lib.Seq.{slice, slice-cons}
 use borrow.Author.Tests.{lt-ltb, le-ltb, eq-eqb, ne-eqb}
 use Rattle.lists.specs.Lists.{any, filter, joined, part, upFrom}
 use Rattle.columns.specs.Limits.{kinds}
-use Rattle.columns.specs.EdgeSet.{offsetsForm, cut}
+use Rattle.columns.specs.EdgeSet.{fromTo, offsetsForm, cut}
 use Rattle.renumber.specs.Reparented.{isErased, isReparented, reparented}
 use Rattle.renumber.proofs.Growing.{slice-none}
 use Rattle.renumber.proofs.Tables.{table-rises, table-within, joined-slots, form-length, form-table}
@@ -51,25 +51,25 @@ module _ (start : ℕ) (flags offsets targets : List ℕ) (i : ℕ) where
   not-erased h = rw (ne-eqb (getD flags i 0) 0 h)
 
   module _ (ok : offsetsForm (length flags) (length targets) offsets ≡ true) (h : i < length flags) where
-    pub event-this : kinds * i < length offsets
-    event-this = omega (arith, form-length (length flags) (length targets) offsets ok)
+    far : (j : ℕ) → j ≤ kinds → kinds * i + j < length offsets
+    far j w = omega (arith, form-length (length flags) (length targets) offsets ok)
 
-    pub event-next : kinds * i + kinds < length offsets
-    event-next = omega (arith, form-length (length flags) (length targets) offsets ok)
+    table : fromTo 0 (length targets) offsets ≡ true
+    table = form-table (length flags) (length targets) offsets ok
 
-    module _ (a b : ℕ) (e : a ≡ getD offsets (kinds * i) 0) (f : b ≡ getD offsets (kinds * i + kinds) 0) where
-      pub event-ordered : a ≤ b
-      event-ordered =
-          rw (e, f) (table-rises (length targets) offsets (form-table (length flags) (length targets) offsets ok) (kinds * i) (kinds * i + kinds) (omega arith) event-next)
+    -- up to the end of any of the event's slots
+    pub event-within : (b j : ℕ) → b ≡ getD offsets (kinds * i + j) 0 → j ≤ kinds → b ≤ length targets
+    event-within b j f w = rw f (table-within (length targets) offsets table (kinds * i + j) (far j w))
 
-      pub event-within : b ≤ length targets
-      event-within = rw f (table-within (length targets) offsets (form-table (length flags) (length targets) offsets ok) (kinds * i + kinds) event-next)
+    module _ (a b : ℕ) (e : a ≡ getD offsets (kinds * i) 0) where
+      pub event-ordered : (j : ℕ) → b ≡ getD offsets (kinds * i + j) 0 → j ≤ kinds → a ≤ b
+      event-ordered j f w = rw (e, f) (table-rises (length targets) offsets table (kinds * i) (kinds * i + j) (omega arith) (far j w))
 
-      pub event-named : (r : Bool) → r ≡ any (isErased start flags) (slice a b targets) → getD flags i 0 ≡ 0 → r ≡ isReparented start flags (cut offsets targets) i
+      pub event-named : (r : Bool) → b ≡ getD offsets (kinds * i + kinds) 0 → r ≡ any (isErased start flags) (slice a b targets) → getD flags i 0 ≡ 0 → r ≡ isReparented start flags (cut offsets targets) i
       unfolding isReparented
-      event-named r g z =
+      event-named r f g z =
           let w : joined (part (kinds * i) kinds (cut offsets targets)) ≡ slice a b targets =
-            joined-slots (length targets) offsets targets (form-table (length flags) (length targets) offsets ok) (omega arith) kinds (kinds * i) event-next ∙ rw (e, f) in
+          joined-slots (length targets) offsets targets table (omega arith) kinds (kinds * i) (far kinds (omega arith)) ∙ rw (e, f) in
           rw (eq-eqb (getD flags i 0) 0 z, w) g
 
 -- ── all events ───────────────────────────────────────────────────────────────────────────────

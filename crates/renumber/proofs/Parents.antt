@@ -29,8 +29,9 @@ use Rattle.renumber.proofs.Tables.{table-rises, table-within, cut-at, c
 -- a flag that is not 0 stands in the column
 pub flag-in : (flags : List ℕ) (q x : ℕ) → x ≡ getD flags q 0 → (x ≡ 0 → ⊥) → q < length flags
 flag-in flags q x e f = elim (tested (ltb q (length flags))) [
-    inl t ↦ ltb-true q (length flags) t
-  | inr t ↦ absurd (f (e ∙ List·getD-eq-default flags 0 {n = q} (ltb-false q (length flags) t))) ]
+  | inl t ↦ ltb-true q (length flags) t
+  | inr t ↦ absurd (f (e ∙ List·getD-eq-default flags 0 {n = q} (ltb-false q (length flags) t)))
+]
 
 -- so the place of its slot is a number of 64 bits
 module _ (flags : List ℕ) (q x : ℕ) (offs : List ℕ) (e : x ≡ getD flags q 0) (f : x ≡ 0 → ⊥) (h : kinds * length flags < length offs) (k : length offs * 8 < 2 ^ 63) where
@@ -95,8 +96,12 @@ pub grew-none : (start kind : ℕ) (flags numbers offs : List ℕ) (s base end p
     → Grew base was was end (addParent start flags numbers kind (cut (take (s + 1) offs) (take base was)) (slice base end was) p)
 unfolding addParent
 grew-none start kind flags numbers offs s base end p was q x e h f z o a b i =
-    record { room = b; above = a; kept = refl;
-      holds = rw (le-ltb p start h, ← e, ne-eqb (getD flags q 0) 0 (λ w. z (f ∙ w)), no-list offs s o (kinds * q + kind) (take base was) i) }
+    record {
+      room = b;
+      above = a;
+      kept = refl;
+      holds = rw (le-ltb p start h, ← e, ne-eqb (getD flags q 0) 0 (λ w. z (f ∙ w)), no-list offs s o (kinds * q + kind) (take base was) i);
+    }
 
 -- ── the loop over the parents ────────────────────────────────────────────────────────────────
 

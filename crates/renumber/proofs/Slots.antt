@@ -8,6 +8,7 @@ use native.Mathlib.Numerals.{add-one}
 use native.Mathlib.Omega.{arith}
 use lib.ListN.{length, getD, take, drop, set, length-set, length-append, take-append-drop, drop-of-length-le}
 use lib.Seq.{slice, length-take-le, length-slice, take-take, take-suc-set, drop-cons}
+use borrow.Author.Tests.{eq-eqb}
 use Rattle.lists.specs.Lists.{joined, starts}
 use Rattle.lists.specs.Order.{climbsTo}
 use Rattle.lists.proofs.Flat.{joined-append}
@@ -64,7 +65,7 @@ starts-table [] = refl
 starts-table (l ∷ ls) = starts-climb 0 (0 + length l) (length (l ++ joined ls)) ls (omega arith) (omega (arith, length-append l (joined ls)))
 
 module _ (offs all : List ℕ) (s end : ℕ) (lists : List (List ℕ)) (b : Built offs all s end lists) where
-  ends : end ≡ length (joined lists)
+  pub ends : end ≡ length (joined lists)
   ends = sym (length-take-le end all (b .filled)) ∙ ap length (b .entries)
 
   pub built-table : fromTo 0 end (take (s + 1) offs) ≡ true
@@ -76,7 +77,16 @@ module _ (offs all : List ℕ) (s end : ℕ) (lists : List (List ℕ)) (b : Buil
   pub built-filled : end ≤ length all
   built-filled = b .filled
 
-  built-cut : cut (take (s + 1) offs) (take end all) ≡ lists
+  -- the column has room for all entries, so it is not full
+  pub built-fits : length (joined lists) ≤ length all
+  built-fits = rw (← ends) (b .filled)
+
+  -- the table has 17's form, and cuts the lists out
+  pub built-form : (rows : ℕ) → s ≡ kinds * rows → offsetsForm rows end (take (s + 1) offs) ≡ true
+  unfolding offsetsForm
+  built-form rows e = rw (eq-eqb (length (take (s + 1) offs)) (kinds * rows + 1) (length-take-le (s + 1) offs (b .room) ∙ omega arith)) built-table
+
+  pub built-cut : cut (take (s + 1) offs) (take end all) ≡ lists
   built-cut = rw (b .begins, b .entries) (cut-joined lists)
 
   module _ (r : Grown) (all′ list : List ℕ) (x : Exact r end all all′ list) where
@@ -160,7 +170,7 @@ module _ (start : ℕ) (flags numbers : List ℕ) where
 
     module _ (h : s < kinds * rows) (r : Grown) (offs′ all′ : List ℕ)
         (x : Result r offs′ all′ (s + 1) (cut (take (s + 1) offs) (take end all)
-          ++ (newList start flags numbers (s % kinds) (cut (take (s + 1) offs) (take end all)) (getD (cut offsets targets) s []) ∷ []))) where
+        ++ (newList start flags numbers (s % kinds) (cut (take (s + 1) offs) (take end all)) (getD (cut offsets targets) s []) ∷ []))) where
       turned : t ≡ newListsFrom start flags numbers (more start flags numbers (cut (take (s + 1) offs) (take end all)) s (cut offsets targets)) (drop (suc s) (cut offsets targets))
       turned =
           e ∙ ap (newListsFrom start flags numbers (cut (take (s + 1) offs) (take end all))) (drop-cons (cut offsets targets) s [] (rw (rows-length rows offsets targets ok) h))
@@ -183,7 +193,7 @@ module _ (start : ℕ) (flags numbers : List ℕ) where
             turned
             ∙ ap (λ (n : ℕ). newListsFrom start flags numbers (more start flags numbers (cut (take (s + 1) offs) (take end all)) s (cut offsets targets)) (drop n (cut offsets targets))) (sym (add-one s))
             ∙ ap (λ (ls : List (List ℕ)). newListsFrom start flags numbers ls (drop (s + 1) (cut offsets targets)))
-              (sym (built-cut offs′ all′ (s + 1) m (more start flags numbers (cut (take (s + 1) offs) (take end all)) s (cut offsets targets)) built))
+            (sym (built-cut offs′ all′ (s + 1) m (more start flags numbers (cut (take (s + 1) offs) (take end all)) s (cut offsets targets)) built))
 
 -- ── all slots ────────────────────────────────────────────────────────────────────────────────
 

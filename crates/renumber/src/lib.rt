@@ -173,7 +173,18 @@ fn new_list(
     let mut n = base;
     let mut i = a;
     while i < b {
-        let g = add_parent(start, flags, numbers, kind, offs, s, all, base, n, parents[i]);
+        let g = add_parent(
+            start,
+            flags,
+            numbers,
+            kind,
+            offs,
+            s,
+            all,
+            base,
+            n,
+            parents[i],
+        );
         match g {
             Grown::Upto(m) => {
                 n = m;
@@ -208,7 +219,19 @@ fn add_slot(
 {
     let a = index(offsets[s]);
     let b = index(offsets[s + 1]);
-    let g = new_list(start, flags, numbers, s % KINDS, offs, s, all, end, targets, a, b);
+    let g = new_list(
+        start,
+        flags,
+        numbers,
+        s % KINDS,
+        offs,
+        s,
+        all,
+        end,
+        targets,
+        a,
+        b,
+    );
     match g {
         Grown::Upto(m) => {
             offs[s + 1] = m as u64;

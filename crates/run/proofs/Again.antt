@@ -2,7 +2,7 @@
 use mathlib.Core.Path.{_≡_, refl, ap, ap₂, sym, _∙_}
 use mathlib.Core.List.{List, [], _∷_, _++_, map, foldl, append-nil, map-map}
 use mathlib.Core.Option.{Option, none, some}
-use Prim.Native.Nat.{ℕ, zero, suc, _+_, _<_}
+use Prim.Native.Nat.{ℕ, zero, suc, _<_}
 use native.Mathlib.Omega.{arith}
 use native.Mathlib.Nat.{add-zero}
 use lib.ListN.{length, getD, length-append}
@@ -54,7 +54,7 @@ add-groups src all before (g ∷ rest) e h =
     let n : length (before ++ (g ∷ [])) ≡ suc (length before) = omega (arith, length-append before (g ∷ [])) in
     let this : groupOf (src (length before)) ≡ g = h .0 .1 ∙ ap (λ gs. getD gs (length before) noGroup) e ∙ getD-append-seam before g rest noGroup in
     let grown : addSource before (src (length before)) ≡ before ++ (g ∷ []) =
-          ap₂ (λ m x. joinAt m before x) (h .0 .0) this ∙ join-new before g in
+    ap₂ (λ m x. joinAt m before x) (h .0 .0) this ∙ join-new before g in
     ap (λ gs. foldl addSource gs (map src (upFrom (suc (length before)) (length rest)))) grown
     ∙ ap (λ m. foldl addSource (before ++ (g ∷ [])) (map src (upFrom m (length rest)))) (sym n)
     ∙ add-groups src all (before ++ (g ∷ [])) rest (e ∙ sym (append-snoc before g rest)) (rw n (h .1))
@@ -75,7 +75,7 @@ module _ (S : Summary) (good : Good S) where
   groups-again =
       ap (foldl addSource []) (sources-again S)
       ∙ add-groups (sourceAt S) (S .groups) [] (S .groups) refl
-        (each-below (λ g. (sourceAt S g .group ≡ g) × (groupOf (sourceAt S g) ≡ groupAt S g)) (length (S .groups)) group-back)
+      (each-below (λ g. (sourceAt S g .group ≡ g) × (groupOf (sourceAt S g) ≡ groupAt S g)) (length (S .groups)) group-back)
 
   -- ── events ───────────────────────────────────────────────────────────────────────────────────
 
@@ -91,7 +91,7 @@ module _ (S : Summary) (good : Good S) where
       ap (flat (λ s. eventsFrom (again S) s 0 (s .rows))) (sources-again S)
       ∙ flat-map (λ s. eventsFrom (again S) s 0 (s .rows)) (sourceAt S) (groupNumbers S)
       ∙ flat-ext (λ g. eventsFrom (again S) (sourceAt S g) 0 (sourceAt S g .rows)) (λ g. map (λ r. eventOf (r .row)) (rowsIn S g)) (groupNumbers S)
-        (each-below _ (length (S .groups)) (events-of (again S)))
+      (each-below _ (length (S .groups)) (events-of (again S)))
       ∙ sym (map-flat (λ r. eventOf (r .row)) (rowsIn S) (groupNumbers S))
       ∙ ap (map (λ r. eventOf (r .row))) (all-rows S good)
       ∙ map-numbered eventOf (S .start) (S .rows)

@@ -2,7 +2,7 @@
 use mathlib.Core.Path.{_≡_, sym, subst}
 use mathlib.Core.Bool.{true}
 use mathlib.Core.List.{List, [], _∷_, _++_, map}
-use Prim.Native.Nat.{ℕ, zero, suc, _+_, _-_, _*_, _≤_, _<_}
+use Prim.Native.Nat.{ℕ, zero, suc, _+_, _*_, _≤_, _<_}
 use native.Mathlib.Omega.{arith}
 use native.Mathlib.Nat.{add-zero}
 use lib.ListN.{length, getD}
@@ -32,9 +32,11 @@ module _ (set first end : ℕ) where
   allowed-row i (a ∷ (b ∷ [])) rest s h =
       let even : first + i ≡ eventOf first (kinds * i) = omega arith in
       let odd : first + i ≡ eventOf first (suc (kinds * i)) = omega arith in
-      let next : kinds * suc i ≡ suc (suc (kinds * i)) = omega arith in
-      (omega arith, subst (λ n. OnSide set end n a) even (s .2 .0),
-        (omega arith, subst (λ n. OnSide set end n b) odd (s .2 .1 .0), subst (λ m. AllowedFrom set first end m rest) next h))
+      let next : kinds * suc i ≡ suc (suc (kinds * i)) = omega arith in (
+        omega arith,
+        subst (λ n. OnSide set end n a) even (s .2 .0),
+        (omega arith, subst (λ n. OnSide set end n b) odd (s .2 .1 .0), subst (λ m. AllowedFrom set first end m rest) next h),
+      )
   allowed-row i (a ∷ (b ∷ (c ∷ lists))) rest s h = absurd (omega (arith, s .1))
 
   pub allowed-rows : {A : Type 0} (f : A → List (List ℕ)) (i : ℕ) (xs : List A) → EachFrom (λ n x. SideRow set end n (f x)) (first + i) xs
@@ -54,11 +56,15 @@ module _ (set first end : ℕ) where
     where
       go : (n m : ℕ) → first ≤ n → n + m ≤ first + rows → EachFrom (λ n x. SideRow set end n (map (f x) (upFrom 0 kinds))) n (upFrom n m)
       go n zero l u = tt
-      go n (suc m) l u =
-          ((omega arith, length-map-upFrom (f n) 0 kinds,
-            each-map (OnSide set end n) (f n) (upFrom 0 kinds)
-            (each-below (λ k. OnSide set end n (f n k)) kinds (λ k b. h n k l (omega arith) b))),
-          go (suc n) m (omega arith) (omega arith))
+      go n (suc m) l u = (
+        (
+          omega arith,
+          length-map-upFrom (f n) 0 kinds,
+          each-map (OnSide set end n) (f n) (upFrom 0 kinds)
+              (each-below (λ k. OnSide set end n (f n k)) kinds (λ k b. h n k l (omega arith) b)),
+        ),
+        go (suc n) m (omega arith) (omega arith),
+      )
 
 -- the targets of a slot of such lists
 pub allowed-at : (set first end slot : ℕ) (lists : List (List ℕ)) (j : ℕ)

@@ -60,19 +60,21 @@ first-block : (g : ℕ) (rs : List Numbered) → Level g rs → (filter (groupIs
 unfolding filter
 first-block g [] h = (refl, tt)
 first-block g (r ∷ rs) h = elim (tested (groupIs g r)) [
-    inl e ↦ let s : groupOf r ≡ g = eqb-true (groupOf r) g e in
+  | inl e ↦ let s : groupOf r ≡ g = eqb-true (groupOf r) g e in
       let q = first-block g rs (rw s at (h .1)) in rw e (ap (λ xs. r ∷ xs) (q .0), q .1)
   | inr e ↦ let l : suc g ≤ groupOf r = omega (arith, eqb-false (groupOf r) g e) in
       let past = each-imp (λ s. groupOf r ≤ groupOf s) (λ s. suc g ≤ groupOf s) rs (λ s k. omega arith) (level-each (groupOf r) rs (h .1)) in
-      rw (e, past-none g rs past, past-all g rs past) (refl, (l, h .1)) ]
+      rw (e, past-none g rs past, past-all g rs past) (refl, (l, h .1))
+]
 
 -- leaving another group's rows out keeps a group's rows
 still-there : (g j : ℕ) (rs : List Numbered) → g < j → filter (groupIs j) (others g rs) ≡ filter (groupIs j) rs
 unfolding filter
 still-there g j [] l = refl
 still-there g j (r ∷ rs) l = elim (tested (groupIs g r)) [
-    inl e ↦ rw (e, ne-eqb (groupOf r) j (omega (arith, eqb-true (groupOf r) g e))) (still-there g j rs l)
-  | inr e ↦ elim (tested (groupIs j r)) [ inl f ↦ rw (e, f, still-there g j rs l) | inr f ↦ rw (e, f) (still-there g j rs l) ] ]
+  | inl e ↦ rw (e, ne-eqb (groupOf r) j (omega (arith, eqb-true (groupOf r) g e))) (still-there g j rs l)
+  | inr e ↦ elim (tested (groupIs j r)) [ inl f ↦ rw (e, f, still-there g j rs l) | inr f ↦ rw (e, f) (still-there g j rs l) ]
+]
 
 -- ── all blocks ───────────────────────────────────────────────────────────────────────────────
 
@@ -85,9 +87,9 @@ blocks-all (suc k) g rs h b =
     let b′ : Each (λ r. groupOf r < suc g + k) rs = each-imp (λ r. groupOf r < g + suc k) (λ r. groupOf r < suc g + k) rs (λ r l. omega arith) b in
     ap (λ xs. filter (groupIs g) rs ++ xs)
     (flat-ext (λ j. filter (groupIs j) rs) (λ j. filter (groupIs j) (others g rs)) (upFrom (suc g) k)
-      (each-imp (λ j. (suc g ≤ j) × (j < suc g + k)) (λ j. filter (groupIs j) rs ≡ filter (groupIs j) (others g rs)) (upFrom (suc g) k)
-        (λ j w. sym (still-there g j rs (w .0))) (each-upFrom (suc g) k))
-      ∙ blocks-all k (suc g) (others g rs) (q .1) (each-filter (λ r. not (groupIs g r)) (λ r. groupOf r < suc g + k) rs b′))
+    (each-imp (λ j. (suc g ≤ j) × (j < suc g + k)) (λ j. filter (groupIs j) rs ≡ filter (groupIs j) (others g rs)) (upFrom (suc g) k)
+    (λ j w. sym (still-there g j rs (w .0))) (each-upFrom (suc g) k))
+    ∙ blocks-all k (suc g) (others g rs) (q .1) (each-filter (λ r. not (groupIs g r)) (λ r. groupOf r < suc g + k) rs b′))
     ∙ q .0
 
 -- a group that some row has has a row
@@ -95,8 +97,9 @@ filled : (g n : ℕ) (rs : List Kept) → List·Memᴰ g (map (λ r. r .body .gr
 unfolding filter numberedFrom
 filled g n [] m = absurd (List·Memᴰ·not-nil m)
 filled g n (r ∷ rs) m = elim (tested (eqb (r .body .group) g)) [
-    inl e ↦ rw e (omega arith)
-  | inr e ↦ rw e (elim (List·Memᴰ·cases-cons m) [ inl f ↦ absurd (eqb-false (r .body .group) g e (sym f)) | inr t ↦ filled g (suc n) rs t ]) ]
+  | inl e ↦ rw e (omega arith)
+  | inr e ↦ rw e (elim (List·Memᴰ·cases-cons m) [ inl f ↦ absurd (eqb-false (r .body .group) g e (sym f)) | inr t ↦ filled g (suc n) rs t ])
+]
 
 -- ── where blocks stand ───────────────────────────────────────────────────────────────────────
 
@@ -132,7 +135,7 @@ module _ (S : Summary) (good : Good S) where
   all-rows =
       blocks-all (length (S .groups)) 0 (numbered S) (level-numbered 0 (S .start) (S .rows) (good .order))
       (each-imp (λ r. GoodLists (r .number) (r .row .parents) × GoodBody (S .groups) (r .row .body)) (λ r. groupOf r < 0 + length (S .groups)) (numbered S)
-        (λ r h. omega (arith, h .1 .group)) good-rows)
+      (λ r h. omega (arith, h .1 .group)) good-rows)
 
   pub rows-counted : (g : ℕ) → g < length (S .groups) → Counted (S .start + rowsBefore S g) (rowsIn S g)
   unfolding numbered
@@ -172,7 +175,7 @@ module _ (S : Summary) (good : Good S) where
       each-imp (λ r. (groupIs g r ≡ true) × (GoodLists (r .number) (r .row .parents) × GoodBody (S .groups) (r .row .body))) (GoodRow S g) (rowsIn S g)
       (λ r h. record { group = eqb-true (groupOf r) g (h .0); lists = h .1 .0; body = h .1 .1 })
       (each-both (λ r. groupIs g r ≡ true) (λ r. GoodLists (r .number) (r .row .parents) × GoodBody (S .groups) (r .row .body)) (rowsIn S g)
-        (filter-passes (groupIs g) (numbered S)) (each-filter (groupIs g) _ (numbered S) good-rows))
+      (filter-passes (groupIs g) (numbered S)) (each-filter (groupIs g) _ (numbered S) good-rows))
 
   -- with its number in the group's block
   pub rows-within : (g : ℕ) → g < length (S .groups)
@@ -180,4 +183,4 @@ module _ (S : Summary) (good : Good S) where
   rows-within g l =
       rw (before-next g, ← add-assoc (S .start) (rowsBefore S g) (length (rowsIn S g)))
       (each-both (GoodRow S g) (λ r. (S .start + rowsBefore S g ≤ r .number) × (r .number < S .start + rowsBefore S g + length (rowsIn S g))) (rowsIn S g)
-        (rows-good g) (counted-within (S .start + rowsBefore S g) (rowsIn S g) (rows-counted g l)))
+      (rows-good g) (counted-within (S .start + rowsBefore S g) (rowsIn S g) (rows-counted g l)))

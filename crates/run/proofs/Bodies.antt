@@ -65,11 +65,12 @@ module _ (t : Taken) (gs : List Group) (s : Source) (c : Covered gs s) (h : Soun
     group = omega (arith, c .0, length-map gs groupSummary);
     tag = g;
     label = rw (List·getD-map groupSummary gs (s .group) noGroup)
-      (good-label ((getD gs (s .group) noGroup) .links) (s .cover) (length (s .rows)) i (c .1) (f .cover) l);
+        (good-label ((getD gs (s .group) noGroup) .links) (s .cover) (length (s .rows)) i (c .1) (f .cover) l);
     root = good-root (s .roots) i (f .handles);
     unresolved = good-references (s .unresolved) (s .first + i)
-      (each-imp (λ u. RecordIn s u × (u .handle < 2 ^ 32)) (λ u. (u .kind < kinds) × (u .handle < 2 ^ 32)) (s .unresolved) (λ u b. (b .0 .2, b .1))
-      (each-both (RecordIn s) (λ u. u .handle < 2 ^ 32) (s .unresolved) (h .unresolved) (f .references))) }
+        (each-imp (λ u. RecordIn s u × (u .handle < 2 ^ 32)) (λ u. (u .kind < kinds) × (u .handle < 2 ^ 32)) (s .unresolved) (λ u b. (b .0 .2, b .1))
+        (each-both (RecordIn s) (λ u. u .handle < 2 ^ 32) (s .unresolved) (h .unresolved) (f .references)));
+  }
 
   bodies-from : (i : ℕ) (rows : List Row) → i + length rows ≡ length (s .rows) → Each (λ r. r .tag < 2 ^ 64) rows
       → Each (λ e. GoodBody (map groupSummary gs) (e .body)) (eventsFrom t s i rows)

@@ -75,7 +75,7 @@ unfolding linksBytes
 length-links c h =
     simp (length-append, length-bytesOf)
     (rw (length-column 4 (c .fromChains), length-column 4 (c .fromSeqs), length-column 4 (c .toChains), length-column 4 (c .toSeqs), h .second, h .third, h .fourth)
-      (four (length (c .fromChains))))
+    (four (length (c .fromChains))))
   where
     four : (n : ℕ) → 4 + (4 * n + (4 * n + (4 * n + 4 * n))) ≡ 4 + 16 * n
     four n = omega arith
@@ -85,5 +85,10 @@ pub short-cover : (c : CoverColumns) → LinksFit (c .links) → length (c .labe
 unfolding coverBytes
 short-cover c h a b d e =
     simp (length-append, length-bytesOf)
-    (omega (arith, length-column 4 (c .labels .chains), length-column 4 (c .labels .seqs), length-blocks rangeBytes 12 wide-range (c .ranges),
-      length-links (c .links) h))
+    (omega (
+      arith,
+      length-column 4 (c .labels .chains),
+      length-column 4 (c .labels .seqs),
+      length-blocks rangeBytes 12 wide-range (c .ranges),
+      length-links (c .links) h,
+    ))

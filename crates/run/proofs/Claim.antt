@@ -9,7 +9,7 @@ use lib.ListN.{length}
 use Rattle.lists.specs.Lists.{flat, Each}
 use Rattle.lists.proofs.Each.{each-append, each-imp, each-mem}
 use Rattle.columns.specs.Refusal
-use Rattle.columns.specs.Refusal.{Verdict, unless}
+use Rattle.columns.specs.Refusal.{unless}
 use Rattle.columns.specs.declared.refusal.Refusal.{Refusal}
 use Rattle.columns.specs.declared.refusal.Refusal.the-variants.{SliceShort}
 use Rattle.archive.specs.File.{File}
@@ -19,14 +19,14 @@ use Rattle.run.specs.Source.{Source, sourceOf}
 use Rattle.run.specs.Taking.{takeRules, takenFrom}
 use Rattle.run.specs.Archive.{Taken, Archive, archiveOf}
 use Rattle.run.specs.Memo.{tables}
-use Rattle.run.specs.Summary.{Summary, summary, tabled}
+use Rattle.run.specs.Summary.{Summary, tabled}
 use Rattle.run.specs.Resolving.{resolveRules}
 use Rattle.run.specs.Writing.{writeRules, bytesOf, written}
-use Rattle.run.specs.Step.{Call, takes, resolves, writes, Answer, refused, done, wrote, State, taking, resolved, spoiled, fresh, Outcome, takeMore, resolveBy, writeInto, resolve, step}
+use Rattle.run.specs.Step.{Call, takes, resolves, writes, Answer, refused, wrote, State, taking, resolved, spoiled, fresh, takeMore, resolveBy, writeInto, resolve, step}
 use Rattle.run.specs.History.{Did, did, history, took, bytesWritten, archiveIn, Wrote, cleaned}
 use Rattle.run.specs.Alike.{Alike}
 use Rattle.run.specs.Claim.{Claim}
-use Rattle.run.specs.Trace.{Meets, Trace, ended, called, ClaimOfTraces}
+use Rattle.run.specs.Trace.{Trace, ended, called, ClaimOfTraces}
 use Rattle.run.proofs.Events.{valid-sources}
 use Rattle.run.proofs.Tabled.{tabled-summary}
 use Rattle.run.proofs.SameSummary.{summary-alike}
@@ -45,6 +45,7 @@ bytes-of room S = go (writeRules S)
     fits : (b : Bool) → Each (λ w. w ≡ bytesOf S) (bytesWritten (did (writes room) (cond b (wrote (bytesOf S)) (refused SliceShort))))
     fits true = (refl, tt)
     fits false = tt
+
     go : (r : Option Refusal) → Each (λ w. w ≡ bytesOf S) (bytesWritten (did (writes room) (writeInto room (unless r (bytesOf S)))))
     go none = fits (leb (length (bytesOf S)) room)
     go (some r) = tt
@@ -100,7 +101,7 @@ all-cleaned s (c ∷ cs) ss i =
     let h : List Did = history ((step s c) .state) cs in
     each-append (Cleaned ss (d ∷ h)) (bytesWritten d) (flat bytesWritten h) (first-cleaned s c cs ss i)
     (subst (λ xs. Each (λ w. w ≡ cleaned (archiveFrom xs)) (flat bytesWritten h)) (append-assoc ss (took d) (flat took h))
-      (all-cleaned ((step s c) .state) cs (ss ++ took d) (step-after s c ss i)))
+    (all-cleaned ((step s c) .state) cs (ss ++ took d) (step-after s c ss i)))
 
 pub write-cleaned : (cs : List Call) (w : List ℕ) → Wrote (history fresh cs) w → w ≡ cleaned (archiveIn (history fresh cs))
 unfolding Wrote archiveIn Inv
@@ -134,8 +135,8 @@ module _ (Run Reply : Type 0) (view : Run → State) (answered : Reply → Answe
       let p : h ≡ history fresh (map callOf h) = trace-history t ∙ ap (λ x. history x (map callOf h)) er in
       let q : g ≡ history fresh (map callOf g) = trace-history u ∙ ap (λ x. history x (map callOf g)) es in
       let c = claim (map callOf h) (map callOf g)
-            (subst (λ x. Alike x (archiveIn (history fresh (map callOf g)))) (ap archiveIn p) (subst (λ x. Alike (archiveIn h) x) (ap archiveIn q) l))
-            w v (subst (λ x. Wrote x w) p m) (subst (λ x. Wrote x v) q n) in
+      (subst (λ x. Alike x (archiveIn (history fresh (map callOf g)))) (ap archiveIn p) (subst (λ x. Alike (archiveIn h) x) (ap archiveIn q) l))
+      w v (subst (λ x. Wrote x w) p m) (subst (λ x. Wrote x v) q n) in
       (c .0 ∙ ap (λ x. cleaned (archiveIn x)) (sym p), c .1 ∙ ap (λ x. cleaned (archiveIn x)) (sym q), c .2)
 
 -- not empty: where the runs are the states themselves, every list of calls has its trace

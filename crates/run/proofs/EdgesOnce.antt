@@ -33,8 +33,9 @@ children-to : (n k : ℕ) (es : List Edge) → childrenTo n k (map (λ e. e .chi
 unfolding childrenTo filter
 children-to n k [] = refl
 children-to n k (e ∷ es) = elim (tested (eqb (e .parent) n && eqb (e .kind) k)) [
-    inl t ↦ rw (t, children-to n k es)
-  | inr t ↦ rw (t, children-to n k es) ]
+  | inl t ↦ rw (t, children-to n k es)
+  | inr t ↦ rw (t, children-to n k es)
+]
 
 children-append : (n k : ℕ) (xs ys : List Edge) → childrenOf n k (xs ++ ys) ≡ childrenOf n k xs ++ childrenOf n k ys
 children-append n k xs ys =
@@ -73,11 +74,13 @@ module _ (n k c kind : ℕ) where
     one-named (p ∷ ps) d =
         let r = both (not (mem p ps)) (distinct ps) d in
         elim (tested (q p)) [
-          inl e ↦ elim (tested (eqb p n && eqb kind k)) [
-              inl t ↦ let s : p ≡ n = eqb-true p n (both (eqb p n) (eqb kind k) t .0) in
+          | inl e ↦ elim (tested (eqb p n && eqb kind k)) [
+            | inl t ↦ let s : p ≡ n = eqb-true p n (both (eqb p n) (eqb kind k) t .0) in
                 rw (e, t, none-named ps (rw s at (not-true (mem p ps) (r .0)))) (inr refl)
-            | inr t ↦ rw (e, t) (one-named ps (r .1)) ]
-        | inr e ↦ rw e (one-named ps (r .1)) ]
+            | inr t ↦ rw (e, t) (one-named ps (r .1))
+          ]
+          | inr e ↦ rw e (one-named ps (r .1))
+        ]
 
 module _ (n k first end c : ℕ) where
   -- edges of later kinds
@@ -85,8 +88,11 @@ module _ (n k first end c : ℕ) where
   unfolding edgesInto filter
   none-later kind [] l = refl
   none-later kind (ps ∷ lists) l =
-      rw (children-append n k (map (edge c kind) (filter (inFile first end) ps)) (edgesInto first end c (suc kind) lists),
-        none-of-kind n k c kind (λ e. omega arith) (filter (inFile first end) ps), none-later (suc kind) lists (omega arith))
+      rw (
+        children-append n k (map (edge c kind) (filter (inFile first end) ps)) (edgesInto first end c (suc kind) lists),
+        none-of-kind n k c kind (λ e. omega arith) (filter (inFile first end) ps),
+        none-later (suc kind) lists (omega arith),
+      )
 
   one-child : (kind : ℕ) (lists : List (List ℕ)) → Each (λ ps. distinct ps ≡ true) lists → AtMost c (childrenOf n k (edgesInto first end c kind lists))
   unfolding edgesInto filter
@@ -94,9 +100,10 @@ module _ (n k first end c : ℕ) where
   one-child kind (ps ∷ lists) h =
       rw (children-append n k (map (edge c kind) (filter (inFile first end) ps)) (edgesInto first end c (suc kind) lists))
       (elim (tested (eqb kind k)) [
-          inl e ↦ rw (none-later (suc kind) lists (omega (arith, eqb-true kind k e)), append-nil (childrenOf n k (map (edge c kind) (filter (inFile first end) ps))))
+        | inl e ↦ rw (none-later (suc kind) lists (omega (arith, eqb-true kind k e)), append-nil (childrenOf n k (map (edge c kind) (filter (inFile first end) ps))))
             (one-named n k c kind (inFile first end) ps (h .0))
-        | inr e ↦ rw (none-of-kind n k c kind (eqb-false kind k e) (filter (inFile first end) ps)) (one-child (suc kind) lists (h .1)) ])
+        | inr e ↦ rw (none-of-kind n k c kind (eqb-false kind k e) (filter (inFile first end) ps)) (one-child (suc kind) lists (h .1))
+      ])
 
 -- ── all rows ─────────────────────────────────────────────────────────────────────────────────
 
@@ -107,29 +114,32 @@ Risen (r ∷ rs) = Each (λ s. r .number < s .number) rs × Risen rs
 
 risen-counted : (n : ℕ) (rs : List Numbered) → Counted n rs → Risen rs
 risen-counted n [] h = tt
-risen-counted n (r ∷ rs) h =
-    (each-imp (λ s. (suc n ≤ s .number) × (s .number < suc n + length rs)) (λ s. r .number < s .number) rs (λ s b. omega (arith, h .0)) (counted-within (suc n) rs (h .1)),
-    risen-counted (suc n) rs (h .1))
+risen-counted n (r ∷ rs) h = (
+  each-imp (λ s. (suc n ≤ s .number) × (s .number < suc n + length rs)) (λ s. r .number < s .number) rs (λ s b. omega (arith, h .0)) (counted-within (suc n) rs (h .1)),
+  risen-counted (suc n) rs (h .1),
+)
 
 risen-filter : (p : Numbered → Bool) (rs : List Numbered) → Risen rs → Risen (filter p rs)
 unfolding filter
 risen-filter p [] h = tt
 risen-filter p (r ∷ rs) h = elim (tested (p r)) [
-    inl e ↦ rw e (each-filter p (λ s. r .number < s .number) rs (h .0), risen-filter p rs (h .1))
-  | inr e ↦ rw e (risen-filter p rs (h .1)) ]
+  | inl e ↦ rw e (each-filter p (λ s. r .number < s .number) rs (h .0), risen-filter p rs (h .1))
+  | inr e ↦ rw e (risen-filter p rs (h .1))
+]
 
 distinct-flat : (f : Numbered → List ℕ) (rs : List Numbered) → Risen rs → Each (λ r. AtMost (r .number) (f r)) rs → distinct (flat f rs) ≡ true
 unfolding distinct
 distinct-flat f [] h g = refl
 distinct-flat f (r ∷ rs) h g = elim (g .0) [
-    inl e ↦ rw e (distinct-flat f rs (h .1) (g .1))
-  | inr e ↦ rw (e, others-not-mem (r .number) (flat f rs) later) (distinct-flat f rs (h .1) (g .1)) ]
+  | inl e ↦ rw e (distinct-flat f rs (h .1) (g .1))
+  | inr e ↦ rw (e, others-not-mem (r .number) (flat f rs) later) (distinct-flat f rs (h .1) (g .1))
+]
   where
     later : Each (λ x. r .number ≡ x → ⊥) (flat f rs)
     later = each-flat (λ x. r .number ≡ x → ⊥) f rs
-      (each-imp (λ s. (r .number < s .number) × AtMost (s .number) (f s)) (λ s. Each (λ x. r .number ≡ x → ⊥) (f s)) rs
-      (λ s b. elim (b .1) [ inl e ↦ rw e tt | inr e ↦ rw e ((λ c. omega arith), tt) ])
-      (each-both (λ s. r .number < s .number) (λ s. AtMost (s .number) (f s)) rs (h .0) (g .1)))
+        (each-imp (λ s. (r .number < s .number) × AtMost (s .number) (f s)) (λ s. Each (λ x. r .number ≡ x → ⊥) (f s)) rs
+        (λ s b. elim (b .1) [ inl e ↦ rw e tt | inr e ↦ rw e ((λ c. omega arith), tt) ])
+        (each-both (λ s. r .number < s .number) (λ s. AtMost (s .number) (f s)) rs (h .0) (g .1)))
 
 module _ (S : Summary) (good : Good S) (g first end : ℕ) where
   children-distinct : (n k : ℕ) → distinct (childrenOf n k (edgesOf S g first end)) ≡ true
@@ -152,4 +162,4 @@ module _ (S : Summary) (good : Good S) (g first end : ℕ) where
       all-of distinct (inboundLists low rows (inboundColumns es))
       (each-table f low rows (λ l. distinct l ≡ true)
       (λ n k. distinct-sort (childrenTo n k (map (λ e. e .child) es) (map (λ e. e .parent) es) (map (λ e. e .kind) es))
-        ∙ ap distinct (children-to n k es) ∙ children-distinct n k))
+      ∙ ap distinct (children-to n k es) ∙ children-distinct n k))

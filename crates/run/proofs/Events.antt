@@ -59,24 +59,27 @@ ParentsBelow n e = (k : ℕ) → AllBelow n (parentsOf k e)
 
 getD-below : (first slot : ℕ) (lists : List (List ℕ)) (i : ℕ) → EachFrom (SlotBelow first) slot lists → AllBelow (eventOf first (slot + i)) (getD lists i [])
 getD-below first slot lists i h = elim (tested (ltb i (length lists))) [
-    inl e ↦ from-getD (SlotBelow first) slot lists i [] h (ltb-true i (length lists) e)
-  | inr e ↦ rw (List·getD-eq-default lists [] {n = i} (ltb-false i (length lists) e)) tt ]
+  | inl e ↦ from-getD (SlotBelow first) slot lists i [] h (ltb-true i (length lists) e)
+  | inr e ↦ rw (List·getD-eq-default lists [] {n = i} (ltb-false i (length lists) e)) tt
+]
 
 part-below : (first i k : ℕ) (lists : List (List ℕ)) → EachFrom (SlotBelow first) 0 lists → AllBelow (first + i) (getD (part (kinds * i) kinds lists) k [])
 unfolding part
 part-below first i k lists h = elim (tested (ltb k kinds)) [
-    inl e ↦ let l = ltb-true k kinds e in
+  | inl e ↦ let l = ltb-true k kinds e in
       rw (getD-take kinds (drop (kinds * i) lists) k [] l, getD-drop (kinds * i) lists k [])
       (subst (λ n. AllBelow n (getD lists (kinds * i + k) [])) {x = eventOf first (0 + (kinds * i + k))} {y = first + i} (omega arith)
       (getD-below first 0 lists (kinds * i + k) h))
-  | inr e ↦ let l = ltb-false k kinds e in rw (List·getD-eq-default (take kinds (drop (kinds * i) lists)) [] {n = k} (simp length-take (omega arith))) tt ]
+  | inr e ↦ let l = ltb-false k kinds e in rw (List·getD-eq-default (take kinds (drop (kinds * i) lists)) [] {n = k} (simp length-take (omega arith))) tt
+]
 
 events-below : (t : Taken) (s : Source) → Sound s → (i : ℕ) (rows : List Row) → EachFrom ParentsBelow (s .first + i) (eventsFrom t s i rows)
 unfolding eventsFrom parentsOf
 events-below t s h i [] = tt
-events-below t s h i (row ∷ rows) =
-    ((λ k. part-below (s .first) i k (s .forward) (h .below)),
-    from-eq ParentsBelow (s .first + suc i) (suc (s .first + i)) (eventsFrom t s (suc i) rows) (omega arith) (events-below t s h (suc i) rows))
+events-below t s h i (row ∷ rows) = (
+  (λ k. part-below (s .first) i k (s .forward) (h .below)),
+  from-eq ParentsBelow (s .first + suc i) (suc (s .first + i)) (eventsFrom t s (suc i) rows) (omega arith) (events-below t s h (suc i) rows),
+)
 
 each-below : (t : Taken) (before : Option Source) (ss : List Source) → Followed before ss → Each (λ s. EachFrom ParentsBelow (s .first) (eventsIn t s)) ss
 each-below t before [] f = tt
@@ -86,9 +89,10 @@ each-below t before (s ∷ ss) f =
 pub valid-sources : (ss : List Source) → Followed none ss → Valid (archiveOf (record { sources = ss }))
 unfolding Valid archiveOf at parentsOf
 valid-sources ss f k p l = elim (tested (ltb i (length es))) [
-    inl e ↦ subst (λ n. AllBelow n (parentsOf k (getD es i blank))) {x = startOf ss + i} {y = p} (omega arith)
+  | inl e ↦ subst (λ n. AllBelow n (parentsOf k (getD es i blank))) {x = startOf ss + i} {y = p} (omega arith)
       (from-getD ParentsBelow (startOf ss) es i blank (from-sources t ParentsBelow ss f (each-below t none ss f)) (ltb-true i (length es) e) k)
-  | inr e ↦ rw (List·getD-eq-default es blank {n = i} (ltb-false i (length es) e)) tt ]
+  | inr e ↦ rw (List·getD-eq-default es blank {n = i} (ltb-false i (length es) e)) tt
+]
   where
     t : Taken
     t = record { sources = ss }

@@ -84,8 +84,9 @@ one-child : (c a m : ℕ) → sum (isChild c) (upFrom a m) ≤ 1
 unfolding sum upFrom
 one-child c a zero = omega arith
 one-child c a (suc m) = elim (tested (eqb c a)) [
-    inl e ↦ rw e (omega (arith, no-child c (suc a) m (omega (arith, eqb-true c a e))))
-  | inr e ↦ rw e (omega (arith, one-child c (suc a) m)) ]
+  | inl e ↦ rw e (omega (arith, no-child c (suc a) m (omega (arith, eqb-true c a e))))
+  | inr e ↦ rw e (omega (arith, one-child c (suc a) m))
+]
 
 records-cons : (u : Unresolved) (us : List Unresolved) (n : ℕ) → recordsOf (u ∷ us) n ≡ isChild (u .child) n + recordsOf us n
 unfolding filter
@@ -99,9 +100,14 @@ no-records (n ∷ ns) = omega (arith, no-records ns)
 few-records : (us : List Unresolved) (ns : List ℕ) → ((c : ℕ) → sum (isChild c) ns ≤ 1) → sum (recordsOf us) ns ≤ length us
 few-records [] ns h = omega (arith, no-records ns)
 few-records (u ∷ us) ns h =
-    omega (arith, sum-ext (recordsOf (u ∷ us)) (λ n. isChild (u .child) n + recordsOf us n) ns
-        (each-all (λ n. recordsOf (u ∷ us) n ≡ isChild (u .child) n + recordsOf us n) (records-cons u us) ns),
-      sum-both (isChild (u .child)) (recordsOf us) ns, h (u .child), few-records us ns h)
+    omega (
+      arith,
+      sum-ext (recordsOf (u ∷ us)) (λ n. isChild (u .child) n + recordsOf us n) ns
+          (each-all (λ n. recordsOf (u ∷ us) n ≡ isChild (u .child) n + recordsOf us n) (records-cons u us) ns),
+      sum-both (isChild (u .child)) (recordsOf us) ns,
+      h (u .child),
+      few-records us ns h,
+    )
 
 length-references : (us : List Unresolved) (n : ℕ) → length (referencesIn us n) ≡ recordsOf us n
 unfolding referencesIn
@@ -121,4 +127,4 @@ few-references t ss =
     (sum-le (λ s. sum (λ e. length (e .body .unresolved)) (eventsIn t s)) (λ s. length (s .unresolved)) ss
     (each-all (λ s. sum (λ e. length (e .body .unresolved)) (eventsIn t s) ≤ length (s .unresolved))
     (λ s. rw (references-from t s 0 (s .rows))
-      (few-records (s .unresolved) (upFrom (s .first + 0) (length (s .rows))) (λ c. one-child c (s .first + 0) (length (s .rows))))) ss))
+    (few-records (s .unresolved) (upFrom (s .first + 0) (length (s .rows))) (λ c. one-child c (s .first + 0) (length (s .rows))))) ss))

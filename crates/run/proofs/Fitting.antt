@@ -74,9 +74,9 @@ stored-read c e f =
     let p = both (evenColumns c) (all (λ s. ltb s end32) (sums 0 (c .fromChains)) && linksRise (storedLinks c)) e in
     let q = both (all (λ s. ltb s end32) (sums 0 (c .fromChains))) (linksRise (storedLinks c)) (p .1) in
     let w = each-imp (λ s. ltb s end32 ≡ true) (λ s. s < 256 ^ 4) (sums 0 (c .fromChains)) (λ s t. ltb-true s end32 t)
-      (all-each (λ s. ltb s end32) (sums 0 (c .fromChains)) (q .0)) in
+    (all-each (λ s. ltb s end32) (sums 0 (c .fromChains)) (q .0)) in
     let r = links-read (sums 0 (c .fromChains)) (c .fromSeqs) (c .toChains) (c .toSeqs)
-      (f .second ∙ sym n) (f .third ∙ sym n) (f .fourth ∙ sym n) w (f .fromSeqs) (f .toChains) (f .toSeqs) in
+    (f .second ∙ sym n) (f .third ∙ sym n) (f .fourth ∙ sym n) w (f .fromSeqs) (f .toChains) (f .toSeqs) in
     (r .0 ∙ n, r .1)
 
 links-ok : (c : CoverColumns) → coverRules (some c) ≡ none → linksOk (c .links) ≡ true
@@ -103,7 +103,8 @@ fitting-source before f e h = record {
   tags = h .tags;
   handles = each-imp RootFits (λ r. r .handle < 2 ^ 64) (f .roots) (λ r x. x .1) (h .roots);
   references = each-imp UnresolvedFits (λ u. u .handle < 2 ^ 32) (f .unresolved) (λ u x. x .2) (h .unresolved);
-  cover = cover-fitting (length (f .rows)) (f .cover) (cover-rules before f e) (h .cover) }
+  cover = cover-fitting (length (f .rows)) (f .cover) (cover-rules before f e) (h .cover);
+}
 
 pub fitting-taken : (before : Option Source) (fs : List File) → filesRules before fs ≡ none → Each FileFits fs → Each Fitting (map sourceOf fs)
 unfolding filesRules
@@ -149,6 +150,11 @@ limited-taken fs r h e =
     record {
       events = omega (arith, within maxRecords (sum (λ f. length (f .rows)) fs) (t1 .0), sum-map (λ s. length (s .rows)) sourceOf fs);
       references = omega (arith, within maxRecords (sum (λ f. length (f .unresolved)) fs) (t2 .1), sum-map (λ s. length (s .unresolved)) sourceOf fs);
-      links = omega (arith, within maxRecords (sum (λ f. storedLinkCount (f .cover)) fs) (t4 .1), sum-map (λ s. linkCount (s .cover)) sourceOf fs,
-        sum-ext (λ f. linkCount ((sourceOf f) .cover)) (λ f. storedLinkCount (f .cover)) fs (links-taken none fs r h));
-      groups = rw (map-map (λ s. s .group) sourceOf fs) (ltb-false maxGroups (groupCount [] fs) (t5 .1)) }
+      links = omega (
+        arith,
+        within maxRecords (sum (λ f. storedLinkCount (f .cover)) fs) (t4 .1),
+        sum-map (λ s. linkCount (s .cover)) sourceOf fs,
+        sum-ext (λ f. linkCount ((sourceOf f) .cover)) (λ f. storedLinkCount (f .cover)) fs (links-taken none fs r h),
+      );
+      groups = rw (map-map (λ s. s .group) sourceOf fs) (ltb-false maxGroups (groupCount [] fs) (t5 .1));
+    }

@@ -85,10 +85,10 @@ unfolding referencesIn unresolvedOf
 references-other n rs h =
     ap (λ us. map (λ u. record { kind = u .kind; handle = u .handle }) us)
     (filter-none (λ u. eqb (u .child) n) (flat unresolvedOf rs)
-      (each-flat (λ u. eqb (u .child) n ≡ false) unresolvedOf rs
-        (each-imp (λ r. r .number ≡ n → ⊥) (λ r. Each (λ u. eqb (u .child) n ≡ false) (unresolvedOf r)) rs
-          (λ r d. each-map (λ u. eqb (u .child) n ≡ false) _ (r .row .body .unresolved)
-            (each-all (λ u. eqb (r .number) n ≡ false) (λ u. ne-eqb (r .number) n d) (r .row .body .unresolved))) h)))
+    (each-flat (λ u. eqb (u .child) n ≡ false) unresolvedOf rs
+    (each-imp (λ r. r .number ≡ n → ⊥) (λ r. Each (λ u. eqb (u .child) n ≡ false) (unresolvedOf r)) rs
+    (λ r d. each-map (λ u. eqb (u .child) n ≡ false) _ (r .row .body .unresolved)
+    (each-all (λ u. eqb (r .number) n ≡ false) (λ u. ne-eqb (r .number) n d) (r .row .body .unresolved))) h)))
 
 pub references-at : (n : ℕ) (before : List Numbered) (r : Numbered) (rs : List Numbered) → Counted n (before ++ (r ∷ rs))
     → referencesIn (flat unresolvedOf (before ++ (r ∷ rs))) (n + length before) ≡ r .row .body .unresolved
@@ -96,14 +96,20 @@ references-at n before r rs h =
     let q = counted-append n before (r ∷ rs) h in
     let m = n + length before in
     let first : referencesIn (flat unresolvedOf before) m ≡ [] = references-other m before
-          (each-imp (λ b. (n ≤ b .number) × (b .number < n + length before)) (λ b. b .number ≡ m → ⊥) before (λ b w e. omega arith)
-            (counted-within n before (q .0))) in
+    (each-imp (λ b. (n ≤ b .number) × (b .number < n + length before)) (λ b. b .number ≡ m → ⊥) before (λ b w e. omega arith)
+    (counted-within n before (q .0))) in
     let own : referencesIn (unresolvedOf r) m ≡ r .row .body .unresolved = rw (sym (q .1 .0)) (references-own r) in
     let rest : referencesIn (flat unresolvedOf rs) m ≡ [] = references-other m rs
-          (each-imp (λ b. (suc m ≤ b .number) × (b .number < suc m + length rs)) (λ b. b .number ≡ m → ⊥) rs (λ b w e. omega arith)
-            (counted-within (suc m) rs (q .1 .1))) in
-    rw (flat-append unresolvedOf before (r ∷ rs), references-append (flat unresolvedOf before) (unresolvedOf r ++ flat unresolvedOf rs) m,
-      references-append (unresolvedOf r) (flat unresolvedOf rs) m, first, own, rest) (append-nil (r .row .body .unresolved))
+    (each-imp (λ b. (suc m ≤ b .number) × (b .number < suc m + length rs)) (λ b. b .number ≡ m → ⊥) rs (λ b w e. omega arith)
+    (counted-within (suc m) rs (q .1 .1))) in
+    rw (
+      flat-append unresolvedOf before (r ∷ rs),
+      references-append (flat unresolvedOf before) (unresolvedOf r ++ flat unresolvedOf rs) m,
+      references-append (unresolvedOf r) (flat unresolvedOf rs) m,
+      first,
+      own,
+      rest,
+    ) (append-nil (r .row .body .unresolved))
 
 -- ── labels ───────────────────────────────────────────────────────────────────────────────────
 

@@ -1,18 +1,18 @@
 -- What holds of the cleaned form of every archive that a run takes and resolves. Writing, and taking the output again, rest on these facts alone.
-use mathlib.Core.Bool.{Bool, true, false}
+use mathlib.Core.Bool.{true}
 use mathlib.Core.List.{List, [], _∷_, map, List·Memᴰ}
 use mathlib.Core.Option.{Option, none, some}
 use mathlib.Core.Path.{_≡_}
-use Prim.Native.Nat.{ℕ, zero, suc, _+_, _≤_, _<_, _^_}
+use Prim.Native.Nat.{ℕ, suc, _+_, _≤_, _<_, _^_}
 use lib.ListN.{length, getD}
 use Rattle.lists.specs.Lists.{Each, sum, distinct}
 use Rattle.lists.specs.Order.{notFalling}
 use Rattle.columns.specs.Limits.{kinds, maxRecords, maxNumbers, maxGroups}
 use Rattle.columns.specs.Reading.{Label}
-use Rattle.columns.specs.Building.{Depth, subjectOk, depthOk}
+use Rattle.columns.specs.Building.{subjectOk, depthOk}
 use Rattle.cover.specs.Chains.{Link, linksRise}
 use Rattle.archive.specs.Fits.{DepthFits}
-use Rattle.run.specs.Archive.{Reference, Body, Group}
+use Rattle.run.specs.Archive.{Body, Group}
 use Rattle.run.specs.Summary.{Kept, Summary}
 use Rattle.run.specs.Writing.{noGroup}
 

@@ -50,12 +50,15 @@ join-depth (some d) (some e) h g =
     let p = leb-true (d .least) (d .greatest) (h .0) in
     let q = leb-true (e .least) (e .greatest) (g .0) in
     elim (tested (ltb (e .least) (d .least))) [
-      inl a ↦ let x = ltb-true (e .least) (d .least) a in elim (tested (ltb (d .greatest) (e .greatest))) [
-          inl b ↦ rw (a, b) (le-leb (e .least) (e .greatest) q, g .1)
-        | inr b ↦ rw (a, b) (le-leb (e .least) (d .greatest) (omega arith), (g .1 .0, h .1 .1)) ]
-    | inr a ↦ let x = ltb-false (e .least) (d .least) a in elim (tested (ltb (d .greatest) (e .greatest))) [
-          inl b ↦ rw (a, b) (le-leb (d .least) (e .greatest) (omega (arith, ltb-true (d .greatest) (e .greatest) b)), (h .1 .0, g .1 .1))
-        | inr b ↦ rw (a, b) (le-leb (d .least) (d .greatest) p, h .1) ] ]
+      | inl a ↦ let x = ltb-true (e .least) (d .least) a in elim (tested (ltb (d .greatest) (e .greatest))) [
+        | inl b ↦ rw (a, b) (le-leb (e .least) (e .greatest) q, g .1)
+        | inr b ↦ rw (a, b) (le-leb (e .least) (d .greatest) (omega arith), (g .1 .0, h .1 .1))
+      ]
+      | inr a ↦ let x = ltb-false (e .least) (d .least) a in elim (tested (ltb (d .greatest) (e .greatest))) [
+        | inl b ↦ rw (a, b) (le-leb (d .least) (e .greatest) (omega (arith, ltb-true (d .greatest) (e .greatest) b)), (h .1 .0, g .1 .1))
+        | inr b ↦ rw (a, b) (le-leb (d .least) (d .greatest) p, h .1)
+      ]
+    ]
 
 -- links, in any order, within their bits
 abbrev LinksIn32 : Option (List Link) → Type 0
@@ -118,8 +121,9 @@ few-add : (ks : List Link) (l : Link) → length (addLink ks l) ≤ suc (length 
 unfolding addLink
 few-add [] l = omega arith
 few-add (k ∷ ks) l = elim (tested (linkLess k l)) [
-    inl e ↦ rw e (omega (arith, few-add ks l))
-  | inr e ↦ rw e (elim (tested (linkLess l k)) [ inl f ↦ rw f (omega arith) | inr f ↦ rw f (omega arith) ]) ]
+  | inl e ↦ rw e (omega (arith, few-add ks l))
+  | inr e ↦ rw e (elim (tested (linkLess l k)) [ inl f ↦ rw f (omega arith) | inr f ↦ rw f (omega arith) ])
+]
 
 few-sorted : (ks ls : List Link) → length (foldl addLink ks ls) ≤ length ks + length ls
 few-sorted ks [] = omega arith
@@ -133,6 +137,10 @@ fewer-links (some ls) = omega (arith, few-sorted [] ls)
 pub few-links : (ss : List Source) → sum linksOfGroup (map groupSummary (groupsOf ss)) ≤ sum (λ s. linkCount (s .cover)) ss
 unfolding groupsOf sum
 few-links ss =
-    omega (arith, sum-map linksOfGroup groupSummary (groupsOf ss), few-fold [] ss,
+    omega (
+      arith,
+      sum-map linksOfGroup groupSummary (groupsOf ss),
+      few-fold [] ss,
       sum-le (λ g. linksOfGroup (groupSummary g)) linksOfGroup (groupsOf ss)
-        (each-all (λ g. linksOfGroup (groupSummary g) ≤ linksOfGroup g) (λ g. fewer-links (g .links)) (groupsOf ss)))
+          (each-all (λ g. linksOfGroup (groupSummary g) ≤ linksOfGroup g) (λ g. fewer-links (g .links)) (groupsOf ss)),
+    )

@@ -85,7 +85,8 @@ good-sources ss e f h l n g =
       every = λ i o. group-has-row A g i (omega (arith, length-map gs groupSummary));
       groups = good-groups ss b;
       links = omega (arith, few-links ss, l .links);
-      references = omega (arith, sum-rows A (λ b. length (b .unresolved)), few-references t ss, l .references) }
+      references = omega (arith, sum-rows A (λ b. length (b .unresolved)), few-references t ss, l .references);
+    }
 
 pub not-empty : (fs : List File) → isEmpty fs ≡ false → isEmpty (map sourceOf fs) ≡ false
 unfolding isEmpty

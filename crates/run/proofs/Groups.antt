@@ -77,8 +77,9 @@ GroupsUpTo (some r) gs = (length gs ≡ suc (r .group)) × Covered gs r
 next : (before : Option Source) (gs : List Group) (s : Source) → GroupsUpTo before gs → FollowsLast before s → Next gs s
 next none gs s e f = rw e (record { within = omega arith; last = omega arith; cover = λ l. absurd (not-suc-le-zero l) })
 next (some r) gs s e f = elim (f .group) [
-    inl g ↦ record { within = omega (arith, e .0); last = omega (arith, e .0); cover = λ l. rw g (e .1 .1 ∙ sym (f .cover g)) }
-  | inr g ↦ record { within = omega (arith, e .0); last = omega (arith, e .0); cover = λ l. absurd (omega (arith, e .0)) } ]
+  | inl g ↦ record { within = omega (arith, e .0); last = omega (arith, e .0); cover = λ l. rw g (e .1 .1 ∙ sym (f .cover g)) }
+  | inr g ↦ record { within = omega (arith, e .0); last = omega (arith, e .0); cover = λ l. absurd (omega (arith, e .0)) }
+]
 
 there-links : (c : Option SourceCover) → isThere (linksIn c) ≡ isThere c
 there-links none = refl
@@ -93,23 +94,29 @@ module _ (gs : List Group) (s : Source) (n : Next gs s) where
   -- whether the source's group is there already
   old-or-new : (s .group < length gs) ⊎ (s .group ≡ length gs)
   old-or-new = elim (tested (ltb (s .group) (length gs))) [
-      inl e ↦ inl (ltb-true (s .group) (length gs) e)
-    | inr e ↦ inr (omega (arith, n .within, ltb-false (s .group) (length gs) e)) ]
+    | inl e ↦ inl (ltb-true (s .group) (length gs) e)
+    | inr e ↦ inr (omega (arith, n .within, ltb-false (s .group) (length gs) e))
+  ]
 
   grown : (length (addSource gs s) ≡ suc (s .group)) × Covered (addSource gs s) s
   unfolding addSource
   grown = elim old-or-new [
-      inl l ↦ let k = length-join-in (groupOf s) (s .group) gs l in
+    | inl l ↦ let k = length-join-in (groupOf s) (s .group) gs l in
         (omega (arith, n .last), (omega arith, rw (getD-join-in (groupOf s) (s .group) gs l) (there-join ((getD gs (s .group) noGroup) .links) (s .cover) (n .cover l))))
     | inr e ↦ let k = length-join-end (groupOf s) gs in
-        rw e (k, (omega arith, rw (getD-join-end (groupOf s) gs) (there-links (s .cover)))) ]
+        rw e (k, (omega arith, rw (getD-join-end (groupOf s) gs) (there-links (s .cover))))
+  ]
 
   covered-add : (q : Source) → Covered gs q → Covered (addSource gs s) q
   unfolding addSource
-  covered-add q c = (omega (arith, grown .0, n .last, c .0), elim (tested (eqb (q .group) (s .group))) [
-      inl e ↦ let g = eqb-true (q .group) (s .group) e in
-        rw g (grown .1 .1 ∙ sym (n .cover (omega (arith, c .0))) ∙ rw g at (c .1))
-    | inr e ↦ rw (getD-join-other (groupOf s) (s .group) (q .group) gs (eqb-false (q .group) (s .group) e) (c .0)) (c .1) ])
+  covered-add q c = (
+    omega (arith, grown .0, n .last, c .0),
+    elim (tested (eqb (q .group) (s .group))) [
+      | inl e ↦ let g = eqb-true (q .group) (s .group) e in
+          rw g (grown .1 .1 ∙ sym (n .cover (omega (arith, c .0))) ∙ rw g at (c .1))
+      | inr e ↦ rw (getD-join-other (groupOf s) (s .group) (q .group) gs (eqb-false (q .group) (s .group) e) (c .0)) (c .1)
+    ],
+  )
 
 -- ── the groups of all sources ────────────────────────────────────────────────────────────────
 
@@ -140,8 +147,9 @@ others-not-mem n (x ∷ xs) h = rw (ne-eqb n x (h .0)) (others-not-mem n xs (h .
 
 length-add : (xs : List ℕ) (x : ℕ) → length xs ≤ length (add xs x)
 length-add xs x = elim (tested (mem x xs)) [
-    inl e ↦ rw (add-there xs x e) (omega arith)
-  | inr e ↦ rw (add-new xs x e, length-append xs (x ∷ [])) (omega arith) ]
+  | inl e ↦ rw (add-there xs x e) (omega arith)
+  | inr e ↦ rw (add-new xs x e, length-append xs (x ∷ [])) (omega arith)
+]
 
 fewer-groups : (before : Option Source) (gs : List Group) (ss : List Source) (ns : List ℕ) → GroupsUpTo before gs → Followed before ss
     → length gs ≤ length ns → Each (λ n. n < length gs) ns → length (foldl addSource gs ss) ≤ length (foldl add ns (map (λ s. s .group) ss))
@@ -150,11 +158,15 @@ fewer-groups before gs (s ∷ ss) ns g f l h =
     let n = next before gs s g (f .1) in
     let m = grown gs s n in
     fewer-groups (some s) (addSource gs s) ss (add ns (s .group)) m (f .2) (elim (old-or-new gs s n) [
-        inl o ↦ omega (arith, m .0, length-add ns (s .group))
-      | inr e ↦ rw (add-new ns (s .group)
-          (rw e (others-not-mem (length gs) ns (each-imp (λ x. x < length gs) (λ x. length gs ≡ x → ⊥) ns (λ x b c. omega arith) h))), length-append ns (s .group ∷ [])) (omega (arith, m .0)) ])
+      | inl o ↦ omega (arith, m .0, length-add ns (s .group))
+      | inr e ↦ rw (
+        add-new ns (s .group)
+            (rw e (others-not-mem (length gs) ns (each-imp (λ x. x < length gs) (λ x. length gs ≡ x → ⊥) ns (λ x b c. omega arith) h))),
+        length-append ns (s .group ∷ []),
+      ) (omega (arith, m .0))
+    ])
     (each-add (λ n. n < length (addSource gs s)) ns (s .group)
-      (each-imp (λ x. x < length gs) (λ x. x < length (addSource gs s)) ns (λ x b. omega (arith, m .0, n .last)) h) (omega (arith, m .0)))
+    (each-imp (λ x. x < length gs) (λ x. x < length (addSource gs s)) ns (λ x b. omega (arith, m .0, n .last)) h) (omega (arith, m .0)))
 
 pub groups-once : (ss : List Source) → Followed none ss → length (groupsOf ss) ≤ length (once (map (λ s. s .group) ss))
 unfolding groupsOf once

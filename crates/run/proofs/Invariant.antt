@@ -1,5 +1,5 @@
 -- What a run's state is, call after call: the sources of its accepted takings, sound and in order, and once resolved their tables.
-use mathlib.Core.Path.{_≡_, refl, ap, sym}
+use mathlib.Core.Path.{_≡_, refl, ap}
 use mathlib.Core.List.{List, [], _∷_, _++_, map, append-nil}
 use mathlib.Core.Option.{Option, none, some}
 use Rattle.lists.specs.Lists.{flat, last}
@@ -16,7 +16,7 @@ use Rattle.run.specs.Archive.{Taken, archiveOf}
 use Rattle.run.specs.Memo.{tables}
 use Rattle.run.specs.Resolving.{resolveRules}
 use Rattle.run.specs.Step.{Call, takes, resolves, writes, State, taking, resolved, spoiled, Outcome, takeMore, resolveBy, resolve, step}
-use Rattle.run.specs.History.{did, history, filesIn, took}
+use Rattle.run.specs.History.{did, history, took}
 use Rattle.columns.proofs.FirstBroken.{each-none}
 use Rattle.run.proofs.Taken.{Followed, taken-followed, followed-append}
 
@@ -47,9 +47,10 @@ take-after t b broken e ss i = quiet (taking t) ss i
 take-after t b (got fs q) e ss i = go (takeRules (t .sources) fs) refl
   where
     go : (r : Option Refusal) → takeRules (t .sources) fs ≡ r → After (takes b) (takeMore t (unless r (map sourceOf fs))) ss
-    go none h = rw e
-      ( ap (λ s. s ++ map sourceOf fs) (i .0)
-      , followed-append ss (map sourceOf fs) (i .1) (taken-followed (last ss) fs (rw (i .0) at (rules-of-files (t .sources) fs h))))
+    go none h = rw e (
+      ap (λ s. s ++ map sourceOf fs) (i .0),
+      followed-append ss (map sourceOf fs) (i .1) (taken-followed (last ss) fs (rw (i .0) at (rules-of-files (t .sources) fs h))),
+    )
     go (some r) h = quiet (taking t) ss i
 
 -- ── resolving ────────────────────────────────────────────────────────────────────────────────

@@ -74,8 +74,12 @@ pub sum-rows : (A : Archive) (f : Body → ℕ) → sum (λ r. f (r .body)) ((su
 unfolding keptEvents
 sum-rows A f =
     let e = ap (sum (λ n. n)) (map-rows A f) in
-    omega (arith, sum-map (λ n. n) (λ r. f (r .body)) ((summary A) .rows), sum-map (λ n. n) (λ e. f (e .body)) (keptEvents (A .events)),
-      sum-filter (λ e. f (e .body)) (λ e. not (e .erased)) (A .events))
+    omega (
+      arith,
+      sum-map (λ n. n) (λ r. f (r .body)) ((summary A) .rows),
+      sum-map (λ n. n) (λ e. f (e .body)) (keptEvents (A .events)),
+      sum-filter (λ e. f (e .body)) (λ e. not (e .erased)) (A .events),
+    )
 
 -- ── groups of rows ───────────────────────────────────────────────────────────────────────────
 
@@ -121,5 +125,5 @@ unfolding groupsSurvive
 group-has-row A h g l =
     let n = length (A .groups) in
     let t = each-getD (λ g. any (survivesIn g) (A .events) ≡ true) (upFrom 0 n) g 0
-      (all-each (λ g. any (survivesIn g) (A .events)) (upFrom 0 n) h) (rw (length-upFrom 0 n) l) in
+    (all-each (λ g. any (survivesIn g) (A .events)) (upFrom 0 n) h) (rw (length-upFrom 0 n) l) in
     rw (map-rows A (λ b. b .group)) (survivor-kept g (A .events) (rw (getD-upFrom 0 n g 0 l, zero-add g) at t))

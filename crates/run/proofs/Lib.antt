@@ -45,3 +45,4 @@ pub mod RecordFits
 pub mod OutputFits
 pub mod TakenAgain
 pub mod SameBytes
+pub mod Slots

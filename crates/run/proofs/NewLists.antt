@@ -56,9 +56,10 @@ module _ (A : Archive) (v : Valid A) where
   good-lists p w = record {
     each-kind = length-map-upFrom (λ k. newParents A k p) 0 kinds;
     once = each-map (λ ps. distinct ps ≡ true) (λ k. newParents A k p) (upFrom 0 kinds)
-      (each-all (λ k. distinct (newParents A k p) ≡ true) (λ k. new-distinct A k v p (w .0) (w .1)) (upFrom 0 kinds));
+        (each-all (λ k. distinct (newParents A k p) ≡ true) (λ k. new-distinct A k v p (w .0) (w .1)) (upFrom 0 kinds));
     below = each-map (λ ps. Each (λ q. q < renumber A p) ps) (λ k. newParents A k p) (upFrom 0 kinds)
-      (each-all (λ k. Each (λ q. q < renumber A p) (newParents A k p)) (λ k. new-below A k v p (w .0) (w .1)) (upFrom 0 kinds)) }
+        (each-all (λ k. Each (λ q. q < renumber A p) (newParents A k p)) (λ k. new-below A k v p (w .0) (w .1)) (upFrom 0 kinds));
+  }
 
   pub lists-good : RowsFrom (A .start) ((summary A) .rows)
   unfolding summary
@@ -72,8 +73,8 @@ module _ (A : Archive) (v : Valid A) where
       let n = length (A .events) in
       rw (memo-right A k v n, sum-map length (listOf A k) (upFrom 0 n))
       (sum-ext (λ i. length (listOf A k i)) (λ i. length (newParents A k (A .start + i))) (upFrom 0 n)
-        (each-imp (λ i. (0 ≤ i) × (i < 0 + n)) (λ i. length (listOf A k i) ≡ length (newParents A k (A .start + i))) (upFrom 0 n)
-        (λ i b. ap length (sym (new-once A k v (A .start + i) (omega arith) (omega (arith, b .1))))) (each-upFrom 0 n))
+      (each-imp (λ i. (0 ≤ i) × (i < 0 + n)) (λ i. length (listOf A k i) ≡ length (newParents A k (A .start + i))) (upFrom 0 n)
+      (λ i b. ap length (sym (new-once A k v (A .start + i) (omega arith) (omega (arith, b .1))))) (each-upFrom 0 n))
       ∙ sum-shift (λ p. length (newParents A k p)) (A .start) 0 n
       ∙ ap (λ m. sum (λ p. length (newParents A k p)) (upFrom m n)) (omega arith))
 
@@ -86,7 +87,12 @@ module _ (A : Archive) (v : Valid A) where
   entries-within =
       let a : ℕ → ℕ = λ p. length (newParents A 0 p) in
       let b : ℕ → ℕ = λ p. length (newParents A 1 p) in
-      omega (arith, sum-map (λ r. sum length (r .parents)) (keptBy A) (survivors A),
+      omega (
+        arith,
+        sum-map (λ r. sum length (r .parents)) (keptBy A) (survivors A),
         sum-ext (λ p. sum length ((keptBy A p) .parents)) (λ p. a p + b p) (survivors A)
-          (each-all (λ p. sum length ((keptBy A p) .parents) ≡ a p + b p) (λ p. omega arith) (survivors A)),
-        sum-both a b (survivors A), kind-entries 0, kind-entries 1)
+            (each-all (λ p. sum length ((keptBy A p) .parents) ≡ a p + b p) (λ p. omega arith) (survivors A)),
+        sum-both a b (survivors A),
+        kind-entries 0,
+        kind-entries 1,
+      )

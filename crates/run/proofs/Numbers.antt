@@ -55,10 +55,11 @@ counted-append n (r ∷ s) t h =
 
 pub counted-within : (n : ℕ) (rs : List Numbered) → Counted n rs → Each (λ r. (n ≤ r .number) × (r .number < n + length rs)) rs
 counted-within n [] h = tt
-counted-within n (r ∷ rs) h =
-    ((omega (arith, h .0), omega (arith, h .0)),
-      each-imp (λ s. (suc n ≤ s .number) × (s .number < suc n + length rs)) (λ s. (n ≤ s .number) × (s .number < n + suc (length rs))) rs
-        (λ s w. (omega arith, omega arith)) (counted-within (suc n) rs (h .1)))
+counted-within n (r ∷ rs) h = (
+  (omega (arith, h .0), omega (arith, h .0)),
+  each-imp (λ s. (suc n ≤ s .number) × (s .number < suc n + length rs)) (λ s. (n ≤ s .number) × (s .number < n + suc (length rs))) rs
+      (λ s w. (omega arith, omega arith)) (counted-within (suc n) rs (h .1)),
+)
 
 pub first-counted : (n : ℕ) (rs : List Numbered) → 0 < length rs → Counted n rs → firstNumber rs ≡ n
 first-counted n [] l h = absurd (not-suc-le-zero l)

@@ -58,8 +58,9 @@ add-label-few : (rs : List Range) (l : Label) → length (addLabel rs l) ≤ suc
 unfolding addLabel
 add-label-few [] l = omega arith
 add-label-few (r ∷ rs) l = elim (tested (ltb (r .chain) (l .chain))) [
-    inl e ↦ rw e (omega (arith, add-label-few rs l))
-  | inr e ↦ elim (tested (eqb (r .chain) (l .chain))) [ inl f ↦ rw (e, f) (omega arith) | inr f ↦ rw (e, f) (omega arith) ] ]
+  | inl e ↦ rw e (omega (arith, add-label-few rs l))
+  | inr e ↦ elim (tested (eqb (r .chain) (l .chain))) [ inl f ↦ rw (e, f) (omega arith) | inr f ↦ rw (e, f) (omega arith) ]
+]
 
 ranges-few : (labels : List Label) → length (rangesOf labels) ≤ length labels
 unfolding rangesOf
@@ -91,8 +92,9 @@ references-counted rs =
 
 add-few : (s : List ℕ) (x : ℕ) → length (add s x) ≤ suc (length s)
 add-few s x = elim (tested (mem x s)) [
-    inl e ↦ rw (add-there s x e) (omega arith)
-  | inr e ↦ rw (add-new s x e) (omega (arith, length-append s (x ∷ []))) ]
+  | inl e ↦ rw (add-there s x e) (omega arith)
+  | inr e ↦ rw (add-new s x e) (omega (arith, length-append s (x ∷ [])))
+]
 
 pub once-few : (s xs : List ℕ) → length (foldl add s xs) ≤ length s + length xs
 once-few s [] = omega arith
@@ -111,9 +113,12 @@ module _ (S : Summary) (good : Good S) where
       → sum f (outputs S) ≤ sum h (groupNumbers S)
   unfolding outputs
   files-sum f h b =
-      omega (arith, sum-map f (outputOf S) (groupNumbers S),
+      omega (
+        arith,
+        sum-map f (outputOf S) (groupNumbers S),
         sum-le (λ g. f (outputOf S g)) h (groupNumbers S)
-        (each-below (λ g. f (outputOf S g) ≤ h g) (length (S .groups)) (λ g l. rw (output-sets S good g) (b g l))))
+            (each-below (λ g. f (outputOf S g) ≤ h g) (length (S .groups)) (λ g l. rw (output-sets S good g) (b g l))),
+      )
 
   -- nothing is taken before them
   pub within : (limit : ℕ) (before : Source → ℕ) (f : File → ℕ) → sum f (outputs S) ≤ limit → ltb limit (total before f [] (outputs S)) ≡ false

@@ -2,7 +2,7 @@
 use mathlib.Core.Path.{_≡_, sym}
 use mathlib.Core.Bool.{true}
 use mathlib.Core.Logic.{inl, inr}
-use mathlib.Core.List.{List, [], map}
+use mathlib.Core.List.{List, map}
 use Prim.Native.Nat.{ℕ, zero, suc, _+_, _*_, _≤_, _<_, _^_}
 use native.Mathlib.Omega.{arith}
 use borrow.Author.Tests.{leb-true, eqb-true, eqb-false}
@@ -37,8 +37,9 @@ sum-has : (f : ℕ → ℕ) (i n g : ℕ) → i ≤ g → g < i + n → f g ≤ 
 unfolding sum upFrom
 sum-has f i zero g l h = absurd (omega arith)
 sum-has f i (suc n) g l h = elim (tested (eqb i g)) [
-    inl e ↦ let s : i ≡ g = eqb-true i g e in rw s (omega arith)
-  | inr e ↦ omega (arith, sum-has f (suc i) n g (omega (arith, eqb-false i g e)) (omega arith)) ]
+  | inl e ↦ let s : i ≡ g = eqb-true i g e in rw s (omega arith)
+  | inr e ↦ omega (arith, sum-has f (suc i) n g (omega (arith, eqb-false i g e)) (omega arith))
+]
 
 module _ (S : Summary) (good : Good S) (g : ℕ) (l : g < length (S .groups)) where
   abbrev rs : List Numbered
@@ -53,7 +54,7 @@ module _ (S : Summary) (good : Good S) (g : ℕ) (l : g < length (S .groups)) wh
   unfolding outputs
   one-file limit f h =
       let here : f (outputOf S g) ≤ limit =
-            omega (arith, sum-map f (outputOf S) (groupNumbers S), sum-has (λ i. f (outputOf S i)) 0 (length (S .groups)) g (omega arith) (omega arith)) in
+      omega (arith, sum-map f (outputOf S) (groupNumbers S), sum-has (λ i. f (outputOf S i)) 0 (length (S .groups)) g (omega arith) (omega arith)) in
       rw (output-sets S good g) at here
 
   row-number : length (map rowOf rs) ≡ length rs
@@ -109,30 +110,31 @@ module _ (S : Summary) (good : Good S) (g : ℕ) (l : g < length (S .groups)) wh
   file-fits : spansFit (graphOf S g) ≡ true → FileFits (outputOf S g)
   unfolding subjectOk
   file-fits h = rw (output-sets S good g) record {
-      first = omega (arith, end-within S good g l, good .numbers);
-      rowCount = omega (arith, few-rows);
-      group = omega (arith, good .groupCount);
-      subject = omega (arith, leb-true (length (S .subject)) maxSubject (both (ltb 0 (length (S .subject))) _ (good .subject) .1));
-      subjectBytes = good .subjectBytes;
-      depth = this-group .1;
-      forward = set-here (forwardOf S g) (forward-full S good g) forward-few (spans h .0);
-      reverse = set-here (reverseOf S g) (reverse-full S good g) reverse-few (spans h .1);
-      inbound = set-here (inboundOf S g) (inbound-full S good g) inbound-few (spans h .2);
-      tags = each-map (λ r. r .tag < 256 ^ 8) rowOf rs (rows-have (λ r. r .row .body .tag < 256 ^ 8) (λ r k. k .body .tag));
-      unresolvedCount = omega (arith, few-references);
-      unresolved = references-fit;
-      unresolvedOrder = references-ordered (S .start + rowsBefore S g) rs (rows-counted S good g l);
-      rootCount = omega (arith, few-roots-here);
-      roots = roots-fit 0 rs (omega (arith, row-number, few-rows)) (rows-have (λ r. GoodRoot (r .row .body .root)) (λ r k. k .body .root));
-      rootOrder = roots-ordered 0 rs;
-      cover = cover-fits ((groupAt S g) .links) rs (length (map rowOf rs)) (sym row-number) few-rows (this-group .2)
+    first = omega (arith, end-within S good g l, good .numbers);
+    rowCount = omega (arith, few-rows);
+    group = omega (arith, good .groupCount);
+    subject = omega (arith, leb-true (length (S .subject)) maxSubject (both (ltb 0 (length (S .subject))) _ (good .subject) .1));
+    subjectBytes = good .subjectBytes;
+    depth = this-group .1;
+    forward = set-here (forwardOf S g) (forward-full S good g) forward-few (spans h .0);
+    reverse = set-here (reverseOf S g) (reverse-full S good g) reverse-few (spans h .1);
+    inbound = set-here (inboundOf S g) (inbound-full S good g) inbound-few (spans h .2);
+    tags = each-map (λ r. r .tag < 256 ^ 8) rowOf rs (rows-have (λ r. r .row .body .tag < 256 ^ 8) (λ r k. k .body .tag));
+    unresolvedCount = omega (arith, few-references);
+    unresolved = references-fit;
+    unresolvedOrder = references-ordered (S .start + rowsBefore S g) rs (rows-counted S good g l);
+    rootCount = omega (arith, few-roots-here);
+    roots = roots-fit 0 rs (omega (arith, row-number, few-rows)) (rows-have (λ r. GoodRoot (r .row .body .root)) (λ r k. k .body .root));
+    rootOrder = roots-ordered 0 rs;
+    cover = cover-fits ((groupAt S g) .links) rs (length (map rowOf rs)) (sym row-number) few-rows (this-group .2)
         (one-file maxRecords (λ f. storedRanges (f .cover)) (few-ranges S good)) (one-file maxRecords (λ f. storedLinkCount (f .cover)) (few-links S good))
         (rows-have (λ r. GoodLabel ((groupAt S g) .links) (r .row .body .label)) (λ r k. rw (k .group) at (k .body .label)));
-      edgesShort = short-edges file (few-here (forwardOf S g) (forward-full S good g) forward-few)
+    edgesShort = short-edges file (few-here (forwardOf S g) (forward-full S good g) forward-few)
         (few-here (reverseOf S g) (reverse-full S good g) reverse-few) (few-here (inboundOf S g) (inbound-full S good g) inbound-few);
-      rowsShort = short-rows (map rowOf rs) few-rows;
-      unresolvedShort = short-unresolved (flat unresolvedOf rs) few-references;
-      rootsShort = short-roots (rootsFrom 0 rs) few-roots-here }
+    rowsShort = short-rows (map rowOf rs) few-rows;
+    unresolvedShort = short-unresolved (flat unresolvedOf rs) few-references;
+    rootsShort = short-roots (rootsFrom 0 rs) few-roots-here;
+  }
     where
       few-references : length (flat unresolvedOf rs) ≤ maxRecords
       few-references = one-file maxRecords (λ f. length (f .unresolved)) (few-unresolved S good)
@@ -146,5 +148,5 @@ files-fit S good h =
     let fit : ℕ → Type 0 = λ g. spansFit (graphOf S g) ≡ true in
     each-map FileFits (outputOf S) (groupNumbers S)
     (each-imp (λ g. (g < length (S .groups)) × fit g) (λ g. FileFits (outputOf S g)) (groupNumbers S) (λ g w. file-fits S good g (w .0) (w .1))
-      (each-both (λ g. g < length (S .groups)) fit (groupNumbers S) (each-below (λ g. g < length (S .groups)) (length (S .groups)) (λ g l. l))
-        (all-each (λ g. spansFit (graphOf S g)) (groupNumbers S) h)))
+    (each-both (λ g. g < length (S .groups)) fit (groupNumbers S) (each-below (λ g. g < length (S .groups)) (length (S .groups)) (λ g l. l))
+    (all-each (λ g. spansFit (graphOf S g)) (groupNumbers S) h)))

@@ -25,7 +25,6 @@ use Rattle.run.proofs.OutputSets.{forwardOf, reverseOf, inboundOf, forw
 use Rattle.lists.proofs.Sums.{sum-flat}
 use Rattle.lists.proofs.Counting.{sum-below, sum-equal, sum-ones, sum-swap, bit, at-most-one}
 use Rattle.run.proofs.Turnings.{reverse-entries, inbound-entries, targets, edges-entries}
-
 use Rattle.run.proofs.OutputFigures.{roots-few, cover-ranges, cover-links, references-counted, once-few, length-deltas, files-sum, within, rows-sum, groups-sum}
 
 module _ (S : Summary) (good : Good S) where
@@ -42,9 +41,13 @@ module _ (S : Summary) (good : Good S) where
 
   pub few-unresolved : sum (λ f. length (f .unresolved)) (outputs S) ≤ maxRecords
   few-unresolved =
-      omega (arith, files-sum S good (λ f. length (f .unresolved)) (λ g. sum (λ r. length (r .row .body .unresolved)) (rowsIn S g))
-          (λ g l. omega (arith, references-counted (rowsIn S g))),
-        rows-sum S good (λ r. length (r .body .unresolved)), good .references)
+      omega (
+        arith,
+        files-sum S good (λ f. length (f .unresolved)) (λ g. sum (λ r. length (r .row .body .unresolved)) (rowsIn S g))
+            (λ g l. omega (arith, references-counted (rowsIn S g))),
+        rows-sum S good (λ r. length (r .body .unresolved)),
+        good .references,
+      )
 
   pub few-ranges : sum (λ f. storedRanges (f .cover)) (outputs S) ≤ maxRecords
   few-ranges =
@@ -52,21 +55,36 @@ module _ (S : Summary) (good : Good S) where
 
   pub few-links : sum (λ f. storedLinkCount (f .cover)) (outputs S) ≤ maxRecords
   few-links =
-      omega (arith, files-sum S good (λ f. storedLinkCount (f .cover)) (λ g. linkNumber ((groupAt S g) .links))
-        (λ g l. omega (arith, cover-links ((groupAt S g) .links) (rowsIn S g) ((each-getD GoodGroup (S .groups) g noGroup (good .groups) l) .2))),
-        groups-sum S good (λ g. linkNumber (g .links)), good .links)
+      omega (
+        arith,
+        files-sum S good (λ f. storedLinkCount (f .cover)) (λ g. linkNumber ((groupAt S g) .links))
+            (λ g l. omega (arith, cover-links ((groupAt S g) .links) (rowsIn S g) ((each-getD GoodGroup (S .groups) g noGroup (good .groups) l) .2))),
+        groups-sum S good (λ g. linkNumber (g .links)),
+        good .links,
+      )
 
   few-groups : ltb maxGroups (groupCount [] (outputs S)) ≡ false
   unfolding groupCount once outputs
-  few-groups = le-ltb maxGroups (groupCount [] (outputs S)) (omega (arith, once-few [] (map (λ f. f .group) (outputs S)), length-map (outputs S) (λ f. f .group),
-    length-map (groupNumbers S) (outputOf S), length-upFrom 0 (length (S .groups)), good .groupCount))
+  few-groups = le-ltb maxGroups (groupCount [] (outputs S)) (omega (
+    arith,
+    once-few [] (map (λ f. f .group) (outputs S)),
+    length-map (outputs S) (λ f. f .group),
+    length-map (groupNumbers S) (outputOf S),
+    length-upFrom 0 (length (S .groups)),
+    good .groupCount,
+  ))
 
   pub records-within : overRecords [] (outputs S) ≡ false
   unfolding overRecords
   records-within =
-      rw (within S good maxRecords _ (λ f. length (f .rows)) few-events, within S good maxRecords _ (λ f. length (f .roots)) few-roots,
+      rw (
+        within S good maxRecords _ (λ f. length (f .rows)) few-events,
+        within S good maxRecords _ (λ f. length (f .roots)) few-roots,
         within S good maxRecords _ (λ f. length (f .unresolved)) few-unresolved,
-        within S good maxRecords _ (λ f. storedRanges (f .cover)) few-ranges, within S good maxRecords _ (λ f. storedLinkCount (f .cover)) few-links, few-groups)
+        within S good maxRecords _ (λ f. storedRanges (f .cover)) few-ranges,
+        within S good maxRecords _ (λ f. storedLinkCount (f .cover)) few-links,
+        few-groups,
+      )
 
   -- ── 43 ───────────────────────────────────────────────────────────────────────────────────────
 
@@ -85,13 +103,25 @@ module _ (S : Summary) (good : Good S) where
   all-entries = omega (arith, rows-sum S good (λ r. sum length (r .parents)), good .entries)
 
   pub few-forward : sum (λ f. length (f .forward .deltas)) (outputs S) ≤ maxNumbers
-  few-forward = omega (arith, all-entries, files-sum S good (λ f. length (f .forward .deltas)) (λ g. sum (λ r. sum length (r .row .parents)) (rowsIn S g))
-    (λ g l. omega (arith, length-deltas (firstOf S g) (forwardOf S g), entries-of g)))
+  few-forward = omega (
+    arith,
+    all-entries,
+    files-sum S good (λ f. length (f .forward .deltas)) (λ g. sum (λ r. sum length (r .row .parents)) (rowsIn S g))
+        (λ g l. omega (arith, length-deltas (firstOf S g) (forwardOf S g), entries-of g)),
+  )
 
   pub few-reverse : sum (λ f. length (f .reverse .deltas)) (outputs S) ≤ maxNumbers
-  few-reverse = omega (arith, all-entries, files-sum S good (λ f. length (f .reverse .deltas)) (λ g. sum (λ r. sum length (r .row .parents)) (rowsIn S g))
-    (λ g l. omega (arith, length-deltas (firstOf S g) (reverseOf S g), entries-of g,
-      reverse-entries (firstOf S g) (length (rowsIn S g)) (forwardOf S g) (forward-full S good g))))
+  few-reverse = omega (
+    arith,
+    all-entries,
+    files-sum S good (λ f. length (f .reverse .deltas)) (λ g. sum (λ r. sum length (r .row .parents)) (rowsIn S g))
+        (λ g l. omega (
+          arith,
+          length-deltas (firstOf S g) (reverseOf S g),
+          entries-of g,
+          reverse-entries (firstOf S g) (length (rowsIn S g)) (forwardOf S g) (forward-full S good g),
+        )),
+  )
 
   -- whether an entry is in the numbers of a group
   abbrev into : ℕ → ℕ → Bool
@@ -103,24 +133,33 @@ module _ (S : Summary) (good : Good S) where
   one-group p =
       at-most-one (λ g. into g p)
       (λ j k e l. let below : p < S .start + rowsBefore S (suc j) = ltb-true p _ (both (leb (S .start + rowsBefore S j) p) _ e .1) in
-        rw (lt-leb (S .start + rowsBefore S k) p (omega (arith, before-rises S good (suc j) k l)))) 0 (length (S .groups))
+      rw (lt-leb (S .start + rowsBefore S k) p (omega (arith, before-rises S good (suc j) k l)))) 0 (length (S .groups))
 
   edges : (g : ℕ) → g < length (S .groups) → sum length (inboundOf S g) ≤ sum (λ p. bit (into g p)) (targets S)
   edges g l =
       let same : sum (λ p. bit (inFile (firstOf S g) (endOf S g) p)) (targets S) ≡ sum (λ p. bit (into g p)) (targets S) =
-            ap (λ n. sum (λ p. bit (inFile n (endOf S g) p)) (targets S)) (rows-first S good g l)
-            ∙ ap (λ n. sum (λ p. bit (inFile (S .start + rowsBefore S g) n p)) (targets S)) (end-next S good g l) in
+      ap (λ n. sum (λ p. bit (inFile n (endOf S g) p)) (targets S)) (rows-first S good g l)
+      ∙ ap (λ n. sum (λ p. bit (inFile (S .start + rowsBefore S g) n p)) (targets S)) (end-next S good g l) in
       omega (arith, inbound-entries (firstOf S g) (length (rowsIn S g)) (edgesOf S g (firstOf S g) (endOf S g)), edges-entries S g (firstOf S g) (endOf S g), same)
 
   pub few-inbound : sum (λ f. length (f .inbound .deltas)) (outputs S) ≤ maxNumbers
   few-inbound =
-      omega (arith, files-sum S good (λ f. length (f .inbound .deltas)) (λ g. sum (λ p. bit (into g p)) (targets S))
-          (λ g l. omega (arith, length-deltas (firstOf S g) (inboundOf S g), edges g l)),
+      omega (
+        arith,
+        files-sum S good (λ f. length (f .inbound .deltas)) (λ g. sum (λ p. bit (into g p)) (targets S))
+            (λ g l. omega (arith, length-deltas (firstOf S g) (inboundOf S g), edges g l)),
         sum-swap (λ g p. bit (into g p)) (groupNumbers S) (targets S),
-        sum-below (λ p. sum (λ g. bit (into g p)) (groupNumbers S)) (λ p. 1) one-group (targets S), sum-ones (targets S), length-targets, good .entries)
+        sum-below (λ p. sum (λ g. bit (into g p)) (groupNumbers S)) (λ p. 1) one-group (targets S),
+        sum-ones (targets S),
+        length-targets,
+        good .entries,
+      )
 
   pub numbers-within : overNumbers [] (outputs S) ≡ false
   unfolding overNumbers
   numbers-within =
-      rw (within S good maxNumbers _ (λ f. length (f .forward .deltas)) few-forward, within S good maxNumbers _ (λ f. length (f .reverse .deltas)) few-reverse,
-        within S good maxNumbers _ (λ f. length (f .inbound .deltas)) few-inbound)
+      rw (
+        within S good maxNumbers _ (λ f. length (f .forward .deltas)) few-forward,
+        within S good maxNumbers _ (λ f. length (f .reverse .deltas)) few-reverse,
+        within S good maxNumbers _ (λ f. length (f .inbound .deltas)) few-inbound,
+      )

@@ -42,7 +42,7 @@ roots-within i [] = tt
 roots-within i (r ∷ rs) =
     each-append _ (rootOf i (r .row .body .root)) (rootsFrom (suc i) rs) (one (r .row .body .root))
     (each-imp (λ r. (suc i ≤ r .row) × (r .row < suc i + length rs)) (λ r. (i ≤ r .row) × (r .row < i + suc (length rs))) (rootsFrom (suc i) rs)
-      (λ r w. (omega arith, omega arith)) (roots-within (suc i) rs))
+    (λ r w. (omega arith, omega arith)) (roots-within (suc i) rs))
   where
     one : (o : Option ℕ) → Each (λ r. (i ≤ r .row) × (r .row < i + suc (length rs))) (rootOf i o)
     one none = tt
@@ -75,10 +75,11 @@ module _ (S : Summary) (good : Good S) where
   looks-back (suc g) b l =
       let before : g < length (S .groups) = omega arith in
       let first : firstOf S (suc g) ≡ firstOf S g + length (map rowOf (rowsIn S g)) =
-            omega (arith, end-next S good g before, rows-first S good (suc g) l, length-map (rowsIn S g) rowOf) in
-      (rw (eq-eqb (suc g) (g + 1) (omega arith)) (or-true (eqb (suc g) g)),
+      omega (arith, end-next S good g before, rows-first S good (suc g) l, length-map (rowsIn S g) rowOf) in (
+        rw (eq-eqb (suc g) (g + 1) (omega arith)) (or-true (eqb (suc g) g)),
         rw (same-self (S .subject)) (eq-eqb (firstOf S (suc g)) (firstOf S g + length (map rowOf (rowsIn S g))) first),
-        rw (ne-eqb (suc g) g (omega arith)))
+        rw (ne-eqb (suc g) g (omega arith)),
+      )
 
   module _ (g : ℕ) (l : g < length (S .groups)) where
     this-group : GoodGroup (groupAt S g)
@@ -94,27 +95,50 @@ module _ (S : Summary) (good : Good S) where
     file-rules =
         let n : length (map rowOf (rowsIn S g)) ≡ length (rowsIn S g) = length-map (rowsIn S g) rowOf in
         let numbers : numbersOk (firstOf S g) (length (map rowOf (rowsIn S g))) ≡ true =
-              lt-ltb (firstOf S g + length (map rowOf (rowsIn S g))) end64 (omega (arith, n, end-within S good g l, good .numbers)) in
+        lt-ltb (firstOf S g + length (map rowOf (rowsIn S g))) end64 (omega (arith, n, end-within S good g l, good .numbers)) in
         let inside : Root → Bool = λ r. ltb (r .row) (length (map rowOf (rowsIn S g))) in
         let roots : all inside (rootsFrom 0 (rowsIn S g)) ≡ true =
-              all-of inside (rootsFrom 0 (rowsIn S g))
-              (each-imp (λ r. (0 ≤ r .row) × (r .row < 0 + length (rowsIn S g))) (λ r. inside r ≡ true) (rootsFrom 0 (rowsIn S g))
-                (λ r w. lt-ltb (r .row) (length (map rowOf (rowsIn S g))) (omega (arith, n))) (roots-within 0 (rowsIn S g))) in
+        all-of inside (rootsFrom 0 (rowsIn S g))
+        (each-imp (λ r. (0 ≤ r .row) × (r .row < 0 + length (rowsIn S g))) (λ r. inside r ≡ true) (rootsFrom 0 (rowsIn S g))
+        (λ r w. lt-ltb (r .row) (length (map rowOf (rowsIn S g))) (omega (arith, n))) (roots-within 0 (rowsIn S g))) in
         let back = looks-back g (setsOf S g) l in
-        rw (output-sets S good g) (none-of _
-          ( passes SubjectLength _ (good .subject)
-          , (passes NumberRange _ numbers
-          , (passes DepthOrder _ (this-group .0)
-          , (passes GroupOrder _ (back .0)
-          , (passes SourceOrder _ (back .1)
-          , (passes CoverInSome _ (back .2)
-          , (rw n (forward-rules S good g l)
-          , (rw n (reverse-rules S good g l)
-          , (rw n (inbound-rules S good g l)
-          , (passes RootOutside _ roots
-          , (none-in _ (flat unresolvedOf (rowsIn S g)) (records-pass _ refl (ap (λ m. firstOf S g + m) n))
-          , (cover-passes ((groupAt S g) .links) (rowsIn S g) (this-group .2)
-          , tt)))))))))))))
+        rw (output-sets S good g) (none-of _ (
+          passes SubjectLength _ (good .subject),
+          (
+            passes NumberRange _ numbers,
+            (
+              passes DepthOrder _ (this-group .0),
+              (
+                passes GroupOrder _ (back .0),
+                (
+                  passes SourceOrder _ (back .1),
+                  (
+                    passes CoverInSome _ (back .2),
+                    (
+                      rw n (forward-rules S good g l),
+                      (
+                        rw n (reverse-rules S good g l),
+                        (
+                          rw n (inbound-rules S good g l),
+                          (
+                            passes RootOutside _ roots,
+                            (
+                              none-in _ (flat unresolvedOf (rowsIn S g)) (records-pass _ refl (ap (λ m. firstOf S g + m) n)),
+                              (
+                                cover-passes ((groupAt S g) .links) (rowsIn S g) (this-group .2),
+                                tt,
+                              ),
+                            ),
+                          ),
+                        ),
+                      ),
+                    ),
+                  ),
+                ),
+              ),
+            ),
+          ),
+        ))
 
   -- ── all files ────────────────────────────────────────────────────────────────────────────────
 

@@ -71,9 +71,12 @@ module _ (S : Summary) (good : Good S) (g : ℕ) where
   pub output-sets : outputOf S g ≡ fileOfRows (S .subject) g (groupAt S g) (rowsIn S g) (setsOf S g)
   unfolding outputOf builtOf
   output-sets = ap (fileOfRows (S .subject) g (groupAt S g) (rowsIn S g)) (λ i. record {
-      forward = setOf (starts-first i) (parts-forward i); reverse = setOf (starts-first i) (parts-reverse i); inbound = setOf (starts-first i) (parts-inbound i) })
+    forward = setOf (starts-first i) (parts-forward i);
+    reverse = setOf (starts-first i) (parts-reverse i);
+    inbound = setOf (starts-first i) (parts-inbound i);
+  })
 
--- ── 17 to 19 ─────────────────────────────────────────────────────────────────────────────────
+  -- ── 17 to 19 ─────────────────────────────────────────────────────────────────────────────────
 
   module _ (l : g < length (S .groups)) where
     fits : endOf S g < end64
@@ -96,4 +99,3 @@ module _ (S : Summary) (good : Good S) (g : ℕ) where
     inbound-rules =
         set-rules inbound (firstOf S g) (length (rowsIn S g)) (endOf S g) (inboundOf S g) inbound-full
         (inbound-side (firstOf S g) (length (rowsIn S g)) (endOf S g) (edgesTo S g) (omega (arith, fits)) (children-past S good g l))
-

@@ -1,6 +1,6 @@
 -- The three sets of an output file: every target is on its set's side.
 use mathlib.Core.Path.{_≡_, sym, subst}
-use mathlib.Core.Bool.{Bool, true, false, _&&_, not, false≢true}
+use mathlib.Core.Bool.{Bool, true, _&&_, not, false≢true}
 use mathlib.Core.Logic.{inl, inr}
 use mathlib.Core.List.{List, [], _∷_, map}
 use Prim.Native.Nat.{ℕ, suc, _+_, _-_, _*_, _≤_, _<_}
@@ -26,7 +26,6 @@ use Rattle.lists.proofs.From.{EachFrom, from-eq}
 use Rattle.lists.proofs.Filters.{each-filter, filter-passes}
 use Rattle.run.proofs.Numbers.{Counted, numbered-counted, length-numbered, counted-within}
 use Rattle.run.proofs.Blocks.{rowsBefore, rows-first, before-next, before-within}
-
 use Rattle.run.proofs.Inbound.{edge, Inbound, edges-inbound}
 use Rattle.run.proofs.Allowed.{OnSide, SideRow, allowed-rows, allowed-table, allowed-at}
 
@@ -53,11 +52,15 @@ module _ (first : ℕ) (rs : List Numbered) (counted : Counted first rs) (fits :
           → EachFrom (λ n r. SideRow forward (first + length rs) n (r .row .parents)) n xs
       go n [] c l h = tt
       go n (r ∷ xs) c l h =
-          let lists = rw (c .0) at (h .0) in
-          ((omega arith, lists .each-kind,
-            each-imp (λ ts. Each (λ t. t < n) ts) (OnSide forward (first + length rs) n) (r .row .parents)
-              (λ ts b. below-side (first + length rs) n ts (omega arith) b) (lists .below)),
-          go (suc n) xs (c .1) (omega arith) (h .1))
+          let lists = rw (c .0) at (h .0) in (
+            (
+              omega arith,
+              lists .each-kind,
+              each-imp (λ ts. Each (λ t. t < n) ts) (OnSide forward (first + length rs) n) (r .row .parents)
+                  (λ ts b. below-side (first + length rs) n ts (omega arith) b) (lists .below),
+            ),
+            go (suc n) xs (c .1) (omega arith) (h .1),
+          )
 
 -- ── reverse lists ────────────────────────────────────────────────────────────────────────────
 
@@ -65,32 +68,34 @@ mem-each : (P : ℕ → Type 0) (x : ℕ) (xs : List ℕ) → Each P xs → mem 
 unfolding mem
 mem-each P x [] h m = absurd (false≢true m)
 mem-each P x (y ∷ ys) h m = elim (tested (eqb x y)) [
-    inl e ↦ subst P (sym (eqb-true x y e)) (h .0)
-  | inr e ↦ mem-each P x ys (h .1) (rw e at m) ]
+  | inl e ↦ subst P (sym (eqb-true x y e)) (h .0)
+  | inr e ↦ mem-each P x ys (h .1) (rw e at m)
+]
 
 module _ (first rows end : ℕ) (lists : List (List ℕ)) (side : AllowedFrom forward first end 0 lists) where
   -- the entries of an event's list are below the event
   list-below : (k e : ℕ) → k < kinds → Each (λ t. t < e) (listOf first lists k e)
   unfolding listOf
   list-below k e h = elim (tested (ltb e first)) [
-      inl q ↦ rw q tt
+    | inl q ↦ rw q tt
     | inr q ↦ let l : first ≤ e = ltb-false e first q in
         let same : eventOf first (0 + (kinds * (e - first) + k)) ≡ e = omega arith in
         let j = kinds * (e - first) + k in
         rw q (each-imp (λ t. (allowed forward end (eventOf first (0 + j)) t ≡ true) × (t < end64)) (λ t. t < e) (getD lists j [])
-          (λ t s. side-below end e t (subst (λ n. allowed forward end n t ≡ true) same (s .0))) (allowed-at forward first end 0 lists j side)) ]
+        (λ t s. side-below end e t (subst (λ n. allowed forward end n t ≡ true) same (s .0))) (allowed-at forward first end 0 lists j side))
+  ]
 
   pub reverse-side : first + rows ≤ end → end ≤ end64 → AllowedFrom reverse first end 0 (reverseLists first rows lists)
   unfolding reverseLists naming allowed
   reverse-side u b =
       allowed-table reverse first end (naming first rows lists) rows (omega arith)
       (λ n k l h j. each-imp (λ e. ((first ≤ e) × (e < first + rows)) × (mem n (listOf first lists k e) ≡ true))
-        (λ e. (allowed reverse end n e ≡ true) × (e < end64)) (naming first rows lists n k)
-        (λ e w. let after : n < e = mem-each (λ t. t < e) n (listOf first lists k e) (list-below k e j) (w .1) in
-          (rw (lt-ltb n e after) (lt-ltb e end (omega arith)), omega arith))
-        (each-both _ _ (naming first rows lists n k)
-          (each-filter (λ e. mem n (listOf first lists k e)) (λ e. (first ≤ e) × (e < first + rows)) (upFrom first rows) (each-upFrom first rows))
-          (filter-passes (λ e. mem n (listOf first lists k e)) (upFrom first rows))))
+      (λ e. (allowed reverse end n e ≡ true) × (e < end64)) (naming first rows lists n k)
+      (λ e w. let after : n < e = mem-each (λ t. t < e) n (listOf first lists k e) (list-below k e j) (w .1) in
+      (rw (lt-ltb n e after) (lt-ltb e end (omega arith)), omega arith))
+      (each-both _ _ (naming first rows lists n k)
+      (each-filter (λ e. mem n (listOf first lists k e)) (λ e. (first ≤ e) × (e < first + rows)) (upFrom first rows) (each-upFrom first rows))
+      (filter-passes (λ e. mem n (listOf first lists k e)) (upFrom first rows))))
 
 -- ── inbound lists ────────────────────────────────────────────────────────────────────────────
 
@@ -111,8 +116,9 @@ module _ (P : ℕ → Type 0) where
   each-children parent kind (c ∷ cs) [] ks h = tt
   each-children parent kind (c ∷ cs) (p ∷ ps) [] h = tt
   each-children parent kind (c ∷ cs) (p ∷ ps) (k ∷ ks) h = elim (tested (eqb p parent && eqb k kind)) [
-      inl e ↦ rw e (h .0, each-children parent kind cs ps ks (h .1))
-    | inr e ↦ rw e (each-children parent kind cs ps ks (h .1)) ]
+    | inl e ↦ rw e (h .0, each-children parent kind cs ps ks (h .1))
+    | inr e ↦ rw e (each-children parent kind cs ps ks (h .1))
+  ]
 
   -- every edge of a row has the row's number as its child
   each-edges : (first end child k : ℕ) (lists : List (List ℕ)) → P child → Each (λ e. P (e .child)) (edgesInto first end child k lists)
@@ -129,8 +135,8 @@ unfolding inboundLists allowed
 inbound-side first rows end e b h =
     allowed-table inbound first end (λ n k. sort (childrenTo n k (e .children) (e .parents) (e .kindsGiven))) rows b
     (λ n k l u j. each-sort (λ t. (allowed inbound end n t ≡ true) × (t < end64)) (childrenTo n k (e .children) (e .parents) (e .kindsGiven))
-      (each-children (λ t. (allowed inbound end n t ≡ true) × (t < end64)) n k (e .children) (e .parents) (e .kindsGiven)
-        (each-imp (λ c. (end ≤ c) × (c < end64)) (λ t. (allowed inbound end n t ≡ true) × (t < end64)) (e .children) (λ c w. (le-leb end c (w .0), w .1)) h)))
+    (each-children (λ t. (allowed inbound end n t ≡ true) × (t < end64)) n k (e .children) (e .parents) (e .kindsGiven)
+    (each-imp (λ c. (end ≤ c) × (c < end64)) (λ t. (allowed inbound end n t ≡ true) × (t < end64)) (e .children) (λ c w. (le-leb end c (w .0), w .1)) h)))
 
 -- ── the sets of an output file ───────────────────────────────────────────────────────────────
 
@@ -154,11 +160,11 @@ module _ (S : Summary) (good : Good S) (g : ℕ) (l : g < length (S .groups)) wh
   children-past =
       each-map (λ c. (endOf S g ≤ c) × (c < end64)) (λ e. e .child) edges
       (each-imp (λ e. Inbound (firstOf S g) (endOf S g) e × (e .child < end64)) (λ e. (endOf S g ≤ e .child) × (e .child < end64)) edges (λ e h. (h .0 .0, h .1))
-        (each-both (Inbound (firstOf S g) (endOf S g)) (λ e. e .child < end64) edges (rw (end-next, rows-first S good g l) (edges-inbound S good g))
-          (each-flat (λ e. e .child < end64) (λ r. edgesInto (firstOf S g) (endOf S g) (r .number) 0 (r .row .parents)) (filter other (numbered S))
-            (each-imp (λ r. r .number < end64) _ (filter other (numbered S))
-              (λ r h. each-edges (λ c. c < end64) (firstOf S g) (endOf S g) (r .number) 0 (r .row .parents) h)
-              (each-filter other (λ r. r .number < end64) (numbered S) numbers)))))
+      (each-both (Inbound (firstOf S g) (endOf S g)) (λ e. e .child < end64) edges (rw (end-next, rows-first S good g l) (edges-inbound S good g))
+      (each-flat (λ e. e .child < end64) (λ r. edgesInto (firstOf S g) (endOf S g) (r .number) 0 (r .row .parents)) (filter other (numbered S))
+      (each-imp (λ r. r .number < end64) _ (filter other (numbered S))
+      (λ r h. each-edges (λ c. c < end64) (firstOf S g) (endOf S g) (r .number) 0 (r .row .parents) h)
+      (each-filter other (λ r. r .number < end64) (numbered S) numbers)))))
     where
       edges : List Edge
       edges = edgesOf S g (firstOf S g) (endOf S g)

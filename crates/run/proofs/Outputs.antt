@@ -67,11 +67,16 @@ module _ (S : Summary) (good : Good S) (g : ℕ) where
   pub output-holds : g < length (S .groups) → Holds (sourceOf (outputOf S g)) g (groupAt S g) (rowsIn S g)
   unfolding sourceOf outputOf builtOf graphOf graphOfRows
   output-holds l = record {
-      first = refl; number = refl; depth = refl;
-      forward = rw (add-zero (firstNumber (rowsIn S g)), slots-set (firstNumber (rowsIn S g)) (forwardPart (graphOf S g)))
+    first = refl;
+    number = refl;
+    depth = refl;
+    forward = rw (add-zero (firstNumber (rowsIn S g)), slots-set (firstNumber (rowsIn S g)) (forwardPart (graphOf S g)))
         (forward-part S g (groupAt S g) (rowsIn S g) rows-kinds);
-      rows = refl; unresolved = refl; roots = refl;
-      cover = cover-back ((groupAt S g) .links) (rowsIn S g) ((each-getD _ (S .groups) g _ (good .groups) l) .2) }
+    rows = refl;
+    unresolved = refl;
+    roots = refl;
+    cover = cover-back ((groupAt S g) .links) (rowsIn S g) ((each-getD _ (S .groups) g _ (good .groups) l) .2);
+  }
 
   -- the unresolved records of a group's rows: children in the group's numbers, kinds and handles in their bounds
   pub references-each : (P : Unresolved → Type 0) → g < length (S .groups)
@@ -81,10 +86,10 @@ module _ (S : Summary) (good : Good S) (g : ℕ) where
   references-each P l f =
       each-flat P unresolvedOf (rowsIn S g)
       (each-imp _ (λ r. Each P (unresolvedOf r)) (rowsIn S g)
-        (λ r h. each-map P _ (r .row .body .unresolved)
-          (each-imp (λ u. (u .kind < kinds) × (u .handle < 2 ^ 32)) _ (r .row .body .unresolved)
-            (λ u k. f _ (h .1 .0) (h .1 .1) (k .0) (k .1)) (h .0 .body .unresolved)))
-        (rows-within S good g l))
+      (λ r h. each-map P _ (r .row .body .unresolved)
+      (each-imp (λ u. (u .kind < kinds) × (u .handle < 2 ^ 32)) _ (r .row .body .unresolved)
+      (λ u k. f _ (h .1 .0) (h .1 .1) (k .0) (k .1)) (h .0 .body .unresolved)))
+      (rows-within S good g l))
 
 -- ── its events ───────────────────────────────────────────────────────────────────────────────
 
@@ -119,14 +124,14 @@ module _ (S : Summary) (t : Taken) (s : Source) (g : ℕ) (all : List Numbered) 
       let this = each-right (GoodRow S g) before (r ∷ rs) split .0 in
       let group : s .group ≡ r .row .body .group = holds .number ∙ sym (this .group) in
       let label : labelIn (s .cover) (length before) ≡ r .row .body .label =
-            ap (λ c. labelIn c (length before)) (holds .cover ∙ ap (keptCover ((groupAt S g) .links)) e)
-            ∙ kept-label ((groupAt S g) .links) before r rs (labels-before before r rs split) (good-label r this) in
+      ap (λ c. labelIn c (length before)) (holds .cover ∙ ap (keptCover ((groupAt S g) .links)) e)
+      ∙ kept-label ((groupAt S g) .links) before r rs (labels-before before r rs split) (good-label r this) in
       let root : rootIn (s .roots) (length before) ≡ r .row .body .root =
-            ap (λ l. rootIn l (length before)) (holds .roots ∙ ap (rootsFrom 0) e) ∙ (rw (zero-add (length before)) at (root-at 0 before r rs)) in
+      ap (λ l. rootIn l (length before)) (holds .roots ∙ ap (rootsFrom 0) e) ∙ (rw (zero-add (length before)) at (root-at 0 before r rs)) in
       let refs : referencesIn (s .unresolved) (s .first + length before) ≡ r .row .body .unresolved =
-            ap (λ n. referencesIn (s .unresolved) (n + length before)) (holds .first)
-            ∙ ap (λ us. referencesIn us (firstNumber all + length before)) (holds .unresolved ∙ ap (flat unresolvedOf) e)
-            ∙ references-at (firstNumber all) before r rs (subst (Counted (firstNumber all)) e counted) in
+      ap (λ n. referencesIn (s .unresolved) (n + length before)) (holds .first)
+      ∙ ap (λ us. referencesIn us (firstNumber all + length before)) (holds .unresolved ∙ ap (flat unresolvedOf) e)
+      ∙ references-at (firstNumber all) before r rs (subst (Counted (firstNumber all)) e counted) in
       λ i. record { group = group i; tag = r .row .body .tag; label = label i; root = root i; unresolved = refs i }
 
   lists-back : (before : List Numbered) (r : Numbered) (rs : List Numbered) → all ≡ before ++ (r ∷ rs)

@@ -38,9 +38,11 @@ use Rattle.run.proofs.ByteLengths.{short-cover}
 starts-bounded : {A : Type 0} (a : ℕ) (ls : List (List A)) → Each (λ x. x ≤ a + length (joined ls)) (starts a ls)
 unfolding starts joined
 starts-bounded a [] = (omega arith, tt)
-starts-bounded a (l ∷ ls) =
-    (omega arith, each-imp (λ x. x ≤ a + length l + length (joined ls)) (λ x. x ≤ a + length (l ++ joined ls)) (starts (a + length l) ls)
-      (λ x h. omega (arith, length-append l (joined ls))) (starts-bounded (a + length l) ls))
+starts-bounded a (l ∷ ls) = (
+  omega arith,
+  each-imp (λ x. x ≤ a + length l + length (joined ls)) (λ x. x ≤ a + length (l ++ joined ls)) (starts (a + length l) ls)
+      (λ x h. omega (arith, length-append l (joined ls))) (starts-bounded (a + length l) ls),
+)
 
 fits-signed : (d : ℤ) → fits63 d ≡ true → SFits w64 d
 unfolding fits63
@@ -51,13 +53,14 @@ pub set-fits : (first rows : ℕ) (lists : List (List ℕ)) → length lists ≡
     → deltasFit first lists ≡ true → SetFits rows (setOf first lists)
 unfolding setOf deltasFit
 set-fits first rows lists full few fit = record {
-    slots = omega (arith, length-starts 0 lists);
-    counted = sym (set-count first lists);
-    count = omega (arith, set-count first lists);
-    offsets = each-imp (λ x. x ≤ 0 + length (joined lists)) (λ x. x < 256 ^ 8) (starts 0 lists) (λ x h. omega (arith, set-count first lists))
+  slots = omega (arith, length-starts 0 lists);
+  counted = sym (set-count first lists);
+  count = omega (arith, set-count first lists);
+  offsets = each-imp (λ x. x ≤ 0 + length (joined lists)) (λ x. x < 256 ^ 8) (starts 0 lists) (λ x h. omega (arith, set-count first lists))
       (starts-bounded 0 lists);
-    deltas = each-imp (λ d. fits63 d ≡ true) (λ d. SFits w64 d) (joined (deltasFrom first 0 lists)) fits-signed
-      (all-each fits63 (joined (deltasFrom first 0 lists)) fit) }
+  deltas = each-imp (λ d. fits63 d ≡ true) (λ d. SFits w64 d) (joined (deltasFrom first 0 lists)) fits-signed
+      (all-each fits63 (joined (deltasFrom first 0 lists)) fit);
+}
 
 -- ── unresolved references ────────────────────────────────────────────────────────────────────
 
@@ -139,8 +142,9 @@ add-fits : (rs : List Range) (l : Label) → Each RangeFits rs → SmallLabel l 
 unfolding addLabel
 add-fits [] l h s = ((s .0, s .1, s .1), tt)
 add-fits (r ∷ rs) l h s = elim (tested (ltb (r .chain) (l .chain))) [
-    inl e ↦ rw e (h .0, add-fits rs l (h .1) s)
-  | inr e ↦ elim (tested (eqb (r .chain) (l .chain))) [ inl f ↦ rw (e, f) (widen-fits r (l .seq) (h .0) (s .1), h .1) | inr f ↦ rw (e, f) ((s .0, s .1, s .1), h) ] ]
+  | inl e ↦ rw e (h .0, add-fits rs l (h .1) s)
+  | inr e ↦ elim (tested (eqb (r .chain) (l .chain))) [ inl f ↦ rw (e, f) (widen-fits r (l .seq) (h .0) (s .1), h .1) | inr f ↦ rw (e, f) ((s .0, s .1, s .1), h) ]
+]
 
 ranges-fit : (labels : List Label) → Each SmallLabel labels → Each RangeFits (rangesOf labels)
 unfolding rangesOf
@@ -158,11 +162,15 @@ differences-small before (x ∷ xs) = (omega arith, differences-small x xs)
 links-fit : (ls : List Link) → GoodLinks (some ls) → length ls ≤ maxRecords → LinksFit (columnsOf ls)
 unfolding columnsOf
 links-fit ls g few = record {
-    count = omega (arith, n); second = length-map ls _ ∙ sym n; third = length-map ls _ ∙ sym n; fourth = length-map ls _ ∙ sym n;
-    fromChains = differences-small 0 (map (λ l. l .fromChain) ls);
-    fromSeqs = each-map (λ x. x < 256 ^ 4) (λ l. l .fromSeq) ls (each-imp LinkFits (λ l. l .fromSeq < 256 ^ 4) ls (λ l f. f .1) (g .1));
-    toChains = each-map (λ x. x < 256 ^ 4) (λ l. l .toChain) ls (each-imp LinkFits (λ l. l .toChain < 256 ^ 4) ls (λ l f. f .2) (g .1));
-    toSeqs = each-map (λ x. x < 256 ^ 4) (λ l. l .toSeq) ls (each-imp LinkFits (λ l. l .toSeq < 256 ^ 4) ls (λ l f. f .3) (g .1)) }
+  count = omega (arith, n);
+  second = length-map ls _ ∙ sym n;
+  third = length-map ls _ ∙ sym n;
+  fourth = length-map ls _ ∙ sym n;
+  fromChains = differences-small 0 (map (λ l. l .fromChain) ls);
+  fromSeqs = each-map (λ x. x < 256 ^ 4) (λ l. l .fromSeq) ls (each-imp LinkFits (λ l. l .fromSeq < 256 ^ 4) ls (λ l f. f .1) (g .1));
+  toChains = each-map (λ x. x < 256 ^ 4) (λ l. l .toChain) ls (each-imp LinkFits (λ l. l .toChain < 256 ^ 4) ls (λ l f. f .2) (g .1));
+  toSeqs = each-map (λ x. x < 256 ^ 4) (λ l. l .toSeq) ls (each-imp LinkFits (λ l. l .toSeq < 256 ^ 4) ls (λ l f. f .3) (g .1));
+}
   where
     n : length (columnsOf ls .fromChains) ≡ length ls
     n = length-fromChains ls g
@@ -173,13 +181,15 @@ pub cover-fits : (links : Option (List Link)) (rs : List Numbered) (n : ℕ) →
 unfolding labelColumns
 cover-fits none rs n e few g ranges counted h = tt
 cover-fits (some ls) rs n e few g ranges counted h = record {
-    chainCount = chains; seqCount = seqs;
-    chains = each-map (λ x. x < 256 ^ 4) (λ l. l .chain) (labelsIn rs) (each-imp SmallLabel (λ l. l .chain < 256 ^ 4) (labelsIn rs) (λ l s. s .0) small);
-    seqs = each-map (λ x. x < 256 ^ 4) (λ l. l .seq) (labelsIn rs) (each-imp SmallLabel (λ l. l .seq < 256 ^ 4) (labelsIn rs) (λ l s. s .1) small);
-    rangeCount = omega arith;
-    ranges = ranges-fit (labelsIn rs) small;
-    links = fit;
-    short = short-cover _ fit (omega (arith, chains)) (omega (arith, seqs)) ranges counted }
+  chainCount = chains;
+  seqCount = seqs;
+  chains = each-map (λ x. x < 256 ^ 4) (λ l. l .chain) (labelsIn rs) (each-imp SmallLabel (λ l. l .chain < 256 ^ 4) (labelsIn rs) (λ l s. s .0) small);
+  seqs = each-map (λ x. x < 256 ^ 4) (λ l. l .seq) (labelsIn rs) (each-imp SmallLabel (λ l. l .seq < 256 ^ 4) (labelsIn rs) (λ l s. s .1) small);
+  rangeCount = omega arith;
+  ranges = ranges-fit (labelsIn rs) small;
+  links = fit;
+  short = short-cover _ fit (omega (arith, chains)) (omega (arith, seqs)) ranges counted;
+}
   where
     small : Each SmallLabel (labelsIn rs)
     small = labels-small ls rs h

@@ -4,7 +4,7 @@ use mathlib.Core.Bool.{true, or-true}
 use mathlib.Core.Logic.{inl, inr}
 use mathlib.Core.List.{List, [], _∷_, map, List·Memᴰ, List·Memᴰ·cases-cons, List·Memᴰ·not-nil}
 use mathlib.Core.Option.{none}
-use Prim.Native.Nat.{ℕ, suc, _+_, _-_, _≤_, _<_}
+use Prim.Native.Nat.{ℕ, suc, _+_, _≤_, _<_}
 use native.Mathlib.Omega.{arith}
 use native.Mathlib.Nat.{zero-add}
 use borrow.Author.Tests.{eq-eqb}
@@ -38,8 +38,9 @@ survivor-of : (g : ℕ) (rs : List Kept) → List·Memᴰ g (map (λ r. r .body 
 unfolding any survivesIn
 survivor-of g [] m = absurd (List·Memᴰ·not-nil m)
 survivor-of g (r ∷ rs) m = elim (List·Memᴰ·cases-cons m) [
-    inl e ↦ rw (eq-eqb (r .body .group) g (sym e))
-  | inr t ↦ rw (survivor-of g rs t) (or-true (eqb (r .body .group) g)) ]
+  | inl e ↦ rw (eq-eqb (r .body .group) g (sym e))
+  | inr t ↦ rw (survivor-of g rs t) (or-true (eqb (r .body .group) g))
+]
 
 pub groups-survive : (S : Summary) → Good S → groupsSurvive (unerased S) ≡ true
 unfolding groupsSurvive
@@ -74,21 +75,21 @@ module _ (S : Summary) (good : Good S) where
       memo-right (unerased S) k valid-again (length (map eventOf (S .rows)))
       ∙ ap (λ n. map (listOf (unerased S) k) (upFrom 0 n)) (length-map (S .rows) eventOf ∙ sym (length-map (S .rows) (list k)))
       ∙ map-places (listOf (unerased S) k) 0 (map (list k) (S .rows)) (list k blankRow)
-        (λ i l. let b : i < length (S .rows) = omega (arith, length-map (S .rows) (list k)) in
-          ap (listOf (unerased S) k) (zero-add i)
-          ∙ sym (new-once (unerased S) k valid-again (S .start + i) (omega arith) (omega (arith, length-map (S .rows) eventOf)))
-          ∙ parents-stay S good i b k h
-          ∙ sym (List·getD-map (list k) (S .rows) i blankRow))
+      (λ i l. let b : i < length (S .rows) = omega (arith, length-map (S .rows) (list k)) in
+      ap (listOf (unerased S) k) (zero-add i)
+      ∙ sym (new-once (unerased S) k valid-again (S .start + i) (omega arith) (omega (arith, length-map (S .rows) eventOf)))
+      ∙ parents-stay S good i b k h
+      ∙ sym (List·getD-map (list k) (S .rows) i blankRow))
 
   entries-again : entries (tables (unerased S)) ≡ sum (λ r. sum length (r .parents)) (S .rows)
   unfolding entries tables
   entries-again =
       sum-map (sum length) (λ k. memo (unerased S) k (length (map eventOf (S .rows)))) (upFrom 0 kinds)
       ∙ sum-ext (λ k. sum length (memo (unerased S) k (length (map eventOf (S .rows))))) (λ k. sum (λ r. length (list k r)) (S .rows)) (upFrom 0 kinds)
-        (each-below _ kinds (λ k h. ap (sum length) (memo-rows k h) ∙ sum-map length (list k) (S .rows)))
+      (each-below _ kinds (λ k h. ap (sum length) (memo-rows k h) ∙ sum-map length (list k) (S .rows)))
       ∙ sum-swap (λ k r. length (list k r)) (upFrom 0 kinds) (S .rows)
       ∙ sum-ext (λ r. sum (λ k. length (list k r)) (upFrom 0 kinds)) (λ r. sum length (r .parents)) (S .rows)
-        (each-imp (λ r. length (r .parents) ≡ kinds) _ (S .rows) kind-by-kind (rows-wide (S .start) (S .rows) (good .lists)))
+      (each-imp (λ r. length (r .parents) ≡ kinds) _ (S .rows) kind-by-kind (rows-wide (S .start) (S .rows) (good .lists)))
 
   pub few-entries : entries (tables (unerased S)) ≤ maxNumbers
   few-entries = omega (arith, entries-again, good .entries)

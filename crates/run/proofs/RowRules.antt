@@ -41,11 +41,18 @@ unfolding parentRules distinct mem
 parents-none event seen [] l d h = refl
 parents-none event seen (p ∷ ps) l d h =
     let r = both (not (mem p ps)) (distinct ps) d in
-    none-of (refuse ParentNotEarlier (leb event p) ∷ refuse ParentTwice (mem p seen) ∷ parentRules event (p ∷ seen) ps ∷ [])
-    (fails ParentNotEarlier (leb event p) (lt-leb event p (l .0)), (fails ParentTwice (mem p seen) (h .0),
-    (parents-none event (p ∷ seen) ps (l .1) (r .1)
-      (each-imp (λ q. (eqb q p ≡ false) × (mem q seen ≡ false)) (λ q. mem q (p ∷ seen) ≡ false) ps (λ q b. rw (b .0) (b .1))
-      (each-both (λ q. eqb q p ≡ false) (λ q. mem q seen ≡ false) ps (not-named p ps (not-true (mem p ps) (r .0))) (h .1))), tt)))
+    none-of (refuse ParentNotEarlier (leb event p) ∷ refuse ParentTwice (mem p seen) ∷ parentRules event (p ∷ seen) ps ∷ []) (
+      fails ParentNotEarlier (leb event p) (lt-leb event p (l .0)),
+      (
+        fails ParentTwice (mem p seen) (h .0),
+        (
+          parents-none event (p ∷ seen) ps (l .1) (r .1)
+              (each-imp (λ q. (eqb q p ≡ false) × (mem q seen ≡ false)) (λ q. mem q (p ∷ seen) ≡ false) ps (λ q b. rw (b .0) (b .1))
+              (each-both (λ q. eqb q p ≡ false) (λ q. mem q seen ≡ false) ps (not-named p ps (not-true (mem p ps) (r .0))) (h .1))),
+          tt,
+        ),
+      ),
+    )
 
 unseen : (ps : List ℕ) → Each (λ p. mem p [] ≡ false) ps
 unfolding mem
@@ -69,11 +76,11 @@ rows-pass first i [] c h = tt
 rows-pass first i (r ∷ rs) c h =
     from-append (SlotPasses first) (kinds * i) (r .row .parents) (slotsOfRows rs)
     (from-each (SlotPasses first) (λ ps. (distinct ps ≡ true) × Each (λ p. p < r .number) ps) (kinds * i + kinds) (kinds * i) (r .row .parents)
-      (λ slot ps a b q. let e : eventOf first slot ≡ r .number = omega (arith, c .0) in rw e (parents-none (r .number) [] ps (q .1) (q .0) (unseen ps)))
-      (omega (arith, h .0 .each-kind))
-      (each-both (λ ps. distinct ps ≡ true) (λ ps. Each (λ p. p < r .number) ps) (r .row .parents) (h .0 .once) (h .0 .below)))
+    (λ slot ps a b q. let e : eventOf first slot ≡ r .number = omega (arith, c .0) in rw e (parents-none (r .number) [] ps (q .1) (q .0) (unseen ps)))
+    (omega (arith, h .0 .each-kind))
+    (each-both (λ ps. distinct ps ≡ true) (λ ps. Each (λ p. p < r .number) ps) (r .row .parents) (h .0 .once) (h .0 .below)))
     (from-eq (SlotPasses first) (kinds * suc i) (kinds * i + length (r .row .parents)) (slotsOfRows rs) (omega (arith, h .0 .each-kind))
-      (rows-pass first (suc i) rs (rw (add-suc first i) (c .1)) (h .1)))
+    (rows-pass first (suc i) rs (rw (add-suc first i) (c .1)) (h .1)))
 
 pub row-slots-none : (first : ℕ) (rs : List Numbered) → Counted first rs → Each (λ r. GoodLists (r .number) (r .row .parents)) rs
     → slotRules first 0 (slotsOfRows rs) ≡ none
@@ -101,7 +108,7 @@ module _ {A : Type 0} (d : A) (rule : Option ℕ → Option ℕ → Option ℕ �
       (none-in (λ i. rule (getElem? (map f xs) i) (getElem? (map g xs) i) (getElem? (map h xs) i)) (upFrom 0 (length xs))
       (each-imp (λ i. (0 ≤ i) × (i < 0 + length xs)) (λ i. rule (getElem? (map f xs) i) (getElem? (map g xs) i) (getElem? (map h xs) i) ≡ none) (upFrom 0 (length xs))
       (λ i b. let l : i < length xs = omega arith in
-        rw (get-map f xs i d l, get-map g xs i d l, get-map h xs i d l) (each-getD (λ x. rule (some (f x)) (some (g x)) (some (h x)) ≡ none) xs i d e l))
+      rw (get-map f xs i d l, get-map g xs i d l, get-map h xs i d l) (each-getD (λ x. rule (some (f x)) (some (g x)) (some (h x)) ≡ none) xs i d e l))
       (each-upFrom 0 (length xs))))
 
 in-file : (first end n : ℕ) → first ≤ n → n < end → inFile first end n ≡ true
@@ -115,23 +122,28 @@ module _ (first end : ℕ) where
 
   pub unresolved-none : (us : List Unresolved) → Each RecordPasses us
       → firstIn (λ i. unresolvedRules first end (getElem? (map (λ u. u .child) us) i) (getElem? (map (λ u. u .kind) us) i) (getElem? (map (λ u. 0) us) i))
-        (upFrom 0 (recordCount (map (λ u. u .child) us) (map (λ u. u .kind) us) (map (λ u. 0) us))) ≡ none
+      (upFrom 0 (recordCount (map (λ u. u .child) us) (map (λ u. u .kind) us) (map (λ u. 0) us))) ≡ none
   unfolding unresolvedRules has
   unresolved-none us h =
       columns-none (record { child = 0; kind = 0; handle = 0 }) (unresolvedRules first end) (λ u. u .child) (λ u. u .kind) (λ u. 0) us
       (each-imp RecordPasses (λ u. unresolvedRules first end (some (u .child)) (some (u .kind)) (some 0) ≡ none) us
-      (λ u b. none-of (refuse UnresolvedChild (not (inFile first end (u .child))) ∷ refuse UnresolvedKind (not (ltb (u .kind) kinds && eqb 0 0)) ∷ [])
-        (passes UnresolvedChild (inFile first end (u .child)) (in-file first end (u .child) (b .0) (b .1)),
-        (passes UnresolvedKind (ltb (u .kind) kinds && eqb 0 0) (rw (lt-ltb (u .kind) kinds (b .2))), tt))) h)
+      (λ u b. none-of (refuse UnresolvedChild (not (inFile first end (u .child))) ∷ refuse UnresolvedKind (not (ltb (u .kind) kinds && eqb 0 0)) ∷ []) (
+        passes UnresolvedChild (inFile first end (u .child)) (in-file first end (u .child) (b .0) (b .1)),
+        (passes UnresolvedKind (ltb (u .kind) kinds && eqb 0 0) (rw (lt-ltb (u .kind) kinds (b .2))), tt),
+      )) h)
 
   pub inbound-none : (es : List Edge) → Each (Inbound first end) es
       → firstIn (λ i. inboundRules first end (getElem? (map (λ e. e .child) es) i) (getElem? (map (λ e. e .parent) es) i) (getElem? (map (λ e. e .kind) es) i))
-        (upFrom 0 (recordCount (map (λ e. e .child) es) (map (λ e. e .parent) es) (map (λ e. e .kind) es))) ≡ none
+      (upFrom 0 (recordCount (map (λ e. e .child) es) (map (λ e. e .parent) es) (map (λ e. e .kind) es))) ≡ none
   unfolding inboundRules has
   inbound-none es h =
       columns-none (record { child = 0; parent = 0; kind = 0 }) (inboundRules first end) (λ e. e .child) (λ e. e .parent) (λ e. e .kind) es
       (each-imp (Inbound first end) (λ e. inboundRules first end (some (e .child)) (some (e .parent)) (some (e .kind)) ≡ none) es
-      (λ e b. none-of (refuse InboundChild (not (leb end (e .child))) ∷ refuse InboundParent (not (inFile first end (e .parent) && ltb (e .kind) kinds)) ∷ [])
-        (passes InboundChild (leb end (e .child)) (le-leb end (e .child) (b .0)),
-        (passes InboundParent (inFile first end (e .parent) && ltb (e .kind) kinds)
-          (rw (in-file first end (e .parent) (b .1) (b .2), lt-ltb (e .kind) kinds (b .3))), tt))) h)
+      (λ e b. none-of (refuse InboundChild (not (leb end (e .child))) ∷ refuse InboundParent (not (inFile first end (e .parent) && ltb (e .kind) kinds)) ∷ []) (
+        passes InboundChild (leb end (e .child)) (le-leb end (e .child) (b .0)),
+        (
+          passes InboundParent (inFile first end (e .parent) && ltb (e .kind) kinds)
+              (rw (in-file first end (e .parent) (b .1) (b .2), lt-ltb (e .kind) kinds (b .3))),
+          tt,
+        ),
+      )) h)

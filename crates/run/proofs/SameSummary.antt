@@ -1,11 +1,10 @@
 -- Archives that are alike have the same summary: nothing of what was erased is left in it.
 use mathlib.Core.Path.{_≡_, refl, ap, ap₂}
-use mathlib.Core.List.{List, map}
+use mathlib.Core.List.{List}
 use mathlib.Core.Logic.{inl, inr}
 use mathlib.Core.Option.{Option, none, some}
 use Prim.Native.Nat.{ℕ, _+_, _≤_, _<_}
 use native.Mathlib.Omega.{arith}
-use native.Mathlib.Nat.{zero-add}
 use Rattle.lists.specs.Lists.{Pairs, once, upFrom}
 use Rattle.lists.proofs.Each.{each-imp}
 use Rattle.lists.proofs.Flat.{map-ext}
@@ -13,10 +12,10 @@ use Rattle.lists.proofs.Pairs.{pairs-map, each-upFrom}
 use Rattle.columns.specs.Limits.{kinds}
 use Rattle.cover.specs.Chains.{Link}
 use Rattle.cover.proofs.Links.{sort-same}
-use Rattle.run.specs.Archive.{Body, Group, Archive, at}
+use Rattle.run.specs.Archive.{Group, Archive, at}
 use Rattle.run.specs.Routes.{ends}
 use Rattle.run.specs.Cleaning.{renumber, newParents, survivors}
-use Rattle.run.specs.Summary.{Kept, Summary, sorted, groupSummary, kept, keptBy, summary}
+use Rattle.run.specs.Summary.{sorted, groupSummary, kept, keptBy, summary}
 use Rattle.run.specs.Alike.{SameCover, SameGroup, SameEnd, SameSurvivor, Alike}
 use Rattle.run.proofs.Inj.{renumber-before, renumber-past}
 
@@ -45,7 +44,12 @@ module _ (A B : Archive) (s : A .start ≡ B .start) where
 
   same-body : (p q : ℕ) → SameSurvivor A B p q → (at A p) .body ≡ (at B q) .body
   same-body p q r = λ i. record {
-    group = r .same-group i; tag = r .same-tag i; label = r .same-label i; root = r .same-root i; unresolved = r .same-unresolved i }
+    group = r .same-group i;
+    tag = r .same-tag i;
+    label = r .same-label i;
+    root = r .same-root i;
+    unresolved = r .same-unresolved i;
+  }
 
   same-kept : (p q : ℕ) → SameSurvivor A B p q → keptBy A p ≡ keptBy B q
   unfolding keptBy
@@ -62,4 +66,5 @@ summary-alike A B l = λ i. record {
   start = l .same-start i;
   subject = l .same-subject i;
   groups = pairs-map SameGroup groupSummary groupSummary same-group-summary (A .groups) (B .groups) (l .same-groups) i;
-  rows = pairs-map (SameSurvivor A B) (keptBy A) (keptBy B) (same-kept A B (l .same-start)) (survivors A) (survivors B) (l .same-survivors) i }
+  rows = pairs-map (SameSurvivor A B) (keptBy A) (keptBy B) (same-kept A B (l .same-start)) (survivors A) (survivors B) (l .same-survivors) i;
+}

@@ -55,13 +55,14 @@ unfolding soundFrom targetsFrom sound allowed
 sound-below first end slot [] e = tt
 sound-below first end slot (ds ∷ lists) e =
     let p = both (ltb (eventOf first slot) end64 && all (sound forward end (eventOf first slot)) ds) (soundFrom forward first end (suc slot) lists) e in
-    let q = both (ltb (eventOf first slot) end64) (all (sound forward end (eventOf first slot)) ds) (p .0) in
-    (each-map (λ t. suc t ≤ eventOf first slot) (targetOf (eventOf first slot)) ds
-      (each-imp (λ d. sound forward end (eventOf first slot) d ≡ true) (λ d. suc (targetOf (eventOf first slot) d) ≤ eventOf first slot) ds
-      (λ d s. ltb-true (targetOf (eventOf first slot) d) (eventOf first slot)
-        (both (isNumber (pos (eventOf first slot) -ℤ d)) (ltb (targetOf (eventOf first slot) d) (eventOf first slot)) s .1))
-      (all-each (sound forward end (eventOf first slot)) ds (q .1))),
-    sound-below first end (suc slot) lists (p .1))
+    let q = both (ltb (eventOf first slot) end64) (all (sound forward end (eventOf first slot)) ds) (p .0) in (
+      each-map (λ t. suc t ≤ eventOf first slot) (targetOf (eventOf first slot)) ds
+          (each-imp (λ d. sound forward end (eventOf first slot) d ≡ true) (λ d. suc (targetOf (eventOf first slot) d) ≤ eventOf first slot) ds
+          (λ d s. ltb-true (targetOf (eventOf first slot) d) (eventOf first slot)
+          (both (isNumber (pos (eventOf first slot) -ℤ d)) (ltb (targetOf (eventOf first slot) d) (eventOf first slot)) s .1))
+          (all-each (sound forward end (eventOf first slot)) ds (q .1))),
+      sound-below first end (suc slot) lists (p .1),
+    )
 
 climbs-le : (high low : ℕ) (xs : List ℕ) → climbsTo high low xs ≡ true → low ≤ high
 unfolding climbsTo
@@ -118,5 +119,6 @@ module _ (set first rows end : ℕ) (s : EdgeSet) (e : setRules set first rows e
 pub forward-below : (first rows end : ℕ) (s : EdgeSet) → setRules forward first rows end s ≡ none → EachFrom (SlotBelow first) 0 (slotsOf first s)
 unfolding slotsOf
 forward-below first rows end s e = elim (sound-or-empty forward first rows end s e (ltb 0 (s .count)) refl) [
-    inl h ↦ sound-below first end 0 (cut (s .offsets) (s .deltas)) h
-  | inr h ↦ cut-below first (s .offsets) (s .deltas) h ]
+  | inl h ↦ sound-below first end 0 (cut (s .offsets) (s .deltas)) h
+  | inr h ↦ cut-below first (s .offsets) (s .deltas) h
+]

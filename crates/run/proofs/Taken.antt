@@ -101,9 +101,11 @@ looks-back (some b) f g s c = let q = both (same (f .subject) (b .subject)) (eqb
   subject = same-eq (f .subject) (b .subject) (q .0);
   first = eqb-true (f .first) (endOf b) (q .1);
   group = elim (or-true-cases (eqb (f .group) (b .group)) (eqb (f .group) (b .group + 1)) g) [
-      inl h ↦ inl (eqb-true (f .group) (b .group) h)
-    | inr h ↦ inr (eqb-true (f .group) (b .group + 1) h) ];
-  cover = λ h. there-read (f .cover) ∙ beq-eq (isThere (f .cover)) (isThere (b .cover)) (rw (eq-eqb (f .group) (b .group) h) at c) }
+    | inl h ↦ inl (eqb-true (f .group) (b .group) h)
+    | inr h ↦ inr (eqb-true (f .group) (b .group + 1) h)
+  ];
+  cover = λ h. there-read (f .cover) ∙ beq-eq (isThere (f .cover)) (isThere (b .cover)) (rw (eq-eqb (f .group) (b .group) h) at c);
+}
 
 module _ (before : Option Source) (f : File) (e : fileRules before f ≡ none) where
   rules : Each (λ t. t ≡ none) (refuse SubjectLength (not (subjectOk (f .subject)))
@@ -141,17 +143,18 @@ module _ (before : Option Source) (f : File) (e : fileRules before f ≡ none) w
     slots = each-slot forward (f .first) (length (f .rows)) (fileEnd f) (f .forward) (rules .1 .1 .1 .1 .1 .1 .0);
     below = forward-below (f .first) (length (f .rows)) (fileEnd f) (f .forward) (rules .1 .1 .1 .1 .1 .1 .0);
     roots = each-imp (λ r. ltb (r .row) (length (f .rows)) ≡ true) (λ r. r .row < length (f .rows)) (f .roots) (λ r t. ltb-true (r .row) (length (f .rows)) t)
-      (all-each (λ r. ltb (r .row) (length (f .rows))) (f .roots)
-      (passed RootOutside (all (λ r. ltb (r .row) (length (f .rows))) (f .roots)) (rules .1 .1 .1 .1 .1 .1 .1 .1 .1 .0)));
+        (all-each (λ r. ltb (r .row) (length (f .rows))) (f .roots)
+        (passed RootOutside (all (λ r. ltb (r .row) (length (f .rows))) (f .roots)) (rules .1 .1 .1 .1 .1 .1 .1 .1 .1 .0)));
     unresolved = each-imp (λ u. unresolvedRules f u ≡ none) (RecordIn (sourceOf f)) (f .unresolved) record-in
-      (each-none-in (unresolvedRules f) (f .unresolved) (rules .1 .1 .1 .1 .1 .1 .1 .1 .1 .1 .0)) }
+        (each-none-in (unresolvedRules f) (f .unresolved) (rules .1 .1 .1 .1 .1 .1 .1 .1 .1 .1 .0));
+  }
 
   pub follows-last : FollowsLast before (sourceOf f)
   unfolding sourceOf
   follows-last = looks-back before f
-    (passed GroupOrder (groupFollows before f) (rules .1 .1 .1 .0))
-    (passed SourceOrder (sourceFollows before f) (rules .1 .1 .1 .1 .0))
-    (passed CoverInSome (coverFollows before f) (rules .1 .1 .1 .1 .1 .0))
+      (passed GroupOrder (groupFollows before f) (rules .1 .1 .1 .0))
+      (passed SourceOrder (sourceFollows before f) (rules .1 .1 .1 .1 .0))
+      (passed CoverInSome (coverFollows before f) (rules .1 .1 .1 .1 .1 .0))
 
 pub taken-followed : (before : Option Source) (fs : List File) → filesRules before fs ≡ none → Followed before (map sourceOf fs)
 unfolding filesRules

@@ -31,12 +31,13 @@ Writable S = (all (λ g. chainsRise (graphOf S g)) (groupNumbers S) ≡ true) ×
 pub cleanable-again : (S : Summary) → Good S → Writable S → Cleanable (outputs S)
 cleanable-again S good w =
     let again = subst Writable (sym (summary-again S good)) w in record {
-    fits = files-fit S good (w .1);
-    files = some-output S good;
-    records = records-within S good;
-    numbers = numbers-within S good;
-    rules = files-rules S good;
-    newLists = rw (archive-again S good) (few-entries S good);
-    survivors = rw (archive-again S good) (groups-survive S good);
-    chains = again .0;
-    spans = again .1 }
+      fits = files-fit S good (w .1);
+      files = some-output S good;
+      records = records-within S good;
+      numbers = numbers-within S good;
+      rules = files-rules S good;
+      newLists = rw (archive-again S good) (few-entries S good);
+      survivors = rw (archive-again S good) (groups-survive S good);
+      chains = again .0;
+      spans = again .1;
+    }

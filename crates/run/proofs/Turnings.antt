@@ -31,7 +31,7 @@ unfolding slotTable
 table-entries f first rows =
     sum-flat length (λ n. map (f n) (upFrom 0 kinds)) (upFrom first rows)
     ∙ sum-equal (λ n. sum length (map (f n) (upFrom 0 kinds))) (λ n. sum (λ k. length (f n k)) (upFrom 0 kinds))
-      (λ n. sum-map length (f n) (upFrom 0 kinds)) (upFrom first rows)
+    (λ n. sum-map length (f n) (upFrom 0 kinds)) (upFrom first rows)
     ∙ sum-swap (λ n k. length (f n k)) (upFrom first rows) (upFrom 0 kinds)
 
 -- the list of the number and the kind of a slot
@@ -47,8 +47,8 @@ table-back first rows lists e =
     let f : ℕ → ℕ → List ℕ = λ n k. listOf first lists k n in
     ext-getD [] (slotTable f first rows) lists (length-table f first rows ∙ sym e)
     (λ j h. sym (list-slot first (slotTable f first rows) j)
-      ∙ list-table f first rows (first + j / kinds) (j % kinds) (omega arith) (omega (arith, length-table f first rows)) (omega arith)
-      ∙ list-slot first lists j)
+    ∙ list-table f first rows (first + j / kinds) (j % kinds) (omega arith) (omega (arith, length-table f first rows)) (omega arith)
+    ∙ list-slot first lists j)
 
 -- ── reverse lists ────────────────────────────────────────────────────────────────────────────
 
@@ -56,8 +56,13 @@ pub reverse-entries : (first rows : ℕ) (lists : List (List ℕ)) → length li
     → sum length (reverseLists first rows lists) ≤ sum length lists
 unfolding reverseLists naming
 reverse-entries first rows lists e =
-    omega (arith, table-entries (naming first rows lists) first rows, table-entries list first rows, ap (sum length) (table-back first rows lists e),
-      sum-below (λ k. sum (λ n. length (naming first rows lists n k)) numbers) (λ k. sum (λ n. length (list n k)) numbers) one-kind (upFrom 0 kinds))
+    omega (
+      arith,
+      table-entries (naming first rows lists) first rows,
+      table-entries list first rows,
+      ap (sum length) (table-back first rows lists e),
+      sum-below (λ k. sum (λ n. length (naming first rows lists n k)) numbers) (λ k. sum (λ n. length (list n k)) numbers) one-kind (upFrom 0 kinds),
+    )
   where
     list : ℕ → ℕ → List ℕ
     list n k = listOf first lists k n
@@ -67,11 +72,13 @@ reverse-entries first rows lists e =
 
     one-kind : (k : ℕ) → sum (λ n. length (naming first rows lists n k)) numbers ≤ sum (λ n. length (list n k)) numbers
     one-kind k =
-        omega (arith,
+        omega (
+          arith,
           sum-equal (λ n. length (naming first rows lists n k)) (λ n. sum (λ m. bit (mem n (list m k))) numbers)
-            (λ n. length-filter (λ m. mem n (list m k)) numbers) numbers,
+              (λ n. length-filter (λ m. mem n (list m k)) numbers) numbers,
           sum-swap (λ n m. bit (mem n (list m k))) numbers numbers,
-          sum-below (λ m. sum (λ n. bit (mem n (list m k))) numbers) (λ m. length (list m k)) (λ m. members-counted (list m k) first rows) numbers)
+          sum-below (λ m. sum (λ n. bit (mem n (list m k))) numbers) (λ m. length (list m k)) (λ m. members-counted (list m k) first rows) numbers,
+        )
 
 -- ── inbound lists ────────────────────────────────────────────────────────────────────────────
 
@@ -94,8 +101,9 @@ length-children : (n k : ℕ) (es : List Edge)
 unfolding childrenTo sum
 length-children n k [] = refl
 length-children n k (e ∷ es) = elim (tested (isTo n k e)) [
-    inl q ↦ rw q (omega (arith, length-children n k es))
-  | inr q ↦ rw q (omega (arith, length-children n k es)) ]
+  | inl q ↦ rw q (omega (arith, length-children n k es))
+  | inr q ↦ rw q (omega (arith, length-children n k es))
+]
 
 one-equal : (x i m : ℕ) → sum (λ n. bit (eqb x n)) (upFrom i m) ≤ 1
 one-equal x i m = at-most-one (λ n. eqb x n) (λ j k e l. ne-eqb x k (λ d. omega (arith, eqb-true x j e))) i m
@@ -103,8 +111,11 @@ one-equal x i m = at-most-one (λ n. eqb x n) (λ j k e l. ne-eqb x k (λ d. ome
 -- an edge is in one list
 one-list : (e : Edge) (first rows : ℕ) → sum (λ n. sum (λ k. bit (isTo n k e)) (upFrom 0 kinds)) (upFrom first rows) ≤ 1
 one-list e first rows =
-    omega (arith, one-equal (e .parent) first rows,
-      sum-below (λ n. sum (λ k. bit (isTo n k e)) (upFrom 0 kinds)) (λ n. bit (eqb (e .parent) n)) (λ n. of-kind (eqb (e .parent) n)) (upFrom first rows))
+    omega (
+      arith,
+      one-equal (e .parent) first rows,
+      sum-below (λ n. sum (λ k. bit (isTo n k e)) (upFrom 0 kinds)) (λ n. bit (eqb (e .parent) n)) (λ n. of-kind (eqb (e .parent) n)) (upFrom first rows),
+    )
   where
     of-kind : (b : Bool) → sum (λ k. bit (b && eqb (e .kind) k)) (upFrom 0 kinds) ≤ bit b
     of-kind true = one-equal (e .kind) 0 kinds
@@ -113,10 +124,14 @@ one-list e first rows =
 pub inbound-entries : (first rows : ℕ) (es : List Edge) → sum length (inboundLists first rows (inboundColumns es)) ≤ length es
 unfolding inboundLists inboundColumns
 inbound-entries first rows es =
-    omega (arith, table-entries list first rows,
+    omega (
+      arith,
+      table-entries list first rows,
       sum-equal (λ k. sum (λ n. length (list n k)) numbers) (λ k. sum (λ e. sum (λ n. bit (isTo n k e)) numbers) es) one-kind (upFrom 0 kinds),
       sum-swap (λ k e. sum (λ n. bit (isTo n k e)) numbers) (upFrom 0 kinds) es,
-      sum-below (λ e. sum (λ k. sum (λ n. bit (isTo n k e)) numbers) (upFrom 0 kinds)) (λ e. 1) one-edge es, sum-ones es)
+      sum-below (λ e. sum (λ k. sum (λ n. bit (isTo n k e)) numbers) (upFrom 0 kinds)) (λ e. 1) one-edge es,
+      sum-ones es,
+    )
   where
     numbers : List ℕ
     numbers = upFrom first rows
@@ -143,8 +158,14 @@ unfolding edgesInto joined sum
 length-edgesInto first end child k [] = refl
 length-edgesInto first end child k (ps ∷ lists) =
     let edge : ℕ → Edge = λ p. record { child = child; parent = p; kind = k } in
-    omega (arith, length-append (map edge (filter (inFile first end) ps)) (edgesInto first end child (suc k) lists), length-map (filter (inFile first end) ps) edge,
-      length-filter (inFile first end) ps, sum-append (λ p. bit (inFile first end p)) ps (joined lists), length-edgesInto first end child (suc k) lists)
+    omega (
+      arith,
+      length-append (map edge (filter (inFile first end) ps)) (edgesInto first end child (suc k) lists),
+      length-map (filter (inFile first end) ps) edge,
+      length-filter (inFile first end) ps,
+      sum-append (λ p. bit (inFile first end p)) ps (joined lists),
+      length-edgesInto first end child (suc k) lists,
+    )
 
 -- all entries of a summary's lists
 abbrev pub targets : Summary → List ℕ
@@ -155,7 +176,11 @@ unfolding edgesOf
 edges-entries S g first end =
     let into : Numbered → List Edge = λ r. edgesInto first end (r .number) 0 (r .row .parents) in
     let others : List Numbered = filter (λ r. not (groupIs g r)) (numbered S) in
-    omega (arith, length-flat into others, sum-filter (λ r. length (into r)) (λ r. not (groupIs g r)) (numbered S),
+    omega (
+      arith,
+      length-flat into others,
+      sum-filter (λ r. length (into r)) (λ r. not (groupIs g r)) (numbered S),
       sum-equal (λ r. length (into r)) (λ r. sum (λ p. bit (inFile first end p)) (joined (r .row .parents)))
-        (λ r. length-edgesInto first end (r .number) 0 (r .row .parents)) (numbered S),
-      sum-flat (λ p. bit (inFile first end p)) (λ r. joined (r .row .parents)) (numbered S))
+          (λ r. length-edgesInto first end (r .number) 0 (r .row .parents)) (numbered S),
+      sum-flat (λ p. bit (inFile first end p)) (λ r. joined (r .row .parents)) (numbered S),
+    )

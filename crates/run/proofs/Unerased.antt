@@ -120,8 +120,8 @@ module _ (S : Summary) (good : Good S) (i : ℕ) (l : i < length (S .rows)) wher
       let e : ends (unerased S) k p ≡ ps = ends-parents S k p ∙ ap (parentsOf k) (at-row S p ∙ ap eventOf this-row) in
       rw (e, once-distinct ps (each-getD (λ qs. distinct qs ≡ true) (row .parents) k [] (lists .once) inside))
       (map-ext (renumber (unerased S)) (λ q. q) ps
-        (each-imp (λ q. q < p) (λ q. renumber (unerased S) q ≡ q) ps (λ q b. renumber-same S q (omega arith))
-          (each-getD (λ qs. Each (λ q. q < p) qs) (row .parents) k [] (lists .below) inside))
+      (each-imp (λ q. q < p) (λ q. renumber (unerased S) q ≡ q) ps (λ q b. renumber-same S q (omega arith))
+      (each-getD (λ qs. Each (λ q. q < p) qs) (row .parents) k [] (lists .below) inside))
       ∙ map-id ps)
 
   row-stays : keptBy (unerased S) p ≡ row
@@ -130,8 +130,8 @@ module _ (S : Summary) (good : Good S) (i : ℕ) (l : i < length (S .rows)) wher
       let lists = lists-row (S .start) i (S .rows) (good .lists) l in
       let new : ℕ → List ℕ = λ k. newParents (unerased S) k p in
       let same : map new (upFrom 0 kinds) ≡ row .parents =
-            ap (λ n. map new (upFrom 0 n)) (sym (lists .each-kind))
-            ∙ map-places new 0 (row .parents) [] (λ k h. ap new (zero-add k) ∙ parents-stay k (omega (arith, lists .each-kind))) in
+      ap (λ n. map new (upFrom 0 n)) (sym (lists .each-kind))
+      ∙ map-places new 0 (row .parents) [] (λ k h. ap new (zero-add k) ∙ parents-stay k (omega (arith, lists .each-kind))) in
       λ j. record { body = ap (λ e. e .body) (at-row S p ∙ ap eventOf this-row) j; parents = same j }
 
 -- ── the summary ──────────────────────────────────────────────────────────────────────────────
@@ -148,5 +148,5 @@ pub summary-unerased : (S : Summary) → Good S → summary (unerased S) ≡ S
 unfolding summary
 summary-unerased S good =
     let rows : map (keptBy (unerased S)) (survivors (unerased S)) ≡ S .rows =
-          rw (survivors-all S) (map-places (keptBy (unerased S)) (S .start) (S .rows) blankRow (row-stays S good)) in
+    rw (survivors-all S) (map-places (keptBy (unerased S)) (S .start) (S .rows) blankRow (row-stays S good)) in
     λ i. record { start = S .start; subject = S .subject; groups = groups-stay (S .groups) (good .groups) i; rows = rows i }

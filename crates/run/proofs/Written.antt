@@ -41,10 +41,13 @@ module _ (fs : List File) (c : Cleanable fs) where
   unfolding resolveRules
   resolve-none =
       let few = ltb maxNumbers (entries (tables (archiveOfFiles fs))) in
-      none-of (refuse GroupOrder (isEmpty (map sourceOf fs)) ∷ refuse OverNumbers few ∷ refuse NoSurvivor (not (groupsSurvive (archiveOfFiles fs))) ∷ [])
-      (fails GroupOrder (isEmpty (map sourceOf fs)) (not-empty fs (c .files)),
-      (fails OverNumbers few (le-ltb maxNumbers (entries (tables (archiveOfFiles fs))) (c .newLists)),
-      (passes NoSurvivor (groupsSurvive (archiveOfFiles fs)) (c .survivors), tt)))
+      none-of (refuse GroupOrder (isEmpty (map sourceOf fs)) ∷ refuse OverNumbers few ∷ refuse NoSurvivor (not (groupsSurvive (archiveOfFiles fs))) ∷ []) (
+        fails GroupOrder (isEmpty (map sourceOf fs)) (not-empty fs (c .files)),
+        (
+          fails OverNumbers few (le-ltb maxNumbers (entries (tables (archiveOfFiles fs))) (c .newLists)),
+          (passes NoSurvivor (groupsSurvive (archiveOfFiles fs)) (c .survivors), tt),
+        ),
+      )
 
   -- ── the calls ────────────────────────────────────────────────────────────────────────────────
 
@@ -60,8 +63,11 @@ module _ (fs : List File) (c : Cleanable fs) where
       → (step (resolved (record { sources = map sourceOf fs }) (tables (archiveOfFiles fs))) (writes room)) .answer ≡ wrote (cleaned (archiveOfFiles fs))
   unfolding step written unless cleaned
   written-then room l =
-      rw (tabled-summary (archiveOfFiles fs) (valid-sources (map sourceOf fs) (taken-followed none fs (c .rules))), nothing-refused fs c,
-        le-leb (length (cleaned (archiveOfFiles fs))) room l)
+      rw (
+        tabled-summary (archiveOfFiles fs) (valid-sources (map sourceOf fs) (taken-followed none fs (c .rules))),
+        nothing-refused fs c,
+        le-leb (length (cleaned (archiveOfFiles fs))) room l,
+      )
 
 pub accepted : Accepted
 unfolding history Wrote

@@ -16,7 +16,7 @@ use Rattle.run.specs.Source.{sourceOf}
 use Rattle.run.specs.Taking.{overRecords, overNumbers, filesRules}
 use Rattle.run.specs.Archive.{Archive, archiveOf}
 use Rattle.run.specs.Memo.{tables}
-use Rattle.run.specs.Summary.{Summary, summary}
+use Rattle.run.specs.Summary.{summary}
 use Rattle.run.specs.Resolving.{entries, groupsSurvive}
 use Rattle.run.specs.Writing.{graphOf, groupNumbers}
 use Rattle.run.specs.Step.{takes, resolves, writes, fresh}

@@ -1,10 +1,10 @@
 -- Document 01, "Cleaning" and "Demand 3's words": an archive as a whole, which is the sources of a run in order, seen as events and groups.
-use mathlib.Core.Bool.{Bool, true, false, cond}
+use mathlib.Core.Bool.{Bool, false, cond}
 use mathlib.Core.List.{List, [], _∷_, _++_, map, foldl}
 use mathlib.Core.Option.{Option, none, some}
 use Prim.Native.Nat.{ℕ, zero, suc, _+_, _-_, _*_}
 use lib.Dec.{ltb, eqb}
-use lib.ListN.{length, getD, getElem?}
+use lib.ListN.{getD, getElem?}
 use Rattle.lists.specs.Lists.{flat, filter, part}
 use Rattle.columns.specs.Limits.{kinds}
 use Rattle.columns.specs.Reading.{Label}
@@ -57,7 +57,12 @@ referencesIn us number = map (λ u. record { kind = u .kind; handle = u .handle 
 
 unfoldable pub bodyOf : Source → ℕ → Row → Body
 bodyOf s i row = record {
-  group = s .group; tag = row .tag; label = labelIn (s .cover) i; root = rootIn (s .roots) i; unresolved = referencesIn (s .unresolved) (s .first + i) }
+  group = s .group;
+  tag = row .tag;
+  label = labelIn (s .cover) i;
+  root = rootIn (s .roots) i;
+  unresolved = referencesIn (s .unresolved) (s .first + i);
+}
 
 -- the events of a source's rows from row i on
 unfoldable pub eventsFrom : Taken → Source → ℕ → List Row → List Event
@@ -88,7 +93,8 @@ joinDepth none e = none
 joinDepth (some d) none = none
 joinDepth (some d) (some e) = some (record {
   least = cond (ltb (e .least) (d .least)) (e .least) (d .least);
-  greatest = cond (ltb (d .greatest) (e .greatest)) (e .greatest) (d .greatest) })
+  greatest = cond (ltb (d .greatest) (e .greatest)) (e .greatest) (d .greatest);
+})
 
 abbrev pub joinLinks : Option (List Link) → Option (List Link) → Option (List Link)
 joinLinks none m = none

@@ -9,8 +9,19 @@ use Rattle.run.specs.Step
 use Rattle.run.specs.Summary
 use Rattle.run.specs.Taking
 use Rattle.run.specs.Writing
-use Rattle.archive.specs.Computes
+use Rattle.archive.specs.Computes.{computes as archiveOpens}
 
 unfoldable pub computes : Unit {0}
-unfolding Computes.computes Archive.isErased Archive.rootIn Archive.referencesIn Archive.bodyOf Archive.eventsFrom Archive.joinAt Archive.addSource Archive.groupsOf Archive.archiveOf Archive.at Archive.parentsOf Cleaning.count Cleaning.rank Cleaning.renumber Cleaning.newParents Cleaning.survivorsFrom Cleaning.survivors Cleaning.newNumber Cleaning.isReparented Cleaning.reparented Memo.addParent Memo.memo Memo.tables Resolving.entries Resolving.survivesIn Resolving.groupsSurvive Resolving.resolveRules Routes.passes Routes.through Routes.ends Routes.Valid Source.sourceOf Step.resolve Step.step Summary.keptBy Summary.summary Summary.keptIn Summary.tabled Taking.total Taking.groupCount Taking.overRecords Taking.overNumbers Taking.unresolvedRules Taking.fileRules Taking.filesRules Taking.takeRules Writing.numberedFrom Writing.numbered Writing.rowsIn Writing.unresolvedOf Writing.rootsFrom Writing.labelsIn Writing.labelColumns Writing.edgesInto Writing.edgesOf Writing.inboundColumns Writing.slotsOfRows Writing.unresolvedColumns Writing.graphOfRows Writing.graphOf Writing.outputOf Writing.outputs Writing.writeRules Writing.bytesOf Writing.written
+unfolding
+    archiveOpens
+    Archive.isErased Archive.rootIn Archive.referencesIn Archive.bodyOf Archive.eventsFrom Archive.joinAt Archive.addSource Archive.groupsOf Archive.archiveOf Archive.at Archive.parentsOf
+    Cleaning.count Cleaning.rank Cleaning.renumber Cleaning.newParents Cleaning.survivorsFrom Cleaning.survivors Cleaning.newNumber Cleaning.isReparented Cleaning.reparented
+    Memo.addParent Memo.memo Memo.tables
+    Resolving.entries Resolving.survivesIn Resolving.groupsSurvive Resolving.resolveRules
+    Routes.passes Routes.through Routes.ends Routes.Valid
+    Source.sourceOf
+    Step.resolve Step.step
+    Summary.keptBy Summary.summary Summary.keptIn Summary.tabled
+    Taking.total Taking.groupCount Taking.overRecords Taking.overNumbers Taking.unresolvedRules Taking.fileRules Taking.filesRules Taking.takeRules
+    Writing.numberedFrom Writing.numbered Writing.rowsIn Writing.unresolvedOf Writing.rootsFrom Writing.labelsIn Writing.labelColumns Writing.edgesInto Writing.edgesOf Writing.inboundColumns Writing.slotsOfRows Writing.unresolvedColumns Writing.graphOfRows Writing.graphOf Writing.outputOf Writing.outputs Writing.writeRules Writing.bytesOf Writing.written
 computes = tt

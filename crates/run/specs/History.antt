@@ -1,15 +1,15 @@
 -- Demand 3's words: the history of a list of calls, its accepted writes, and the archive of the list.
-use mathlib.Core.List.{List, [], _∷_, _++_, map, List·Memᴰ}
+use mathlib.Core.List.{List, [], _∷_, map, List·Memᴰ}
 use Prim.Native.Nat.{ℕ}
 use Rattle.lists.specs.Lists.{flat}
 use Rattle.archive.specs.File.{File}
 use Rattle.archive.specs.Reader.{Parsed, broken, got}
 use Rattle.archive.specs.Parse.{parse}
 use Rattle.run.specs.Source.{Source, sourceOf}
-use Rattle.run.specs.Archive.{Taken, Archive, archiveOf}
+use Rattle.run.specs.Archive.{Archive, archiveOf}
 use Rattle.run.specs.Summary.{summary}
 use Rattle.run.specs.Writing.{bytesOf}
-use Rattle.run.specs.Step.{Call, takes, resolves, writes, Answer, refused, done, wrote, State, fresh, step}
+use Rattle.run.specs.Step.{Call, takes, resolves, writes, Answer, refused, done, wrote, State, step}
 
 -- a call with its answer
 pub data Did : Type 0 where

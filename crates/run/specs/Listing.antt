@@ -1,5 +1,5 @@
 -- Document 01, the worked run: what the listing program prints, and a whole cleaning from bytes to bytes.
-use mathlib.Core.Bool.{Bool, true, false, cond}
+use mathlib.Core.Bool.{cond}
 use mathlib.Core.List.{List, [], _∷_, _++_, map}
 use mathlib.Core.Option.{Option, none, some}
 use Prim.Native.Nat.{ℕ, zero, suc, _+_, _/_, _%_}
@@ -17,10 +17,10 @@ use Rattle.columns.specs.declared.refusal.Refusal.the-variants.{SliceShort}
 use Rattle.archive.specs.File.{File}
 use Rattle.run.specs.Archive.{Archive, archiveOf}
 use Rattle.run.specs.Cleaning.{newNumber, reparented}
-use Rattle.run.specs.Summary.{Summary, tabled}
+use Rattle.run.specs.Summary.{tabled}
 use Rattle.run.specs.Writing.{outputs, written}
 use Rattle.run.specs.Computes.{computes}
-use Rattle.run.specs.Step.{takes, resolves, Answer, refused, done, wrote, State, taking, resolved, spoiled, fresh, Outcome, step}
+use Rattle.run.specs.Step.{takes, resolves, Answer, refused, done, wrote, State, taking, resolved, spoiled, fresh, step}
 
 -- ── text as bytes ────────────────────────────────────────────────────────────────────────────
 

@@ -1,6 +1,6 @@
 -- `renumber_graph`'s own way to the new lists: event by event, each erased event's list kept for those that name it. proofs/ has that it is the
 -- routes' way.
-use mathlib.Core.Bool.{Bool, true, false, cond}
+use mathlib.Core.Bool.{cond}
 use mathlib.Core.List.{List, [], _∷_, _++_, map, foldl}
 use Prim.Native.Nat.{ℕ, zero, suc, _+_, _-_}
 use lib.Dec.{ltb}

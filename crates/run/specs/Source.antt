@@ -1,6 +1,6 @@
 -- Document 01, "Cleaning": a source, which is what a run keeps of a file that it has taken, its columns read.
 use mathlib.Core.Bool.{Bool, true, false}
-use mathlib.Core.List.{List, [], _∷_}
+use mathlib.Core.List.{List}
 use mathlib.Core.Option.{Option, none, some}
 use Prim.Native.Nat.{ℕ, _+_}
 use lib.ListN.{length}
@@ -37,9 +37,18 @@ coverRead (some c) = some (record { labels = labelsOf (c .labels .chains) (c .la
 -- a file with its columns read
 unfoldable pub sourceOf : File → Source
 sourceOf f = record {
-  first = f .first; group = f .group; subject = f .subject; depth = f .depth;
-  forward = slotsOf (f .first) (f .forward); reverse = slotsOf (f .first) (f .reverse); inbound = slotsOf (f .first) (f .inbound);
-  rows = f .rows; unresolved = f .unresolved; roots = f .roots; cover = coverRead (f .cover) }
+  first = f .first;
+  group = f .group;
+  subject = f .subject;
+  depth = f .depth;
+  forward = slotsOf (f .first) (f .forward);
+  reverse = slotsOf (f .first) (f .reverse);
+  inbound = slotsOf (f .first) (f .inbound);
+  rows = f .rows;
+  unresolved = f .unresolved;
+  roots = f .roots;
+  cover = coverRead (f .cover);
+}
 
 -- one past a source's last number
 abbrev pub endOf : Source → ℕ

@@ -1,7 +1,7 @@
 -- Document 01, "Refused for the state" and demand 1: a run's calls, one by one. A run takes sources, in one call or several, then resolves once,
 -- then writes, again if wanted; a step out of turn is 40. A refused call leaves the run as it is.
-use mathlib.Core.Bool.{Bool, true, false, cond}
-use mathlib.Core.List.{List, [], _∷_, _++_}
+use mathlib.Core.Bool.{cond}
+use mathlib.Core.List.{List, [], _++_}
 use mathlib.Core.Option.{Option, none, some}
 use Prim.Native.Nat.{ℕ}
 use lib.Dec.{leb}

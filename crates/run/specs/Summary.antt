@@ -1,5 +1,5 @@
 -- Document 01, "Cleaning" and demand 3: all that a cleaned archive depends on. Whatever was erased is gone from it.
-use mathlib.Core.List.{List, [], _∷_, map}
+use mathlib.Core.List.{List, [], map}
 use mathlib.Core.Option.{Option, none, some}
 use Prim.Native.Nat.{ℕ, _-_}
 use lib.ListN.{getD}

@@ -1,22 +1,22 @@
 -- Document 01, "Refused for the state" and the order of an archive's rules: what a taking refuses, and the sources that it takes.
-use mathlib.Core.Bool.{Bool, true, false, cond, _&&_, _||_, not, Bool·beq}
+use mathlib.Core.Bool.{Bool, true, _&&_, _||_, not, Bool·beq}
 use mathlib.Core.List.{List, [], _∷_, _++_, map}
 use mathlib.Core.Option.{Option, none, some}
 use Prim.Native.Nat.{ℕ, _+_}
-use lib.Dec.{ltb, leb, eqb}
+use lib.Dec.{ltb, eqb}
 use lib.ListN.{length}
-use Rattle.lists.specs.Lists.{all, sum, same, once, last, joined}
+use Rattle.lists.specs.Lists.{all, sum, same, once, last}
 use Rattle.columns.specs.Limits.{maxRecords, maxGroups, maxNumbers, kinds}
-use Rattle.columns.specs.Refusal.{Verdict, refused, accepted, unless, refuse, firstOf, firstIn}
+use Rattle.columns.specs.Refusal.{Verdict, refused, unless, refuse, firstOf, firstIn}
 use Rattle.columns.specs.EdgeSet.{forward, reverse, inbound}
 use Rattle.columns.specs.Reading.{setRules}
 use Rattle.columns.specs.Building.{subjectOk, numbersOk, depthOk, inFile}
 use Rattle.columns.specs.declared.refusal.Refusal.{Refusal}
 use Rattle.columns.specs.declared.refusal.Refusal.the-variants.{SubjectLength, NumberRange, UnresolvedChild, UnresolvedKind, DepthOrder, RootOutside, GroupOrder, SourceOrder, CoverInSome, OverRecords, OverNumbers, RecordBroken}
 use Rattle.cover.specs.Cover.{rangeRules, linkRules}
-use Rattle.archive.specs.File.{Unresolved, Root, CoverColumns, File}
+use Rattle.archive.specs.File.{Unresolved, CoverColumns, File}
 use Rattle.archive.specs.Reader.{Parsed, broken, got}
-use Rattle.run.specs.Source.{SourceCover, Source, sourceOf, endOf, isThere, rangeCount, linkCount}
+use Rattle.run.specs.Source.{Source, sourceOf, endOf, isThere, rangeCount, linkCount}
 
 -- ── 42 and 43, over the run and the whole archive ────────────────────────────────────────────
 

@@ -1,6 +1,6 @@
 -- Demand 3 as the caller sees it: the same claim over traces of contracts. Each link of a trace is what a function's contract says of the run
 -- that it was given, its call, the run that it gave back and its answer.
-use mathlib.Core.List.{List, [], _∷_, List·Memᴰ}
+use mathlib.Core.List.{List, [], _∷_}
 use mathlib.Core.Path.{_≡_}
 use Prim.Native.Nat.{ℕ}
 use Rattle.run.specs.Step.{Call, Answer, State, fresh, Outcome, step}
@@ -18,7 +18,7 @@ module _ (Run Reply : Type 0) (view : Run → State) (answered : Reply → Answe
   pub data Trace : Run → List Did → Type 0 where
     ended : {before : Run} → Trace before []
     called : {before : Run} (after : Run) (c : Call) (reply : Reply) {h : List Did}
-      → Meets after reply (step (view before) c) → Trace after h → Trace before (did c (answered reply) ∷ h)
+        → Meets after reply (step (view before) c) → Trace after h → Trace before (did c (answered reply) ∷ h)
 
   -- the claim over two traces from fresh runs
   abbrev pub ClaimOfTraces : Type 0

@@ -1,18 +1,15 @@
 -- Document 01, "Worked run and edges": the rows marked ◆, one table of questions and answers. proofs/Worked has that all agree with the rules.
 use mathlib.Core.Bool.{Bool, true, false}
-use mathlib.Core.List.{List, [], _∷_, _++_, map}
-use mathlib.Core.Option.{Option, none, some}
-use Prim.Native.Nat.{ℕ, zero, suc, _+_, _-_, _^_}
-use Prim.Native.String.{String}
+use mathlib.Core.List.{List, [], _∷_, map}
+use mathlib.Core.Option.{none, some}
+use Prim.Native.Nat.{ℕ, _+_, _-_, _^_}
 use lib.IntN.{ℤ, pos, negsuc}
 use lib.ListN.{length}
 use Rattle.lists.specs.Lists.{joined, starts}
 use Rattle.lists.specs.Text.{text}
-use Rattle.columns.specs.Limits.{kinds}
 use Rattle.columns.specs.Refusal.{Verdict, refused, accepted, numberOf}
 use Rattle.columns.specs.EdgeSet.{EdgeSet, setOf}
-use Rattle.columns.specs.Reading.{Labels}
-use Rattle.columns.specs.Building.{Graph, Built, build}
+use Rattle.columns.specs.Building.{Graph, build}
 use Rattle.columns.specs.Walk.{Walked, walk}
 use Rattle.cover.specs.Chains.{Range}
 use Rattle.cover.specs.Cover.{LinkColumns, differences, readCover}
@@ -33,9 +30,18 @@ event erased tag = record { erased = erased; tag = tag }
 -- a file of group 0 with no cover, depth, roots or unresolved records, and no edges but its forward ones, slot by slot
 abbrev pub plainFile : ℕ → List Row → List (List ℕ) → File
 plainFile first rows lists = record {
-  first = first; group = 0; subject = text "room"; depth = none;
-  forward = setOf first lists; reverse = setOf first (map (λ l. []) lists); inbound = setOf first (map (λ l. []) lists);
-  rows = rows; unresolved = []; roots = []; cover = none }
+  first = first;
+  group = 0;
+  subject = text "room";
+  depth = none;
+  forward = setOf first lists;
+  reverse = setOf first (map (λ l. []) lists);
+  inbound = setOf first (map (λ l. []) lists);
+  rows = rows;
+  unresolved = [];
+  roots = [];
+  cover = none;
+}
 
 -- four events from 100 on, of which 101 and 102 are erased: prev, then auth of each
 unfoldable pub workedFile : File
@@ -54,23 +60,50 @@ erasedFile = plainFile 100 (event true 1 ∷ event true 2 ∷ []) ([] ∷ [] ∷
 -- a graph of so many rows from a number on, its parents slot by slot
 abbrev pub graph : ℕ → ℕ → List (List ℕ) → Graph
 graph first rows lists = record {
-  subject = text "room"; first = first; rows = rows; offsets = starts 0 lists; targets = joined lists;
-  unresolved = record { children = []; kindsGiven = []; flags = [] }; depth = none; labels = none;
-  inbound = record { children = []; parents = []; kindsGiven = [] }; granuleFirst = 0; granuleRows = rows }
+  subject = text "room";
+  first = first;
+  rows = rows;
+  offsets = starts 0 lists;
+  targets = joined lists;
+  unresolved = record { children = []; kindsGiven = []; flags = [] };
+  depth = none;
+  labels = none;
+  inbound = record { children = []; parents = []; kindsGiven = [] };
+  granuleFirst = 0;
+  granuleRows = rows;
+}
 
 -- a graph of rows without parents whose events are of one chain
 abbrev pub chained : List ℕ → Graph
 chained seqs = record {
-  subject = text "room"; first = 100; rows = 2; offsets = 0 ∷ 0 ∷ 0 ∷ 0 ∷ 0 ∷ []; targets = [];
-  unresolved = record { children = []; kindsGiven = []; flags = [] }; depth = none; labels = some (record { chains = 1 ∷ 1 ∷ []; seqs = seqs });
-  inbound = record { children = []; parents = []; kindsGiven = [] }; granuleFirst = 0; granuleRows = 2 }
+  subject = text "room";
+  first = 100;
+  rows = 2;
+  offsets = 0 ∷ 0 ∷ 0 ∷ 0 ∷ 0 ∷ [];
+  targets = [];
+  unresolved = record { children = []; kindsGiven = []; flags = [] };
+  depth = none;
+  labels = some (record { chains = 1 ∷ 1 ∷ []; seqs = seqs });
+  inbound = record { children = []; parents = []; kindsGiven = [] };
+  granuleFirst = 0;
+  granuleRows = 2;
+}
 
 -- a graph of one row, named by a child of another file
 abbrev pub named : ℕ → ℕ → Graph
 named first child = record {
-  subject = text "room"; first = first; rows = 1; offsets = 0 ∷ 0 ∷ 0 ∷ []; targets = [];
-  unresolved = record { children = []; kindsGiven = []; flags = [] }; depth = none; labels = none;
-  inbound = record { children = child ∷ []; parents = first ∷ []; kindsGiven = 0 ∷ [] }; granuleFirst = 0; granuleRows = 1 }
+  subject = text "room";
+  first = first;
+  rows = 1;
+  offsets = 0 ∷ 0 ∷ 0 ∷ [];
+  targets = [];
+  unresolved = record { children = []; kindsGiven = []; flags = [] };
+  depth = none;
+  labels = none;
+  inbound = record { children = child ∷ []; parents = first ∷ []; kindsGiven = 0 ∷ [] };
+  granuleFirst = 0;
+  granuleRows = 1;
+}
 
 -- ── questions and answers ────────────────────────────────────────────────────────────────────
 
@@ -127,7 +160,6 @@ abbrev pub noEdges : List ℕ → EdgeSet
 noEdges offsets = set offsets []
 
 infix 3 _gives_
-
 unfoldable pub table : List Line
 table =
     (lists (workedFile ∷ []) gives prints (text "map 100 100\nmap 101 -\nmap 102 -\nmap 103 101\nfile 0 100 2\noffsets forward 0 1 1 3 4\ndeltas forward 10 1 6 1\noffsets reverse 0 1 2 2 2\ndeltas reverse -1 -1\noffsets inbound 0 0 0 0 0\ndeltas inbound\nreparented 1\n"))

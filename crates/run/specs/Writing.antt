@@ -1,20 +1,20 @@
 -- Document 01, "Cleaning" and "Archive records": the output files of a cleaned archive, one for each group, and what writing refuses.
-use mathlib.Core.Bool.{Bool, true, false, cond, _&&_, not}
+use mathlib.Core.Bool.{Bool, false, not}
 use mathlib.Core.List.{List, [], _∷_, _++_, map}
 use mathlib.Core.Option.{Option, none, some}
-use Prim.Native.Nat.{ℕ, zero, suc, _+_}
-use lib.Dec.{ltb, leb, eqb}
+use Prim.Native.Nat.{ℕ, suc, _+_}
+use lib.Dec.{eqb}
 use lib.ListN.{length, getD}
 use Rattle.lists.specs.Lists.{flat, filter, joined, starts, upFrom}
 use Rattle.columns.specs.Refusal.{Verdict, unless, firstIn}
 use Rattle.columns.specs.Reading.{Label, Labels}
-use Rattle.columns.specs.Building.{Depth, UnresolvedColumns, InboundColumns, Graph, Built, buildRules, builtOf, inFile}
+use Rattle.columns.specs.Building.{UnresolvedColumns, InboundColumns, Graph, Built, buildRules, builtOf, inFile}
 use Rattle.columns.specs.declared.refusal.Refusal.{Refusal}
 use Rattle.cover.specs.Chains.{Link, rangesOf}
 use Rattle.cover.specs.Cover.{columnsOf}
-use Rattle.archive.specs.File.{Row, Unresolved, Root, CoverColumns, File}
+use Rattle.archive.specs.File.{Unresolved, Root, CoverColumns, File}
 use Rattle.archive.specs.Encode.{encode}
-use Rattle.run.specs.Archive.{Reference, Body, Group}
+use Rattle.run.specs.Archive.{Group}
 use Rattle.run.specs.Summary.{Kept, Summary}
 
 -- ── the rows of an output file ───────────────────────────────────────────────────────────────
@@ -104,13 +104,18 @@ unresolvedColumns us = record { children = map (λ u. u .child) us; kindsGiven =
 -- what building is given of some rows of group g: the whole file is one granule
 unfoldable pub graphOfRows : Summary → ℕ → Group → List Numbered → Graph
 graphOfRows S g group rs = let first = firstNumber rs in let n = length rs in record {
-  subject = S .subject; first = first; rows = n;
-  offsets = starts 0 (slotsOfRows rs); targets = joined (slotsOfRows rs);
+  subject = S .subject;
+  first = first;
+  rows = n;
+  offsets = starts 0 (slotsOfRows rs);
+  targets = joined (slotsOfRows rs);
   unresolved = unresolvedColumns (flat unresolvedOf rs);
   depth = group .depth;
   labels = labelsOfGroup (group .links) rs;
   inbound = inboundColumns (edgesOf S g first (first + n));
-  granuleFirst = 0; granuleRows = n }
+  granuleFirst = 0;
+  granuleRows = n;
+}
 
 abbrev pub noGroup : Group
 noGroup = record { depth = none; links = none }
@@ -128,11 +133,18 @@ coverOfGroup (some links) rs = some (record { labels = labelColumns (labelsIn rs
 
 abbrev pub fileOfRows : List ℕ → ℕ → Group → List Numbered → Built → File
 fileOfRows subject g group rs b = record {
-  first = firstNumber rs; group = g; subject = subject; depth = group .depth;
-  forward = b .forward; reverse = b .reverse; inbound = b .inbound;
+  first = firstNumber rs;
+  group = g;
+  subject = subject;
+  depth = group .depth;
+  forward = b .forward;
+  reverse = b .reverse;
+  inbound = b .inbound;
   rows = map (λ r. record { erased = false; tag = r .row .body .tag }) rs;
-  unresolved = flat unresolvedOf rs; roots = rootsFrom 0 rs;
-  cover = coverOfGroup (group .links) rs }
+  unresolved = flat unresolvedOf rs;
+  roots = rootsFrom 0 rs;
+  cover = coverOfGroup (group .links) rs;
+}
 
 -- the output file of a group: no erased rows, its sets made from the new lists, ranges of the survivors' labels
 unfoldable pub outputOf : Summary → ℕ → File

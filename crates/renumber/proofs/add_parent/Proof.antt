@@ -35,7 +35,7 @@ mul-t : tie.Need-mul-t
 mul-t c = search slot-fits
 
 add-t : tie.Need-add-t
-add-t c = search place-fits
+add-t c = search (needs, place-fits)
 
 returns-3 : tie.Need-returns-3
 returns-3 c = search grew-none

@@ -35,7 +35,7 @@ index-requires-2 : tie.Need-index-requires-2
 index-requires-2 c κs = search needs
 
 names-erased-requires : tie.Need-names-erased-requires
-names-erased-requires c κs = (search event-ordered, search event-within)
+names-erased-requires c κs = (search (needs, event-ordered), search (needs, event-within))
 
 returns-2 : tie.Need-returns-2
 returns-2 c = search event-named

@@ -16,7 +16,7 @@ abbrev Inv-loop : tie.InvT-loop
 Inv-loop start flags numbers kind offs s all₀ base parents a b n₀ i₀ all n i =
     (i ≤ b) × (base ≤ n) × (n ≤ length all) × (length all ≡ length all₀) × (take base all ≡ take base all₀)
     × (newList start flags numbers kind (cut (take (s + 1) offs) (take base all₀)) (slice a b parents)
-      ≡ foldl (addParent start flags numbers kind (cut (take (s + 1) offs) (take base all₀))) (slice base n all) (slice i b parents))
+    ≡ foldl (addParent start flags numbers kind (cut (take (s + 1) offs) (take base all₀))) (slice base n all) (slice i b parents))
 
 abbrev μ-loop : tie.MeasureT-loop
 μ-loop start flags numbers kind offs s all₀ base parents a b n₀ i₀ all n i =

@@ -76,7 +76,8 @@ pub fn columns(block: &[u8], covered: bool) -> ([Set; 3], Option<[Vec<u32>; 2]>)
     (sets, labels)
 }
 
-/// A cover's stored form: ranges, then link columns.
+/// A cover's stored form: ranges, then link columns. The count is that of the longest column, so that columns of unequal number are
+/// all handed over.
 pub fn cover(ranges: &[Range], links: [&[u64]; 4]) -> Vec<u8> {
     let mut out = Writer::new();
     out.put_u32(ranges.len() as u32);
@@ -85,8 +86,9 @@ pub fn cover(ranges: &[Range], links: [&[u64]; 4]) -> Vec<u8> {
         out.put_u32(range.least);
         out.put_u32(range.greatest);
     }
-    out.put_u32(links[0].len() as u32);
-    if !links[0].is_empty() {
+    let count = links.iter().map(|column| column.len()).max().unwrap_or(0);
+    out.put_u32(count as u32);
+    if count > 0 {
         for column in links {
             put(&mut out, &ColumnData::U64(column.to_vec()));
         }

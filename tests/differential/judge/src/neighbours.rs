@@ -1,6 +1,8 @@
 //! Neighbours of the rules' edges: a valid archive with one thing moved to an edge or over it. The change is often refused and
 //! sometimes not; the original says which.
 
+#![allow(clippy::ptr_arg, reason = "all changes have one type")]
+
 use crate::archive::{Cover, Depth, File, Range, Root, Row, Set, Unresolved};
 use crate::random::Random;
 
@@ -203,8 +205,8 @@ fn link(random: &mut Random, files: &mut Vec<File>) {
     let room = u32::MAX.saturating_sub(u32::try_from(sum).unwrap_or(u32::MAX));
     let difference = random.of(&[0, 0, 0, 1, room, room.saturating_add(1), u32::MAX]);
     cover.links[0].push(difference);
-    for part in 1..4 {
-        cover.links[part].push(random.of(&[last[part], last[part], last[part].saturating_add(1), last[part].saturating_sub(1)]));
+    for (column, last) in cover.links.iter_mut().zip(last).skip(1) {
+        column.push(random.of(&[last, last, last.saturating_add(1), last.saturating_sub(1)]));
     }
 }
 

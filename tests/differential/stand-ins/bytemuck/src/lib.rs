@@ -14,7 +14,7 @@ unsafe impl Pod for u128 {}
 
 fn count_after<A: Pod, B: Pod>(values: &[A]) -> usize {
     let bytes = size_of_val(values);
-    assert!(bytes % size_of::<B>() == 0 && align_of::<A>() >= align_of::<B>());
+    assert!(bytes.is_multiple_of(size_of::<B>()) && align_of::<A>() >= align_of::<B>());
     bytes / size_of::<B>()
 }
 

@@ -1,0 +1,67 @@
+//! The questions over lent columns: how inputs are made, and what the original answers.
+
+mod columns;
+mod cover;
+mod making;
+mod short;
+
+use crate::cases::{Answer, Part};
+use crate::random::Random;
+
+pub struct Question {
+    pub name: &'static str,
+    /// N for a number, L for a list, in order.
+    pub form: &'static str,
+    pub make: fn(&mut Random) -> Vec<Part>,
+    /// All short inputs, where there is a list of them.
+    pub short: fn() -> Vec<Vec<Part>>,
+    /// `None` where the original has no counterpart for such an input.
+    pub ask: fn(&[Part]) -> Option<Answer>,
+}
+
+pub const ALL: [Question; 12] = [
+    Question { name: "build", form: "LNNLLLLLLNLLLLLNN", make: making::build, short: short::build, ask: columns::build },
+    Question { name: "read", form: "NNNNLLNLLNLLNLL", make: making::read, short: short::none, ask: columns::read },
+    Question { name: "parents", form: "NNNNLLNN", make: making::parents, short: short::parents, ask: columns::parents },
+    Question { name: "children", form: "NNNNLLNLLNN", make: making::children, short: short::children, ask: columns::children },
+    Question { name: "label", form: "NNLLN", make: making::label, short: short::none, ask: columns::label },
+    Question { name: "roots", form: "NNL", make: making::roots, short: short::none, ask: columns::roots },
+    Question { name: "walk", form: "NNNNLLNNN", make: making::walk, short: short::walk, ask: columns::walk },
+    Question { name: "cover", form: "LLLLLL", make: making::cover, short: short::none, ask: cover::build },
+    Question { name: "stored", form: "LLLL", make: making::stored, short: short::none, ask: cover::stored },
+    Question { name: "decode", form: "LLLLLLL", make: making::decode, short: short::none, ask: cover::decode },
+    Question { name: "window", form: "LLLNNN", make: making::window, short: short::window, ask: cover::window },
+    Question { name: "links", form: "LLLLL", make: making::links, short: short::none, ask: cover::links },
+];
+
+pub fn named(name: &str) -> Option<&'static Question> {
+    ALL.iter().find(|question| question.name == name)
+}
+
+/// Reads the parts of an input in order. A part that is not there, or a number out of its range, is `None`.
+struct Parts<'a>(std::slice::Iter<'a, Part>);
+
+impl Parts<'_> {
+    fn of(input: &[Part]) -> Parts<'_> {
+        Parts(input.iter())
+    }
+
+    fn number<T: TryFrom<i128>>(&mut self) -> Option<T> {
+        match self.0.next()? {
+            Part::Number(value) => T::try_from(*value).ok(),
+            Part::List(_) => None,
+        }
+    }
+
+    fn list<T: TryFrom<i128>>(&mut self) -> Option<Vec<T>> {
+        match self.0.next()? {
+            Part::List(values) => values.iter().map(|value| T::try_from(*value).ok()).collect(),
+            Part::Number(_) => None,
+        }
+    }
+
+    /// A number that is 0 or 1.
+    fn flag(&mut self) -> Option<bool> {
+        Some(self.number::<u8>().filter(|flag| *flag <= 1)? == 1)
+    }
+}
