@@ -1,0 +1,16 @@
+pub mod Archive0
+pub mod Archive1
+pub mod Archive2
+pub mod Archive3
+pub mod Archive4
+pub mod Archive5
+pub mod Archive6
+pub mod Archive7
+pub mod Archive8
+pub mod Archive9
+pub mod Archive10
+pub mod Archive11
+pub mod Archive12
+pub mod Archive13
+pub mod Archive14
+pub mod Archive15

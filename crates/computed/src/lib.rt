@@ -1,0 +1,1 @@
+// Archives with known answers, computed by the definitions. There is no code here.
