@@ -1,0 +1,23 @@
+-- `columns::delta::target` meets its contract.
+use borrow.Author.Needs.{needs}
+use Rattle.columns.proofs.Signs.{fits-up, stands-up, within-down, stands-down}
+use Rattle.columns.proofs.delta.target.Statement.{statement}
+use Rattle.columns.proofs.delta.target.Tie as tie
+
+magnitude-requires : tie.Need-magnitude-requires
+magnitude-requires c κs = search needs
+
+add-result : tie.Need-add-result
+add-result c = search fits-up
+
+returns : tie.Need-returns
+returns c = search stands-up
+
+sub-result : tie.Need-sub-result
+sub-result c = search within-down
+
+returns-2 : tie.Need-returns-2
+returns-2 c = search stands-down
+
+pub target-spec : {M : Type 1} → statement M
+target-spec = tie.close (tie.spec magnitude-requires add-result returns sub-result returns-2)
