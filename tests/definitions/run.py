@@ -18,7 +18,7 @@ import tempfile
 HEAD = """use mathlib.Core.Path.{_≡_, refl}
 use mathlib.Core.List.{List, [], _∷_}
 use Prim.Native.Nat.{ℕ}
-use Rattle.run.specs.Listing.{listing, cleanedBytes}
+use Rattle.cleaning.specs.Listing.{listing, cleanedBytes}
 
 input : List ℕ
 input = %s

@@ -2,7 +2,7 @@
 use mathlib.Core.Path.{_≡_, refl}
 use mathlib.Core.List.{List, [], _∷_}
 use Prim.Native.Nat.{ℕ}
-use Rattle.run.specs.Listing.{listing, cleanedBytes}
+use Rattle.cleaning.specs.Listing.{listing, cleanedBytes}
 
 input : List ℕ
 input = []

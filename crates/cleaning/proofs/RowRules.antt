@@ -1,0 +1,149 @@
+-- Building's rules on the records of some good rows: parents below and once (4, 5), unresolved records (6, 7), labels (9), inbound edges (11, 12).
+use mathlib.Core.Path.{_≡_, refl, _∙_}
+use mathlib.Core.Bool.{true, false, _&&_, not}
+use mathlib.Core.List.{List, [], _∷_, map}
+use mathlib.Core.Option.{Option, none, some}
+use Prim.Native.Nat.{ℕ, zero, suc, _+_, _*_, _≤_, _<_}
+use native.Mathlib.Omega.{arith}
+use native.Mathlib.Nat.{not-suc-le-zero, le-of-suc-le-suc, add-suc, add-zero}
+use lib.Dec.{ltb, leb, eqb}
+use lib.ListN.{length, getD, getElem?, length-map}
+use borrow.Author.Tests.{lt-leb, le-leb, lt-ltb, le-ltb, not-true}
+use Rattle.lists.specs.Lists.{mem, distinct, upFrom, Each}
+use Rattle.lists.proofs.Tests.{both}
+use Rattle.lists.proofs.Each.{each-imp, each-both, each-getD}
+use Rattle.lists.proofs.Once.{or-is-false, eqb-sym}
+use Rattle.lists.proofs.Pairs.{each-upFrom}
+use Rattle.columns.specs.Limits.{kinds}
+use Rattle.columns.specs.Refusal.{refuse, firstIn}
+use Rattle.columns.specs.EdgeSet.{eventOf}
+use Rattle.columns.specs.Building.{greater, has, recordCount, parentRules, slotRules, inFile, unresolvedRules, inboundRules}
+use Rattle.columns.specs.declared.refusal.Refusal.{Refusal}
+use Rattle.columns.specs.declared.refusal.Refusal.the-variants.{ParentNotEarlier, ParentTwice, UnresolvedChild, UnresolvedKind, InboundChild, InboundParent}
+use Rattle.archive.specs.File.{Unresolved}
+use Rattle.cleaning.specs.Writing.{Numbered, Edge, slotsOfRows}
+use Rattle.cleaning.proofs.Good.{GoodLists}
+use Rattle.columns.proofs.FirstBroken.{none-of, none-in, passes, fails}
+use Rattle.lists.proofs.From.{EachFrom, from-eq, from-append, from-each}
+use Rattle.cleaning.proofs.Numbers.{Counted}
+use Rattle.cleaning.proofs.Inbound.{Inbound}
+
+-- ── 4 and 5 ──────────────────────────────────────────────────────────────────────────────────
+
+-- numbers of a list without p are not p
+not-named : (p : ℕ) (qs : List ℕ) → mem p qs ≡ false → Each (λ q. eqb q p ≡ false) qs
+unfolding mem
+not-named p [] m = tt
+not-named p (q ∷ qs) m = let o = or-is-false (eqb p q) (mem p qs) m in (eqb-sym q p ∙ o .0, not-named p qs (o .1))
+
+parents-none : (event : ℕ) (seen ps : List ℕ) → Each (λ p. p < event) ps → distinct ps ≡ true → Each (λ p. mem p seen ≡ false) ps → parentRules event seen ps ≡ none
+unfolding parentRules distinct mem
+parents-none event seen [] l d h = refl
+parents-none event seen (p ∷ ps) l d h =
+    let r = both (not (mem p ps)) (distinct ps) d in
+    none-of (refuse ParentNotEarlier (leb event p) ∷ refuse ParentTwice (mem p seen) ∷ parentRules event (p ∷ seen) ps ∷ []) (
+      fails ParentNotEarlier (leb event p) (lt-leb event p (l .0)),
+      (
+        fails ParentTwice (mem p seen) (h .0),
+        (
+          parents-none event (p ∷ seen) ps (l .1) (r .1)
+              (each-imp (λ q. (eqb q p ≡ false) × (mem q seen ≡ false)) (λ q. mem q (p ∷ seen) ≡ false) ps (λ q b. rw (b .0) (b .1))
+              (each-both (λ q. eqb q p ≡ false) (λ q. mem q seen ≡ false) ps (not-named p ps (not-true (mem p ps) (r .0))) (h .1))),
+          tt,
+        ),
+      ),
+    )
+
+unseen : (ps : List ℕ) → Each (λ p. mem p [] ≡ false) ps
+unfolding mem
+unseen [] = tt
+unseen (p ∷ ps) = (refl, unseen ps)
+
+-- a slot's parents pass
+abbrev SlotPasses : ℕ → ℕ → List ℕ → Type 0
+SlotPasses first slot ps = parentRules (eventOf first slot) [] ps ≡ none
+
+slots-none : (first slot : ℕ) (lists : List (List ℕ)) → EachFrom (SlotPasses first) slot lists → slotRules first slot lists ≡ none
+unfolding slotRules
+slots-none first slot [] h = refl
+slots-none first slot (ps ∷ lists) h =
+    none-of (parentRules (eventOf first slot) [] ps ∷ slotRules first (suc slot) lists ∷ []) (h .0, (slots-none first (suc slot) lists (h .1), tt))
+
+rows-pass : (first i : ℕ) (rs : List Numbered) → Counted (first + i) rs → Each (λ r. GoodLists (r .number) (r .row .parents)) rs
+    → EachFrom (SlotPasses first) (kinds * i) (slotsOfRows rs)
+unfolding slotsOfRows
+rows-pass first i [] c h = tt
+rows-pass first i (r ∷ rs) c h =
+    from-append (SlotPasses first) (kinds * i) (r .row .parents) (slotsOfRows rs)
+    (from-each (SlotPasses first) (λ ps. (distinct ps ≡ true) × Each (λ p. p < r .number) ps) (kinds * i + kinds) (kinds * i) (r .row .parents)
+    (λ slot ps a b q. let e : eventOf first slot ≡ r .number = omega (arith, c .0) in rw e (parents-none (r .number) [] ps (q .1) (q .0) (unseen ps)))
+    (omega (arith, h .0 .each-kind))
+    (each-both (λ ps. distinct ps ≡ true) (λ ps. Each (λ p. p < r .number) ps) (r .row .parents) (h .0 .once) (h .0 .below)))
+    (from-eq (SlotPasses first) (kinds * suc i) (kinds * i + length (r .row .parents)) (slotsOfRows rs) (omega (arith, h .0 .each-kind))
+    (rows-pass first (suc i) rs (rw (add-suc first i) (c .1)) (h .1)))
+
+pub row-slots-none : (first : ℕ) (rs : List Numbered) → Counted first rs → Each (λ r. GoodLists (r .number) (r .row .parents)) rs
+    → slotRules first 0 (slotsOfRows rs) ≡ none
+row-slots-none first rs c h = slots-none first 0 (slotsOfRows rs) (rows-pass first 0 rs (rw (add-zero first) c) h)
+
+-- ── records in parallel columns ──────────────────────────────────────────────────────────────
+
+get-map : {A : Type 0} (f : A → ℕ) (xs : List A) (i : ℕ) (d : A) → i < length xs → getElem? (map f xs) i ≡ some (f (getD xs i d))
+get-map f [] i d l = absurd (not-suc-le-zero l)
+get-map f (x ∷ xs) zero d l = refl
+get-map f (x ∷ xs) (suc i) d l = get-map f xs i d (le-of-suc-le-suc l)
+
+greater-same : (n : ℕ) → greater n n ≡ n
+unfolding greater
+greater-same n = rw (le-ltb n n (omega arith))
+
+-- the columns of some records, each of which passes, pass
+module _ {A : Type 0} (d : A) (rule : Option ℕ → Option ℕ → Option ℕ → Option Refusal) (f g h : A → ℕ) (xs : List A) where
+  count-columns : recordCount (map f xs) (map g xs) (map h xs) ≡ length xs
+  count-columns = rw (length-map xs f, length-map xs g, length-map xs h, greater-same (length xs), greater-same (length xs))
+
+  columns-none : Each (λ x. rule (some (f x)) (some (g x)) (some (h x)) ≡ none) xs
+      → firstIn (λ i. rule (getElem? (map f xs) i) (getElem? (map g xs) i) (getElem? (map h xs) i)) (upFrom 0 (recordCount (map f xs) (map g xs) (map h xs))) ≡ none
+  columns-none e = rw count-columns
+      (none-in (λ i. rule (getElem? (map f xs) i) (getElem? (map g xs) i) (getElem? (map h xs) i)) (upFrom 0 (length xs))
+      (each-imp (λ i. (0 ≤ i) × (i < 0 + length xs)) (λ i. rule (getElem? (map f xs) i) (getElem? (map g xs) i) (getElem? (map h xs) i) ≡ none) (upFrom 0 (length xs))
+      (λ i b. let l : i < length xs = omega arith in
+      rw (get-map f xs i d l, get-map g xs i d l, get-map h xs i d l) (each-getD (λ x. rule (some (f x)) (some (g x)) (some (h x)) ≡ none) xs i d e l))
+      (each-upFrom 0 (length xs))))
+
+in-file : (first end n : ℕ) → first ≤ n → n < end → inFile first end n ≡ true
+unfolding inFile
+in-file first end n l h = rw (le-leb first n l) (lt-ltb n end h)
+
+module _ (first end : ℕ) where
+  -- an unresolved record that passes
+  abbrev pub RecordPasses : Unresolved → Type 0
+  RecordPasses u = (first ≤ u .child) × (u .child < end) × (u .kind < kinds)
+
+  pub unresolved-none : (us : List Unresolved) → Each RecordPasses us
+      → firstIn (λ i. unresolvedRules first end (getElem? (map (λ u. u .child) us) i) (getElem? (map (λ u. u .kind) us) i) (getElem? (map (λ u. 0) us) i))
+      (upFrom 0 (recordCount (map (λ u. u .child) us) (map (λ u. u .kind) us) (map (λ u. 0) us))) ≡ none
+  unfolding unresolvedRules has
+  unresolved-none us h =
+      columns-none (record { child = 0; kind = 0; handle = 0 }) (unresolvedRules first end) (λ u. u .child) (λ u. u .kind) (λ u. 0) us
+      (each-imp RecordPasses (λ u. unresolvedRules first end (some (u .child)) (some (u .kind)) (some 0) ≡ none) us
+      (λ u b. none-of (refuse UnresolvedChild (not (inFile first end (u .child))) ∷ refuse UnresolvedKind (not (ltb (u .kind) kinds && eqb 0 0)) ∷ []) (
+        passes UnresolvedChild (inFile first end (u .child)) (in-file first end (u .child) (b .0) (b .1)),
+        (passes UnresolvedKind (ltb (u .kind) kinds && eqb 0 0) (rw (lt-ltb (u .kind) kinds (b .2))), tt),
+      )) h)
+
+  pub inbound-none : (es : List Edge) → Each (Inbound first end) es
+      → firstIn (λ i. inboundRules first end (getElem? (map (λ e. e .child) es) i) (getElem? (map (λ e. e .parent) es) i) (getElem? (map (λ e. e .kind) es) i))
+      (upFrom 0 (recordCount (map (λ e. e .child) es) (map (λ e. e .parent) es) (map (λ e. e .kind) es))) ≡ none
+  unfolding inboundRules has
+  inbound-none es h =
+      columns-none (record { child = 0; parent = 0; kind = 0 }) (inboundRules first end) (λ e. e .child) (λ e. e .parent) (λ e. e .kind) es
+      (each-imp (Inbound first end) (λ e. inboundRules first end (some (e .child)) (some (e .parent)) (some (e .kind)) ≡ none) es
+      (λ e b. none-of (refuse InboundChild (not (leb end (e .child))) ∷ refuse InboundParent (not (inFile first end (e .parent) && ltb (e .kind) kinds)) ∷ []) (
+        passes InboundChild (leb end (e .child)) (le-leb end (e .child) (b .0)),
+        (
+          passes InboundParent (inFile first end (e .parent) && ltb (e .kind) kinds)
+              (rw (in-file first end (e .parent) (b .1) (b .2), lt-ltb (e .kind) kinds (b .3))),
+          tt,
+        ),
+      )) h)

@@ -1,0 +1,43 @@
+-- The output files of a good summary that meet neither 10 nor 15 are again files that a run takes, resolves and writes, and their summary is that summary.
+use mathlib.Core.Path.{_≡_, refl, subst, sym}
+use mathlib.Core.Bool.{true, false}
+use mathlib.Core.List.{map}
+use Prim.Native.Nat.{ℕ, zero, suc}
+use native.Mathlib.Omega.{arith}
+use lib.ListN.{length}
+use Rattle.lists.specs.Lists.{all, isEmpty, upFrom}
+use Rattle.cleaning.specs.Summary.{Summary}
+use Rattle.cleaning.specs.Writing.{graphOf, outputOf, outputs, groupNumbers}
+use Rattle.cleaning.specs.Accepted.{chainsRise, spansFit, Cleanable}
+use Rattle.cleaning.proofs.Good.{Good}
+use Rattle.cleaning.proofs.Again.{archive-again, summary-again}
+use Rattle.cleaning.proofs.OutputRules.{files-rules}
+use Rattle.cleaning.proofs.OutputLimits.{records-within, numbers-within}
+use Rattle.cleaning.proofs.OutputFits.{files-fit}
+use Rattle.cleaning.proofs.Resolved.{groups-survive, few-entries}
+
+some-output : (S : Summary) → Good S → isEmpty (outputs S) ≡ false
+unfolding outputs isEmpty upFrom
+some-output S good = go (length (S .groups)) refl
+  where
+    go : (n : ℕ) → n ≡ length (S .groups) → isEmpty (map (outputOf S) (upFrom 0 n)) ≡ false
+    go zero e = absurd (omega (arith, good .some))
+    go (suc n) e = refl
+
+-- neither 10 nor 15 is met in any group
+abbrev pub Writable : Summary → Type 0
+Writable S = (all (λ g. chainsRise (graphOf S g)) (groupNumbers S) ≡ true) × (all (λ g. spansFit (graphOf S g)) (groupNumbers S) ≡ true)
+
+pub cleanable-again : (S : Summary) → Good S → Writable S → Cleanable (outputs S)
+cleanable-again S good w =
+    let again = subst Writable (sym (summary-again S good)) w in record {
+      fits = files-fit S good (w .1);
+      files = some-output S good;
+      records = records-within S good;
+      numbers = numbers-within S good;
+      rules = files-rules S good;
+      newLists = rw (archive-again S good) (few-entries S good);
+      survivors = rw (archive-again S good) (groups-survive S good);
+      chains = again .0;
+      spans = again .1;
+    }

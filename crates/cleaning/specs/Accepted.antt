@@ -1,0 +1,61 @@
+-- Demand 1 and 3: which archives are taken, resolved and written, so that the claim speaks of something. proofs/Accepted has that these are.
+use mathlib.Core.Bool.{Bool, true, false, _&&_}
+use mathlib.Core.List.{List, [], _∷_, map}
+use mathlib.Core.Option.{Option, none, some}
+use mathlib.Core.Path.{_≡_}
+use Prim.Native.Nat.{ℕ, _≤_}
+use lib.ListN.{length}
+use Rattle.lists.specs.Lists.{Each, all, isEmpty}
+use Rattle.columns.specs.Limits.{maxNumbers}
+use Rattle.columns.specs.Reading.{Labels, labelsOf}
+use Rattle.columns.specs.Building.{Graph, seqsRise, deltasFit, granuleStart, forwardPart, reversePart, inboundPart}
+use Rattle.archive.specs.File.{File}
+use Rattle.archive.specs.Fits.{FileFits}
+use Rattle.archive.specs.Encode.{encode}
+use Rattle.cleaning.specs.Source.{sourceOf}
+use Rattle.cleaning.specs.Taking.{overRecords, overNumbers, filesRules}
+use Rattle.cleaning.specs.Archive.{Archive, archiveOf}
+use Rattle.cleaning.specs.Memo.{tables}
+use Rattle.cleaning.specs.Summary.{summary}
+use Rattle.cleaning.specs.Resolving.{entries, groupsSurvive}
+use Rattle.cleaning.specs.Writing.{graphOf, groupNumbers}
+use Rattle.cleaning.specs.Step.{takes, resolves, writes, fresh}
+use Rattle.cleaning.specs.History.{history, Wrote, cleaned}
+
+-- the archive of files taken by a fresh run
+abbrev pub archiveOfFiles : List File → Archive
+archiveOfFiles fs = archiveOf (record { sources = map sourceOf fs })
+
+abbrev pub labelsRise : Option Labels → Bool
+labelsRise none = true
+labelsRise (some c) = seqsRise [] (labelsOf (c .chains) (c .seqs))
+
+-- a group's output is not refused with 10: in each chain the survivors' seqs rise
+unfoldable pub chainsRise : Graph → Bool
+chainsRise g = labelsRise (g .labels)
+
+-- nor with 15: every event minus target is a number of signed 64 bits
+unfoldable pub spansFit : Graph → Bool
+spansFit g = deltasFit (granuleStart g) (forwardPart g) && (deltasFit (granuleStart g) (reversePart g) && deltasFit (granuleStart g) (inboundPart g))
+
+-- valid files within the limits, with a survivor in every group and neither 10 nor 15 at writing
+pub record Cleanable (fs : List File) : Type 0 where
+  pub fits : Each FileFits fs
+  pub files : isEmpty fs ≡ false
+  pub records : overRecords [] fs ≡ false
+  pub numbers : overNumbers [] fs ≡ false
+  pub rules : filesRules none fs ≡ none
+  pub newLists : entries (tables (archiveOfFiles fs)) ≤ maxNumbers
+  pub survivors : groupsSurvive (archiveOfFiles fs) ≡ true
+  pub chains : all (λ g. chainsRise (graphOf (summary (archiveOfFiles fs)) g)) (groupNumbers (summary (archiveOfFiles fs))) ≡ true
+  pub spans : all (λ g. spansFit (graphOf (summary (archiveOfFiles fs)) g)) (groupNumbers (summary (archiveOfFiles fs))) ≡ true
+
+-- such files are taken, resolved and written, as the cleaned archive
+abbrev pub Accepted : Type 0
+Accepted = (fs : List File) → Cleanable fs → (room : ℕ) → length (cleaned (archiveOfFiles fs)) ≤ room
+    → Wrote (history fresh (takes (encode fs) ∷ resolves ∷ writes room ∷ [])) (cleaned (archiveOfFiles fs))
+
+-- a cleaned archive, taken again, is written as the same bytes
+abbrev pub Idempotent : Type 0
+Idempotent = (fs : List File) → Cleanable fs → (room : ℕ) → length (cleaned (archiveOfFiles fs)) ≤ room
+    → Wrote (history fresh (takes (cleaned (archiveOfFiles fs)) ∷ resolves ∷ writes room ∷ [])) (cleaned (archiveOfFiles fs))
