@@ -1,13 +1,3 @@
 pub mod Links
 pub mod Stored
-pub mod Anyone
-pub mod Verdicts
-pub mod Climbing
-pub mod Ranged
-pub mod Windows
-pub mod Rowed
-pub mod Columned
-pub mod Fitting
-pub mod Readings
-pub mod Encoding
 pub mod Extremes

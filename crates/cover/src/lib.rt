@@ -1,8 +1,2 @@
-// The chain cover of a file: ranges, links and the questions over them. specs/ says what each answer is.
+// The chain cover of a file: ranges, links and the questions over them. specs/ says what each answer is; the code stands in the crates above.
 pub mod answer;
-pub mod encode;
-mod limits;
-pub mod questions;
-mod ranges;
-pub mod read;
-mod rows;

@@ -1,0 +1,62 @@
+use mathlib.Core.Path.{_≡_}
+use Prim.Native.Nat.{_+_, _-_, _≤_, _<_}
+use lib.ListN.{length, drop}
+use lib.Seq.{sets}
+use Rattle.cover.specs.Answers.{over}
+use Rattle.cover_rows.proofs.Columned.{over-sets, copied, copies}
+use borrow.Author.Needs.{needs}
+use Rattle.cover_rows.proofs.copy_column.Statement.{statement}
+use Rattle.cover_rows.proofs.copy_column.Tie as tie
+
+abbrev Inv-loop : tie.InvT-loop
+Inv-loop column out₀ i₀ out i = (i ≤ length column) × (length out ≡ length out₀) × (over column out₀ ≡ sets out i (drop i column))
+
+abbrev μ-loop : tie.MeasureT-loop
+μ-loop column out₀ i₀ out i = length column - i
+
+loop-holds : tie.Need-loop-holds Inv-loop μ-loop
+loop-holds c = (search needs, search needs, search over-sets)
+
+mul-out : tie.Need-mul-out Inv-loop μ-loop
+mul-out c = search needs
+
+shared-slice-read-out : tie.Need-shared-slice-read-out Inv-loop μ-loop
+shared-slice-read-out c = search needs
+
+mul-out-2 : tie.Need-mul-out-2 Inv-loop μ-loop
+mul-out-2 c = search needs
+
+slice-write-out : tie.Need-slice-write-out Inv-loop μ-loop
+slice-write-out c = search needs
+
+add-i : tie.Need-add-i Inv-loop μ-loop
+add-i c = search needs
+
+loop-less : tie.Need-loop-less Inv-loop μ-loop
+loop-less c = search needs
+
+loop-again : tie.Need-loop-again Inv-loop μ-loop
+loop-again c = (search needs, search needs, search copies)
+
+same-length : tie.Need-same-length Inv-loop μ-loop
+same-length c = search needs
+
+returns : tie.Need-returns Inv-loop μ-loop
+returns c = search copied
+
+pub copy-column-spec : {M : Type 1} → statement M
+copy-column-spec =
+    tie.close
+    (tie.spec
+    Inv-loop
+    μ-loop
+    loop-holds
+    mul-out
+    shared-slice-read-out
+    mul-out-2
+    slice-write-out
+    add-i
+    loop-less
+    loop-again
+    same-length
+    returns)
