@@ -1,12 +1,4 @@
 pub mod RootRows
-pub mod RecordParts
-pub mod SlotTables
-pub mod ParentTurns
-pub mod ChainTurns
-pub mod SpanTurns
-pub mod EdgeTables
-pub mod BuildOrder
-pub mod RuleGroups
 pub mod SpanWrites
 pub mod SetWrites
 pub mod StartWrites

@@ -1,48 +1,23 @@
 -- State roots: one turn of each loop over the events, and what each test of `state_root_entries` says of its verdict.
-use mathlib.Core.Path.{_≡_, refl, sym, _∙_, ap}
-use mathlib.Core.Bool.{Bool, true, false, not, _&&_, _||_}
-use mathlib.Core.Logic.{inl, inr}
-use mathlib.Core.List.{List, [], _∷_, _++_, map}
-use Prim.Native.Nat.{ℕ, zero, suc, _+_, _-_, _≤_, _<_}
+use mathlib.Core.Path.{_≡_, sym, _∙_}
+use mathlib.Core.Bool.{Bool, true, false, not, _&&_}
+use mathlib.Core.List.{List, [], _∷_, _++_}
+use Prim.Native.Nat.{ℕ, suc, _+_, _-_, _≤_, _<_}
 use native.Mathlib.Numerals.{add-one}
 use native.Mathlib.Omega.{arith}
-use lib.Dec.{ltb, leb}
 use lib.ListN.{length, getD, set, drop, drop-of-length-le, length-map}
 use lib.Seq.{sets, sets-eq, drop-cons}
-use borrow.Author.Tests.{lt-ltb, le-ltb, le-leb, lt-leb, ltb-true, ltb-false, leb-true, not-true, not-false}
+use borrow.Author.Tests.{lt-ltb, le-ltb, not-true, not-false}
 use Rattle.lists.specs.Lists.{all, any}
-use Rattle.lists.proofs.Tests.{tested, both}
-use Rattle.columns.specs.Limits.{maxRecords, recordsRoom}
-use Rattle.columns.specs.Refusal.{Verdict, refused, accepted, unless, refuse, firstOf, short, limits}
+use Rattle.lists.proofs.Tests.{both}
+use Rattle.columns.specs.Refusal.{Verdict, refused, accepted, unless, firstOf, short, limits}
 use Rattle.columns.specs.Building.{inFile}
 use Rattle.columns.specs.Roots.{rootEntries}
 use Rattle.building.specs.Written.{records, rootsAnswer, over, rowsOf}
 use Rattle.columns.specs.declared.refusal.Refusal.{Refusal}
 use Rattle.columns.specs.declared.refusal.Refusal.the-variants.{RootOutside, SliceShort, OverRecords}
 use Rattle.building.specs.declared.roots.Roots.the-variants.{Rows, Refused}
-
--- ── a number of the file ─────────────────────────────────────────────────────────────────────
-
-module _ (first rows number : ℕ) where
-  pub before-file : number < first → false ≡ inFile first (first + rows) number
-  unfolding inFile
-  before-file h = rw (lt-leb first number h)
-
-  pub from-first : first ≤ number → ltb (number - first) rows ≡ inFile first (first + rows) number
-  unfolding inFile
-  from-first h =
-      rw (le-leb first number h) (elim (tested (ltb (number - first) rows)) [
-        | inl e ↦ rw (e, lt-ltb number (first + rows) (omega (arith, ltb-true (number - first) rows e)))
-        | inr e ↦ rw (e, le-ltb number (first + rows) (omega (arith, ltb-false (number - first) rows e)))
-      ])
-
-  pub in-file-low : inFile first (first + rows) number ≡ true → first ≤ number
-  unfolding inFile
-  in-file-low e = leb-true first number (both (leb first number) _ e .0)
-
-  pub in-file-high : inFile first (first + rows) number ≡ true → number < first + rows
-  unfolding inFile
-  in-file-high e = ltb-true number (first + rows) (both (leb first number) _ e .1)
+use Rattle.records.proofs.FileNumbers.{in-file-low}
 
 -- ── every event ──────────────────────────────────────────────────────────────────────────────
 

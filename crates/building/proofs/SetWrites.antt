@@ -1,21 +1,21 @@
 -- One turn of the loop that writes a granule's deltas, slot after slot.
-use mathlib.Core.Path.{_≡_, refl, sym, _∙_, ap}
-use mathlib.Core.Bool.{Bool, true, false, _&&_}
+use mathlib.Core.Path.{_≡_, refl, sym, _∙_}
+use mathlib.Core.Bool.{true, _&&_}
 use mathlib.Core.List.{List, [], _∷_, _++_, map}
 use Prim.Native.Nat.{ℕ, zero, suc, _+_, _-_, _*_, _/_, _≤_, _<_}
 use native.Mathlib.Nat.{add-zero}
 use native.Mathlib.Numerals.{add-one}
 use native.Mathlib.Omega.{arith}
 use lib.IntN.{ℤ}
-use lib.ListN.{length, getD, set, take, drop, drop-of-length-le, length-take, length-drop, length-map}
+use lib.ListN.{length, getD, set, drop, drop-of-length-le, length-take, length-drop, length-map}
 use lib.Seq.{slice, sets, drop-cons, getD-take, getD-drop, length-slice}
 use Rattle.lists.specs.Lists.{part, joined}
 use Rattle.lists.proofs.Tests.{both}
-use Rattle.columns.specs.EdgeSet.{offsetsForm, cut, eventOf, deltaOf, deltasFrom}
+use Rattle.columns.specs.EdgeSet.{offsetsForm, cut, deltaOf, deltasFrom}
 use Rattle.columns.specs.Building.{deltasFit}
-use Rattle.building.specs.Written.{spansFit, slotsFit}
-use Rattle.building.proofs.SlotTables.{Table, table-of, length-cut, getD-cut}
-use Rattle.building.proofs.SpanTurns.{deltas-slots}
+use Rattle.spans.specs.Spanned.{spansFit, slotsFit}
+use Rattle.rules.proofs.SlotTables.{Table, table-of, length-cut, getD-cut}
+use Rattle.spans.proofs.SpanTurns.{deltas-slots}
 
 sets-append : {A : Type 0} (xs ys : List A) (l : List A) (i : ℕ) → sets l i (xs ++ ys) ≡ sets (sets l i xs) (i + length xs) ys
 sets-append [] ys l i = let z : i + 0 ≡ i = omega arith in rw z

@@ -1,11 +1,10 @@
 -- Deltas as the machine makes them, and one turn of the loop that writes a slot's deltas.
 use mathlib.Core.Path.{_≡_, refl, sym, _∙_, ap}
-use mathlib.Core.Bool.{Bool, true, false, _&&_}
-use mathlib.Core.List.{List, [], _∷_, map}
-use Prim.Native.Nat.{ℕ, zero, suc, _+_, _-_, _^_, _≤_, _<_}
+use mathlib.Core.Bool.{true, _&&_}
+use mathlib.Core.List.{List, map}
+use Prim.Native.Nat.{ℕ, zero, suc, _+_, _-_, _≤_, _<_}
 use native.Mathlib.Numerals.{add-one}
 use native.Mathlib.Omega.{arith}
-use lib.Dec.{ltb, leb}
 use lib.IntN.{ℤ, pos, negsuc, _-ℤ_}
 use lib.ListN.{length, getD, set}
 use lib.Seq.{slice, sets, slice-cons}
@@ -17,9 +16,9 @@ use Rattle.lists.specs.Lists.{all}
 use Rattle.lists.proofs.Tests.{both}
 use Rattle.columns.specs.EdgeSet.{deltaOf}
 use Rattle.columns.specs.Building.{fits63}
-use Rattle.building.specs.Written.{spansFit}
-use Rattle.building.proofs.ParentTurns.{slice-none}
-use Rattle.building.proofs.SpanTurns.{delta-down, delta-up, span-down, span-up}
+use Rattle.spans.specs.Spanned.{spansFit}
+use Rattle.rules.proofs.ParentTurns.{slice-none}
+use Rattle.spans.proofs.SpanTurns.{delta-down, delta-up, span-down, span-up}
 
 below : (m : ℕ) → negsuc 0 -ℤ pos m ≡ negsuc m
 below zero = refl

@@ -6,12 +6,12 @@ use Prim.Native.Nat.{ℕ, zero, suc, _+_, _-_, _*_, _≤_, _<_}
 use native.Mathlib.Nat.{add-zero}
 use native.Mathlib.Numerals.{add-one}
 use native.Mathlib.Omega.{arith}
-use lib.ListN.{length, getD, set, take, drop, drop-of-length-le, length-take, length-drop, length-set}
+use lib.ListN.{length, getD, set, drop, drop-of-length-le, length-take, length-drop, length-set}
 use lib.Seq.{sets, drop-cons, drop-drop, getD-take, getD-drop, length-slice}
 use Rattle.lists.specs.Lists.{part, starts}
 use Rattle.lists.proofs.Flat.{length-starts}
 use Rattle.columns.specs.EdgeSet.{offsetsForm, cut}
-use Rattle.building.proofs.SlotTables.{Table, table-of, length-cut, getD-cut}
+use Rattle.rules.proofs.SlotTables.{Table, table-of, length-cut, getD-cut}
 use Rattle.building.proofs.SetWrites.{climbs}
 
 head-is : (a : ℕ) (ls : List (List ℕ)) → getD (starts a ls) 0 0 ≡ a

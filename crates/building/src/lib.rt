@@ -1,8 +1,3 @@
-// Building the edge columns of a granule: what is refused, in order, and the state roots of a file. The definitions are those of columns.
-pub mod building;
-mod chains;
-mod records;
+// Building the edge columns of a granule, and the state roots of a file. The definitions are those of columns.
 pub mod roots;
-mod rules;
 mod sets;
-mod spans;

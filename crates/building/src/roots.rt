@@ -1,5 +1,6 @@
 // `state_root_entries`: the rows of the events that have a state root.
 use columns::refusal::Refusal;
+use records::parts::is_in_file;
 ghost use mathlib.Core.Path.{_≡_};
 ghost use mathlib.Core.Bool.{true};
 ghost use mathlib.Core.List.{[], _∷_, _++_};
@@ -14,16 +15,6 @@ ghost use Rattle.building.specs.Written.{records, rootsAnswer, over, row
 pub enum Roots {
     Rows(usize),
     Refused(Refusal),
-}
-
-// Whether a number is one of the rows from `first` on.
-pub(crate) fn is_in_file(first: u64, rows: usize, number: u64) -> bool
-    ensures { λ r. ⌜ r ≡ inFile first (first + rows) number ⌝ }
-{
-    if number < first {
-        return false;
-    }
-    number - first < rows as u64
 }
 
 // Whether every event is in the file.

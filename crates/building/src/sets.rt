@@ -1,5 +1,5 @@
 // A set's columns written: for each slot of a granule's rows where it starts, and the deltas of its targets.
-use crate::rules::index;
+use rules::slots::index;
 ghost use mathlib.Core.Path.{_≡_};
 ghost use mathlib.Core.Bool.{true};
 ghost use mathlib.Core.List.{[], map};
@@ -10,7 +10,7 @@ ghost use Rattle.lists.specs.Lists.{part, joined, starts};
 ghost use Rattle.columns.specs.Limits.{end64};
 ghost use Rattle.columns.specs.EdgeSet.{offsetsForm, cut, deltaOf, deltasFrom};
 ghost use Rattle.columns.specs.Building.{fits63, deltasFit};
-ghost use Rattle.building.specs.Written.{spansFit};
+ghost use Rattle.spans.specs.Spanned.{spansFit};
 
 // Event minus target, where that is a number of signed 64 bits.
 fn delta(event: u64, target: u64) -> i64

@@ -7,5 +7,3 @@ pub mod Offsets
 pub mod Turns
 pub mod Checks
 pub mod Writes
-pub mod Asked
-pub mod ThreeSets

@@ -1,6 +1,6 @@
 -- What a reader answers and leaves in the slices that it is lent, as a view of the verdict that the definitions give.
 use mathlib.Core.Bool.{Bool}
-use mathlib.Core.List.{List, [], _∷_, _++_}
+use mathlib.Core.List.{List, [], _∷_}
 use mathlib.Core.Option.{Option, none, some}
 use Prim.Native.Nat.{ℕ}
 use lib.Dec.{ltb}
@@ -11,7 +11,7 @@ use Rattle.lists.specs.Lists.{any, joined}
 use Rattle.columns.specs.Limits.{numbersRoom, maxRecords, end32}
 use Rattle.columns.specs.Refusal.{Verdict, refused, accepted, refuse, firstOf, Lent, limits}
 use Rattle.columns.specs.EdgeSet.{EdgeSet, reverse, inbound, isNumber}
-use Rattle.columns.specs.Reading.{Label, Labels, setRules, setLengths, labelRules}
+use Rattle.columns.specs.Reading.{Labels, setRules, setLengths}
 use Rattle.columns.specs.declared.kind.Kind.{Kind}
 use Rattle.columns.specs.declared.kind.Kind.the-variants.{Prev, Auth}
 use Rattle.columns.specs.declared.refusal.Refusal.{Refusal}
@@ -20,8 +20,6 @@ use Rattle.columns.specs.declared.reading.Checked.{Checked}
 use Rattle.columns.specs.declared.reading.Checked.the-variants.{Kept, Broken}
 use Rattle.columns.specs.declared.reading.Counted.{Counted}
 use Rattle.columns.specs.declared.reading.Counted.the-variants.{Entries, Refused}
-use Rattle.columns.specs.declared.questions.Labelled.{Labelled}
-use Rattle.columns.specs.declared.questions.Labelled.the-variants as labelled
 
 -- a kind's place among the slots of a row
 abbrev pub kindOf : Kind → ℕ
@@ -65,15 +63,6 @@ lentRules set first rows end s lent = firstOf (limits (rows ∷ []) (setLengths 
 unfoldable pub bothRules : ℕ → ℕ → ℕ → EdgeSet → EdgeSet → Option Refusal
 bothRules first rows end r i = firstOf (setRules reverse first rows end r ∷ setRules inbound first rows end i ∷ [])
 
--- the same with their limits
-unfoldable pub childrenRules : ℕ → ℕ → ℕ → EdgeSet → EdgeSet → List Lent → Option Refusal
-childrenRules first rows end r i lent =
-    firstOf (limits (rows ∷ []) (setLengths r ++ setLengths i) lent ∷ setRules reverse first rows end r ∷ setRules inbound first rows end i ∷ [])
-
--- the limits and the rules of label columns that are lent by themselves
-unfoldable pub lentLabelRules : ℕ → Labels → Option Refusal
-lentLabelRules rows c = firstOf (limits (rows ∷ []) (length (c .chains) ∷ length (c .seqs) ∷ []) [] ∷ labelRules rows c ∷ [])
-
 -- what is answered of rules: the first that is broken, if one is
 abbrev pub checkedOf : Option Refusal → Checked
 checkedOf none = Kept
@@ -95,11 +84,3 @@ countedOf (accepted l) = Entries (length l)
 unfoldable pub writtenOver : List ℕ → Verdict (List ℕ) → List ℕ
 writtenOver old (refused r) = old
 writtenOver old (accepted l) = sets old 0 l
-
--- ── a label as the answer ────────────────────────────────────────────────────────────────────
-
--- the label, none, or the refusal
-abbrev pub labelledOf : Verdict (Option Label) → Labelled
-labelledOf (refused r) = labelled.Refused r
-labelledOf (accepted none) = labelled.Unlabelled
-labelledOf (accepted (some l)) = labelled.At (record { chain = l .chain; seq = l .seq })

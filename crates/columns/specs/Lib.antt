@@ -9,5 +9,4 @@ pub mod Walk
 pub mod Ancestor
 pub mod Answers
 pub mod Readable
-pub mod Granules
 pub mod Computes

@@ -1,7 +1,5 @@
 // Edge columns of an event graph: reading, building and asking. specs/ says what each answer is.
 mod delta;
-pub mod granule;
 pub mod kind;
-pub mod questions;
 pub mod reading;
 pub mod refusal;

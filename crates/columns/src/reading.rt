@@ -141,7 +141,7 @@ fn are_sound(set: u64, first: u64, end: u64, offsets: &[u64], deltas: &[i64]) ->
 // ── the rules of one set ──
 
 // 17, 18, 19. A set without edges has no deltas to look at.
-pub(crate) fn set_rules(
+pub fn set_rules(
     set: u64,
     first: u64,
     rows: usize,
@@ -170,7 +170,7 @@ pub(crate) fn set_rules(
 // ── limits: 42, 43, 41 ──
 
 // Whether one of two columns is too long.
-pub(crate) fn is_over(a: usize, b: usize) -> bool
+pub fn is_over(a: usize, b: usize) -> bool
     ensures { λ r. ⌜ r ≡ any (ltb maxNumbers) (a ∷ b ∷ []) ⌝ }
 {
     if 4096 < a {
@@ -180,7 +180,7 @@ pub(crate) fn is_over(a: usize, b: usize) -> bool
 }
 
 // Whether one of four columns is too long.
-pub(crate) fn is_any_over(a: usize, b: usize, c: usize, d: usize) -> bool
+pub fn is_any_over(a: usize, b: usize, c: usize, d: usize) -> bool
     ensures { λ r. ⌜ r ≡ any (ltb maxNumbers) (a ∷ b ∷ c ∷ d ∷ []) ⌝ }
 {
     if is_over(a, b) {
@@ -190,7 +190,7 @@ pub(crate) fn is_any_over(a: usize, b: usize, c: usize, d: usize) -> bool
 }
 
 // The limits, by whether a column is too long and whether a lent slice is too short.
-pub(crate) fn limit_rules(rows: usize, over: bool, short: bool) -> Checked
+pub fn limit_rules(rows: usize, over: bool, short: bool) -> Checked
     ensures { λ r. ⌜ r ≡ checkedOf (limitsOf rows over short) ⌝ }
 {
     if 1024 < rows {
@@ -206,7 +206,7 @@ pub(crate) fn limit_rules(rows: usize, over: bool, short: bool) -> Checked
 }
 
 // The limits and the rules of one set that is lent by itself, with a slice of length `out` for its answer.
-pub(crate) fn csr_rules(
+pub fn csr_rules(
     set: u64,
     first: u64,
     rows: usize,
@@ -227,7 +227,7 @@ pub(crate) fn csr_rules(
 }
 
 // The rules of a reverse set, then those of an inbound set.
-pub(crate) fn both_rules(
+pub fn both_rules(
     first: u64,
     rows: usize,
     end: u64,
@@ -264,7 +264,7 @@ fn all_short(column: &[u64]) -> bool
 }
 
 // A label for each row, in numbers of 32 bits.
-pub(crate) fn label_rules(rows: usize, chains: &[u64], seqs: &[u64]) -> Checked
+pub fn label_rules(rows: usize, chains: &[u64], seqs: &[u64]) -> Checked
     ensures { λ r. ⌜ r ≡ checkedOf (labelRules rows (labelColumns (now (chains .entry)) (now (seqs .entry)))) ⌝ }
 {
     if chains.len() != rows {
@@ -318,7 +318,7 @@ fn write_targets(
 }
 
 // Writes the targets of a slot.
-pub(crate) fn write_slot(
+pub fn write_slot(
     first: u64,
     offsets: &[u64],
     deltas: &[i64],
@@ -352,13 +352,7 @@ fn write_set(first: u64, offsets: &[u64], deltas: &[i64], out: &mut [u64]) -> us
 }
 
 // Writes the targets of a set whose rules are kept, and answers how many there are.
-pub(crate) fn write_csr(
-    first: u64,
-    count: u64,
-    offsets: &[u64],
-    deltas: &[i64],
-    out: &mut [u64],
-) -> usize
+pub fn write_csr(first: u64, count: u64, offsets: &[u64], deltas: &[i64], out: &mut [u64]) -> usize
     requires { ⌜ Readable first (columnsOf count (now offsets) (now deltas)) ⌝ }
     ensures { λ r. ⌜ r ≡ length (joined (slotsOf first (columnsOf count (now (offsets .entry)) (now (deltas .entry))))) ⌝ }
     ensures { λ _. ⌜ now (out .exit) ≡ sets (now (out .entry)) 0 (joined (slotsOf first (columnsOf count (now (offsets .entry)) (now (deltas .entry))))) ⌝ }

@@ -10,7 +10,7 @@ use Rattle.building.proofs.roots.all_in_file.Statement.{statement}
 use Rattle.building.proofs.roots.all_in_file.Tie as tie
 use Rattle.building.proofs.roots.all_in_file.Reads as reads
 use Rattle.building.proofs.roots.all_in_file.Lts as lts
-use Rattle.building.proofs.roots.is_in_file.Reads as is-in-file-reads
+use Rattle.records.proofs.parts.is_in_file.Reads as is-in-file-reads
 
 abbrev Inv-loop : tie.InvT-loop
 Inv-loop first rows events i₀ i =

@@ -6,7 +6,7 @@ use Rattle.building.proofs.sets.write_deltas.Statement.{statement}
 use Rattle.building.proofs.sets.write_deltas.Tie as tie
 use Rattle.building.proofs.sets.write_deltas.Reads as reads
 use Rattle.building.proofs.sets.write_deltas.Lts as lts
-use Rattle.building.proofs.rules.index.Reads as index-reads
+use Rattle.rules.proofs.slots.index.Reads as index-reads
 use Rattle.building.proofs.sets.write_slot_of.Reads as write-slot-of-reads
 
 abbrev Inv-loop : tie.InvT-loop

@@ -6,7 +6,7 @@ use Prim.Native.Nat.{_≤_, _-_}
 use lib.ListN.{length}
 use lib.Seq.{slice, sets}
 use Rattle.columns.specs.EdgeSet.{deltaOf}
-use Rattle.building.specs.Written.{spansFit}
+use Rattle.spans.specs.Spanned.{spansFit}
 use Rattle.building.proofs.SpanWrites.{span-this, span-rest, slot-written, slot-more}
 use borrow.Author.Needs.{needs}
 use Rattle.building.proofs.sets.write_slot.Statement.{statement}

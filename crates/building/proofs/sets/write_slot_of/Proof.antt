@@ -1,12 +1,12 @@
 -- `building::sets::write_slot_of` meets its contract.
 use Rattle.building.proofs.SetWrites.{piece-order, piece-base, piece-fits, piece-says}
-use Rattle.building.proofs.SpanTurns.{gran-in, gran-next-in, gran-inside}
+use Rattle.spans.proofs.SpanTurns.{gran-in, gran-next-in, gran-inside}
 use borrow.Author.Needs.{needs}
 use Rattle.building.proofs.sets.write_slot_of.Statement.{statement}
 use Rattle.building.proofs.sets.write_slot_of.Tie as tie
 use Rattle.building.proofs.sets.write_slot_of.Reads as reads
 use Rattle.building.proofs.sets.write_slot_of.Lts as lts
-use Rattle.building.proofs.rules.index.Reads as index-reads
+use Rattle.rules.proofs.slots.index.Reads as index-reads
 use Rattle.building.proofs.sets.write_slot.Reads as write-slot-reads
 
 mul-s : tie.Need-mul-s

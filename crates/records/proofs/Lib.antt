@@ -1,0 +1,4 @@
+pub mod FileNumbers
+pub mod RecordParts
+pub mod ChainTurns
+pub mod RecordOrder

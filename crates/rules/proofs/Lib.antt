@@ -1,0 +1,4 @@
+pub mod Told
+pub mod SlotTables
+pub mod ParentTurns
+pub mod FileOrder

@@ -1,0 +1,4 @@
+pub mod SpanTurns
+pub mod EdgeTables
+pub mod SpanOrder
+pub mod RuleGroups

@@ -1,0 +1,208 @@
+-- Edges of a granule: event minus target as a number of signed 64 bits, and one turn over targets, slots and edges.
+use mathlib.Core.Path.{_≡_, refl, sym, ap}
+use mathlib.Core.Bool.{Bool, true, false, not, cond, _&&_, _||_}
+use mathlib.Core.Logic.{inl, inr}
+use mathlib.Core.List.{List, [], _∷_, _++_, map}
+use Prim.Native.Nat.{ℕ, zero, suc, _+_, _-_, _*_, _/_, _≤_, _<_}
+use native.Mathlib.Numerals.{add-one}
+use native.Mathlib.Omega.{arith}
+use lib.Dec.{ltb, leb, eqb}
+use lib.IntN.{pos, negsuc}
+use lib.ListN.{length, getD, drop, drop-of-length-le, length-take, length-drop}
+use lib.Seq.{slice, slice-cons, drop-cons, getD-take, getD-drop}
+use borrow.Author.Tests.{lt-ltb, le-ltb, leb-true, leb-false, eq-eqb, ne-eqb, not-true, not-false}
+use Rattle.lists.specs.Lists.{all, mem, part, joined}
+use Rattle.lists.proofs.Tests.{tested}
+use Rattle.columns.specs.EdgeSet.{offsetsForm, cut, eventOf, deltaOf, deltasFrom}
+use Rattle.columns.specs.Building.{inFile, childrenTo, fits63, deltasFit}
+use Rattle.spans.specs.Spanned.{edgesOnce, edgeFits, edgesFit, spansFit, slotsFit}
+use Rattle.rules.proofs.SlotTables.{table-of, length-cut, getD-cut}
+use Rattle.rules.proofs.ParentTurns.{slice-none}
+
+-- ── event minus target ───────────────────────────────────────────────────────────────────────
+
+module _ (event target : ℕ) where
+  pub delta-down : target ≤ event → deltaOf event target ≡ pos (event - target)
+  unfolding deltaOf
+  delta-down h = go target h
+    where
+      go : (t : ℕ) → t ≤ event → deltaOf event t ≡ pos (event - t)
+      go zero h = ap pos (omega arith)
+      go (suc n) h = rw (le-ltb event (suc n) h)
+
+  pub delta-up : event < target → deltaOf event target ≡ negsuc (target - event - 1)
+  unfolding deltaOf
+  delta-up h = go target h
+    where
+      go : (t : ℕ) → event < t → deltaOf event t ≡ negsuc (t - event - 1)
+      go zero h = absurd (omega arith)
+      go (suc n) h = rw (lt-ltb event (suc n) h) (ap negsuc (omega arith))
+
+  pub span-down : target ≤ event → ltb (event - target) 9223372036854775808 ≡ fits63 (deltaOf event target)
+  unfolding fits63
+  span-down h = rw (delta-down h)
+
+  pub span-up : event < target → leb (target - event) 9223372036854775808 ≡ fits63 (deltaOf event target)
+  unfolding fits63
+  span-up h =
+      rw (delta-up h) (elim (tested (leb (target - event) 9223372036854775808)) [
+        | inl e ↦ rw (e, lt-ltb (target - event - 1) 9223372036854775808 (omega (arith, leb-true (target - event) 9223372036854775808 e)))
+        | inr e ↦ rw (e, le-ltb (target - event - 1) 9223372036854775808 (omega (arith, leb-false (target - event) 9223372036854775808 e)))
+      ])
+
+-- ── targets and slots ────────────────────────────────────────────────────────────────────────
+
+module _ {t : Bool} (event j to : ℕ) (l : List ℕ) (e : t ≡ spansFit event (slice j to l)) where
+  pub spans-done : to ≤ j → true ≡ t
+  unfolding spansFit all
+  spans-done h = rw (e, slice-none j to l h)
+
+  module _ (h : j < to) (k : to ≤ length l) {r : Bool} (f : r ≡ fits63 (deltaOf event (getD l j 0))) where
+    pub span-far : not r ≡ true → false ≡ t
+    unfolding spansFit all
+    span-far q = rw (e, slice-cons j to l 0, ← f, not-true r q)
+
+    pub spans-on : not r ≡ false → t ≡ spansFit event (slice (j + 1) to l)
+    unfolding spansFit all
+    spans-on q = rw (e, slice-cons j to l 0, ← f, not-false r q, add-one)
+
+module _ (rows from q : ℕ) (offsets targets : List ℕ) (ok : offsetsForm rows (length targets) offsets ≡ true) (h : 2 * from + q < 2 * rows) where
+  pub gran-in : 2 * from + q < length offsets
+  gran-in = omega (arith, table-of rows (length targets) offsets ok .long)
+
+  pub gran-next-in : 2 * from + q + 1 < length offsets
+  gran-next-in = omega (arith, table-of rows (length targets) offsets ok .long)
+
+  pub gran-inside : (b : ℕ) → b ≡ getD offsets (2 * from + q + 1) 0 → b ≤ length targets
+  gran-inside b f = omega (arith, table-of rows (length targets) offsets ok .bound (2 * from + q + 1) (omega arith))
+
+  pub gran-says : (first a b : ℕ) → a ≡ getD offsets (2 * from + q) 0 → b ≡ getD offsets (2 * from + q + 1) 0
+      → {r : Bool} → r ≡ spansFit (first + (from + q / 2)) (slice a b targets) → r ≡ spansFit (first + from + q / 2) (getD (cut offsets targets) (2 * from + q) [])
+  gran-says first a b x y e =
+      let d : first + from + q / 2 ≡ first + (from + q / 2) = omega arith in
+      rw (getD-cut (2 * rows) offsets targets (table-of rows (length targets) offsets ok .long) (2 * from + q) h, d, ← x, ← y) e
+
+all-append : {A : Type 0} (p : A → Bool) (s t : List A) → all p (s ++ t) ≡ (all p s && all p t)
+unfolding all
+all-append p [] t = refl
+all-append p (x ∷ xs) t = rw (all-append p xs t) (sym (assoc (p x) (all p xs) (all p t)))
+  where
+    assoc : (a b c : Bool) → ((a && b) && c) ≡ (a && (b && c))
+    assoc true b c = refl
+    assoc false b c = refl
+
+pub fit-slots : (first slot : ℕ) (lists : List (List ℕ)) → all fits63 (joined (deltasFrom first slot lists)) ≡ slotsFit first slot lists
+unfolding joined deltasFrom slotsFit spansFit all
+fit-slots first slot [] = refl
+fit-slots first slot (l ∷ ls) = rw (all-append fits63 (map (deltaOf (eventOf first slot)) l) (joined (deltasFrom first (suc slot) ls)), fit-slots first (suc slot) ls)
+
+pub deltas-slots : (first : ℕ) (lists : List (List ℕ)) → deltasFit first lists ≡ slotsFit first 0 lists
+unfolding deltasFit
+deltas-slots first lists = fit-slots first 0 lists
+
+module _ {t : Bool} (first rows from n q : ℕ) (offsets targets : List ℕ) (ok : offsetsForm rows (length targets) offsets ≡ true)
+    (e : t ≡ slotsFit (first + from) q (drop q (part (2 * from) (2 * n) (cut offsets targets)))) (m : from + n ≤ rows) where
+  whole : length (cut offsets targets) ≡ 2 * rows
+  whole = length-cut (2 * rows) 0 offsets targets (table-of rows (length targets) offsets ok .long)
+
+  long : length (part (2 * from) (2 * n) (cut offsets targets)) ≡ 2 * n
+  unfolding part
+  long = simp (length-take, length-drop) (omega (arith, whole))
+
+  pub gran-done : 2 * n ≤ q → true ≡ t
+  unfolding slotsFit
+  gran-done h = rw (e, drop-of-length-le (part (2 * from) (2 * n) (cut offsets targets)) {i = q} (omega (arith, long)))
+
+  module _ (h : q < 2 * n) {r : Bool} (f : r ≡ spansFit (first + from + q / 2) (getD (cut offsets targets) (2 * from + q) [])) where
+    at : getD (part (2 * from) (2 * n) (cut offsets targets)) q [] ≡ getD (cut offsets targets) (2 * from + q) []
+    unfolding part
+    at = rw (getD-take (2 * n) (drop (2 * from) (cut offsets targets)) q [] h, getD-drop (2 * from) (cut offsets targets) q [])
+
+    gran-step : t ≡ (r && slotsFit (first + from) (suc q) (drop (suc q) (part (2 * from) (2 * n) (cut offsets targets))))
+    unfolding slotsFit
+    gran-step = rw (e, drop-cons (part (2 * from) (2 * n) (cut offsets targets)) q [] (omega (arith, long)), at, ← f)
+
+    pub gran-far : not r ≡ true → false ≡ t
+    gran-far k = rw (gran-step, not-true r k)
+
+    pub gran-on : not r ≡ false → t ≡ slotsFit (first + from) (q + 1) (drop (q + 1) (part (2 * from) (2 * n) (cut offsets targets)))
+    gran-on k = rw (gran-step, not-false r k, add-one)
+
+-- ── edges ────────────────────────────────────────────────────────────────────────────────────
+
+module _ (p parent k kind child c : ℕ) where
+  pub other-parent : (p ≡ parent → ⊥) → false ≡ ((eqb p parent && eqb k kind) && eqb child c)
+  other-parent h = rw (ne-eqb p parent h)
+
+  module _ (h : p ≡ parent) where
+    pub other-kind : (k ≡ kind → ⊥) → false ≡ ((eqb p parent && eqb k kind) && eqb child c)
+    other-kind g = rw (eq-eqb p parent h, ne-eqb k kind g)
+
+    pub same-slot : k ≡ kind → eqb child c ≡ ((eqb p parent && eqb k kind) && eqb child c)
+    same-slot g = rw (eq-eqb p parent h, eq-eqb k kind g)
+
+mem-cond : (x c : ℕ) (b : Bool) (l : List ℕ) → mem x (cond b (c ∷ l) l) ≡ ((b && eqb x c) || mem x l)
+unfolding mem
+mem-cond x c true l = refl
+mem-cond x c false l = refl
+
+module _ {t : Bool} (cs ps ks : List ℕ) (j child parent kind : ℕ) (e : t ≡ mem child (childrenTo parent kind (drop j cs) (drop j ps) (drop j ks))) where
+  pub given-none : length cs ≤ j → false ≡ t
+  unfolding childrenTo mem
+  given-none h = rw (e, drop-of-length-le cs {i = j} h)
+
+  module _ (h : j < length cs) (l : length cs ≡ length ps) (m : length cs ≡ length ks) {r : Bool}
+      (f : r ≡ ((eqb (getD ps j 0) parent && eqb (getD ks j 0) kind) && eqb child (getD cs j 0))) where
+    given-step : t ≡ (r || mem child (childrenTo parent kind (drop (suc j) cs) (drop (suc j) ps) (drop (suc j) ks)))
+    unfolding childrenTo
+    given-step =
+        rw (e, drop-cons cs j 0, drop-cons ps j 0 (omega arith), drop-cons ks j 0 (omega arith), f)
+        (mem-cond child (getD cs j 0) (eqb (getD ps j 0) parent && eqb (getD ks j 0) kind) (childrenTo parent kind (drop (suc j) cs) (drop (suc j) ps) (drop (suc j) ks)))
+
+    pub given-here : r ≡ true → true ≡ t
+    given-here q = rw (given-step, q)
+
+    pub given-on : r ≡ false → t ≡ mem child (childrenTo parent kind (drop (j + 1) cs) (drop (j + 1) ps) (drop (j + 1) ks))
+    given-on q = rw (given-step, q, add-one)
+
+module _ {t : Bool} (cs ps ks : List ℕ) (i : ℕ) (e : t ≡ edgesOnce (drop i cs) (drop i ps) (drop i ks)) where
+  pub once-done : length cs ≤ i → true ≡ t
+  unfolding edgesOnce
+  once-done h = rw (e, drop-of-length-le cs {i = i} h)
+
+  module _ (h : i < length cs) (l : length cs ≡ length ps) (m : length cs ≡ length ks) {r : Bool}
+      (f : r ≡ mem (getD cs i 0) (childrenTo (getD ps i 0) (getD ks i 0) (drop (i + 1) cs) (drop (i + 1) ps) (drop (i + 1) ks))) where
+    once-step : t ≡ (not r && edgesOnce (drop (i + 1) cs) (drop (i + 1) ps) (drop (i + 1) ks))
+    unfolding edgesOnce
+    once-step = rw (e, drop-cons cs i 0, drop-cons ps i 0 (omega arith), drop-cons ks i 0 (omega arith), f, add-one)
+
+    pub once-twice : r ≡ true → false ≡ t
+    once-twice q = rw (once-step, q)
+
+    pub once-on : r ≡ false → t ≡ edgesOnce (drop (i + 1) cs) (drop (i + 1) ps) (drop (i + 1) ks)
+    once-on q = rw (once-step, q)
+
+module _ (first n child parent : ℕ) {r : Bool} (e : r ≡ inFile first (first + n) parent) where
+  pub edge-elsewhere : not r ≡ true → true ≡ edgeFits first n child parent
+  unfolding edgeFits
+  edge-elsewhere q = rw (← e, not-true r q)
+
+  pub edge-here : not r ≡ false → {s : Bool} → s ≡ fits63 (deltaOf parent child) → s ≡ edgeFits first n child parent
+  unfolding edgeFits
+  edge-here q f = rw (← e, not-false r q) f
+
+module _ {t : Bool} (first n i : ℕ) (cs ps : List ℕ) (e : t ≡ edgesFit first n (drop i cs) (drop i ps)) where
+  pub fit-done : length cs ≤ i → true ≡ t
+  unfolding edgesFit
+  fit-done h = rw (e, drop-of-length-le cs {i = i} h)
+
+  module _ (h : i < length cs) (l : length cs ≡ length ps) {r : Bool} (f : r ≡ edgeFits first n (getD cs i 0) (getD ps i 0)) where
+    fit-step : t ≡ (r && edgesFit first n (drop (suc i) cs) (drop (suc i) ps))
+    unfolding edgesFit
+    fit-step = rw (e, drop-cons cs i 0, drop-cons ps i 0 (omega arith), ← f)
+
+    pub fit-far : not r ≡ true → false ≡ t
+    fit-far q = rw (fit-step, not-true r q)
+
+    pub fit-on : not r ≡ false → t ≡ edgesFit first n (drop (i + 1) cs) (drop (i + 1) ps)
+    fit-on q = rw (fit-step, not-false r q, add-one)
