@@ -8,6 +8,10 @@ pub mod Summary
 pub mod Resolving
 pub mod Writing
 pub mod Step
+pub mod Sheet
+pub mod Held
+pub mod Survivors
+pub mod Runs
 pub mod History
 pub mod Alike
 pub mod Claim

@@ -1,0 +1,79 @@
+-- Document 01, "Refused for the state": a run's calls, over what it holds. These are the steps that the contracts of a run's functions cite;
+-- proofs/Holding has that they are the steps over sources (specs/Step).
+use mathlib.Core.Bool.{Bool, not}
+use mathlib.Core.List.{List, [], _∷_, map}
+use mathlib.Core.Option.{Option, none, some}
+use Prim.Native.Nat.{ℕ}
+use lib.Dec.{ltb}
+use lib.ListN.{length, getD}
+use Rattle.lists.specs.Lists.{flat, isEmpty, upFrom}
+use Rattle.columns.specs.Limits.{maxNumbers}
+use Rattle.columns.specs.Refusal
+use Rattle.columns.specs.Refusal.{Verdict, refuse, firstOf}
+use Rattle.columns.specs.declared.refusal.Refusal.{Refusal}
+use Rattle.columns.specs.declared.refusal.Refusal.the-variants.{OutOfTurn, GroupOrder, OverNumbers, NoSurvivor}
+use Rattle.archive.specs.Parse.{parse}
+use Rattle.cleaning.specs.Archive.{Archive}
+use Rattle.cleaning.specs.Memo.{tables}
+use Rattle.cleaning.specs.Resolving.{entries, groupsSurvive}
+use Rattle.cleaning.specs.Writing.{written}
+use Rattle.cleaning.specs.Step.{Call, takes, resolves, writes, Answer, refused, done, wrote, writeInto}
+use Rattle.cleaning.specs.Sheet.{Sheet, summaryOf}
+use Rattle.cleaning.specs.Held.{Held, nothing, archiveHeld, holdMore}
+use Rattle.cleaning.specs.Survivors.{survivorSheet}
+
+-- a run by phase: taking sources; resolved, with the sheet of its survivors; and `spoiled`, which is no run that calls make
+pub data RunState : Type 0 where
+  taking : Held → RunState
+  resolved : Held → Sheet → RunState
+  spoiled : RunState
+
+-- a fresh run has taken nothing
+abbrev pub freshRun : RunState
+freshRun = taking nothing
+
+pub record RunOutcome : Type 0 where
+  pub state : RunState
+  pub answer : Answer
+
+abbrev pub runOutcome : RunState → Answer → RunOutcome
+runOutcome s a = record { state = s; answer = a }
+
+-- ── resolving ────────────────────────────────────────────────────────────────────────────────
+
+-- every event's new lists, slot by slot, out of tables kind by kind
+unfoldable pub slotted : ℕ → List (List (List ℕ)) → List (List ℕ)
+slotted n ts = flat (λ i. map (λ t. getD t i []) ts) (upFrom 0 n)
+
+-- 24, 43, 27
+unfoldable pub heldRules : Held → Archive → List (List (List ℕ)) → Option Refusal
+heldRules h A ts =
+    firstOf (refuse GroupOrder (isEmpty (h .sheet .groups))
+    ∷ refuse OverNumbers (ltb maxNumbers (entries ts))
+    ∷ refuse NoSurvivor (not (groupsSurvive A))
+    ∷ [])
+
+abbrev pub resolveInto : Held → Sheet → Option Refusal → RunOutcome
+resolveInto h s none = runOutcome (resolved h s) done
+resolveInto h s (some r) = runOutcome (taking h) (refused r)
+
+unfoldable pub resolveHeld : Held → RunOutcome
+resolveHeld h =
+    let A = archiveHeld h in
+    let ts = tables A in
+    resolveInto h (survivorSheet h (slotted (length (A .events)) ts)) (heldRules h A ts)
+
+-- ── every call ───────────────────────────────────────────────────────────────────────────────
+
+abbrev pub takeInto : Held → Verdict Held → RunOutcome
+takeInto h (Refusal.refused r) = runOutcome (taking h) (refused r)
+takeInto h (Refusal.accepted more) = runOutcome (taking more) done
+
+unfoldable pub runStep : RunState → Call → RunOutcome
+runStep (taking h) (takes b) = takeInto h (holdMore h (parse b))
+runStep (taking h) resolves = resolveHeld h
+runStep (taking h) (writes room) = runOutcome (taking h) (refused OutOfTurn)
+runStep (resolved h s) (takes b) = runOutcome (resolved h s) (refused OutOfTurn)
+runStep (resolved h s) resolves = runOutcome (resolved h s) (refused OutOfTurn)
+runStep (resolved h s) (writes room) = runOutcome (resolved h s) (writeInto room (written (summaryOf s)))
+runStep spoiled c = runOutcome spoiled (refused OutOfTurn)
