@@ -5,9 +5,3 @@ pub mod Back
 pub mod Framed
 pub mod Bodies
 pub mod Faithful
-pub mod AtHead
-pub mod AtSets
-pub mod AtTables
-pub mod AtCover
-pub mod AtRecords
-pub mod AtFiles

@@ -4,7 +4,4 @@ pub mod File
 pub mod Parse
 pub mod Encode
 pub mod Fits
-pub mod View
-pub mod Layout
-pub mod Sums
 pub mod Computes

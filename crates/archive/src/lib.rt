@@ -1,4 +1,2 @@
-// Archive records: what an archive's bytes say, and the bytes of files. specs/ says what each answer is.
-pub mod files;
-pub mod parts;
-pub mod records;
+// Archive records: what an archive's bytes say, and the bytes of files. specs/ has the definitions, proofs/ the laws between them; the
+// code that reads and writes stands in crates above.

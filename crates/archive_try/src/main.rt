@@ -1,8 +1,8 @@
 // Tries the reader on a good archive, on every truncation of it and on every change of one of its bytes: the counts of the archive,
 // and how many of the others are accepted.
-use archive::files::Summed;
-use archive::files::Totals;
-use archive::files::sum_up;
+use archive_reader::files::Summed;
+use archive_reader::files::Totals;
+use archive_reader::files::sum_up;
 ghost use Prim.Native.Nat.{_≤_, _<_};
 ghost use lib.ListN.{length};
 

@@ -1,4 +1,4 @@
 pub mod Numbers
 pub mod Cells
 pub mod Twos
-pub mod Turns
+pub mod Several

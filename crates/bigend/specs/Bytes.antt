@@ -31,6 +31,10 @@ unfoldable pub several : {A : Type 0} → ℕ → (List ℕ → A) → ℕ → L
 several w f zero l = []
 several w f (suc n) l = f l ∷ several w f n (drop w l)
 
+-- the n numbers of w bytes each from place p on
+abbrev pub column : ℕ → ℕ → List ℕ → ℕ → List ℕ
+column w n l p = several w (λ l. be w l 0) n (drop p l)
+
 -- numbers of w bytes
 abbrev pub Wide : ℕ → List ℕ → Type 0
 Wide w xs = Each (λ x. x < 256 ^ w) xs

@@ -1,0 +1,4 @@
+pub mod AtHead
+pub mod AtSets
+pub mod AtTables
+pub mod AtCover

@@ -1,0 +1,2 @@
+pub mod AtRecords
+pub mod AtFiles
