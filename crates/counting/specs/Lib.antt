@@ -1,0 +1,2 @@
+pub mod GivenEdges
+pub mod Slots
