@@ -46,3 +46,4 @@ pub mod OutputFits
 pub mod TakenAgain
 pub mod SameBytes
 pub mod Slots
+pub mod SheetFacts
