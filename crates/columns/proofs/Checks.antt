@@ -40,6 +40,13 @@ unfolding firstOf
 first-alone none = refl
 first-alone (some r) = refl
 
+-- rules in two parts, one after the other
+pub first-append : (xs ys : List (Option Refusal)) → firstOf (xs ++ ys) ≡ firstOf (firstOf xs ∷ ys)
+unfolding firstOf
+first-append [] ys = refl
+first-append (none ∷ xs) ys = first-append xs ys
+first-append (some r ∷ xs) ys = refl
+
 pub or-kept : (a b : Bool) → a || b ≡ false → (a ≡ false) × (b ≡ false)
 or-kept true b f = let z : _≡_ {A = ℕ} 0 1 = cc in absurd (omega arith)
 or-kept false b f = (refl, f)

@@ -2,7 +2,7 @@
 use mathlib.Core.Path.{_≡_, refl, sym, _∙_, ap}
 use mathlib.Core.Bool.{Bool, true, false, _||_, or-false}
 use mathlib.Core.List.{List, [], _∷_, _++_}
-use mathlib.Core.Option.{Option, none, some}
+use mathlib.Core.Option.{none}
 use Prim.Native.Nat.{ℕ, _≤_, _<_}
 use lib.Dec.{ltb}
 use lib.IntN.{ℤ}
@@ -24,7 +24,7 @@ use Rattle.columns.specs.declared.reading.Checked.{Checked}
 use Rattle.columns.specs.declared.reading.Checked.the-variants.{Kept, Broken}
 use Rattle.columns.specs.declared.refusal.Refusal.{Refusal}
 use Rattle.columns.proofs.FirstBroken.{each-none}
-use Rattle.columns.proofs.Checks.{is-kept, is-broken, first-alone, then-rest, then-broken, any-append, or-kept, over-none, few-deltas}
+use Rattle.columns.proofs.Checks.{is-kept, is-broken, first-alone, first-append, then-rest, then-broken, any-append, or-kept, over-none, few-deltas}
 
 -- ── limits ───────────────────────────────────────────────────────────────────────────────────
 
@@ -72,12 +72,6 @@ module _ (rows : ℕ) (cover : Bool) (chains seqs : List ℕ) where
 
   pub uncovered : cover ≡ false → Kept ≡ checkedOf (coverRules rows (coverOf cover chains seqs))
   uncovered c = rw c
-
-first-append : (xs ys : List (Option Refusal)) → firstOf (xs ++ ys) ≡ firstOf (firstOf xs ∷ ys)
-unfolding firstOf
-first-append [] ys = refl
-first-append (none ∷ xs) ys = first-append xs ys
-first-append (some r ∷ xs) ys = refl
 
 module _ (h : Head) (fo : List ℕ) (fd : List ℤ) (ro : List ℕ) (rd : List ℤ) (io : List ℕ) (id : List ℤ) where
   module _ (k : Checked) (e : k ≡ checkedOf (setRules 0 (h .first) (h .rows) (h .end) (columnsOf (h .forward) fo fd))) where

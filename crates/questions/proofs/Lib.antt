@@ -1,2 +1,4 @@
 pub mod Limited
+pub mod Found
 pub mod Asked
+pub mod Labels

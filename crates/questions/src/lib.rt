@@ -8,6 +8,7 @@ use columns::refusal::Refusal;
 ghost use mathlib.Core.Path.{_≡_};
 ghost use mathlib.Core.Bool.{true};
 ghost use Prim.Native.Nat.{_+_, _<_, _≤_};
+ghost use lib.Dec.{ltb};
 ghost use lib.ListN.{length};
 ghost use lib.Seq.{sets};
 ghost use Rattle.lists.specs.Lists.{all};
@@ -17,7 +18,7 @@ ghost use Rattle.columns.specs.Reading.{slotsOf, labelsOf};
 ghost use Rattle.columns.specs.Questions as asked;
 ghost use Rattle.columns.specs.Answers.{kindOf, short32, columnsOf, labelColumns, room, checkedOf, countedOf, writtenOver};
 ghost use Rattle.columns.specs.Readable.{Readable};
-ghost use Rattle.questions.specs.Views.{childrenRules, lentLabelRules, labelledOf};
+ghost use Rattle.questions.specs.Views.{childrenRules, askedRules, lentLabelRules, labelledOf};
 
 // An event's place in a chain cover.
 pub struct ChainLabel {
@@ -34,7 +35,34 @@ pub enum Labelled {
 
 // ── parents and children ──
 
-// Writes the list of a number and a kind out of a set whose rules are kept, from `at` on, and answers where it ends.
+// How many numbers the list of a number and a kind has, in a set whose rules are kept.
+fn list_length(
+    first: u64,
+    count: u64,
+    offsets: &[u64],
+    deltas: &[i64],
+    kind: usize,
+    number: u64,
+) -> usize
+    requires { ⌜ kind < kinds ⌝ }
+    requires { ⌜ Readable first (columnsOf count (now offsets) (now deltas)) ⌝ }
+    ensures { λ r. ⌜ r ≡ length (asked.listOf first (slotsOf first (columnsOf count (now (offsets .entry)) (now (deltas .entry)))) kind number) ⌝ }
+{
+    if count == 0 {
+        return 0;
+    }
+    if number < first {
+        return 0;
+    }
+    let row = number - first;
+    if (offsets.len() / 2) as u64 <= row {
+        return 0;
+    }
+    let slot = 2 * (row as usize) + kind;
+    (offsets[slot + 1] - offsets[slot]) as usize
+}
+
+// Writes that list from `at` on, and answers where it ends.
 fn write_list(
     first: u64,
     count: u64,
@@ -50,17 +78,10 @@ fn write_list(
     ensures { λ r. ⌜ r ≡ at + length (asked.listOf first (slotsOf first (columnsOf count (now (offsets .entry)) (now (deltas .entry)))) kind number) ⌝ }
     ensures { λ _. ⌜ now (out .exit) ≡ sets (now (out .entry)) at (asked.listOf first (slotsOf first (columnsOf count (now (offsets .entry)) (now (deltas .entry)))) kind number) ⌝ }
 {
-    if count == 0 {
+    if list_length(first, count, offsets, deltas, kind, number) == 0 {
         return at;
     }
-    if number < first {
-        return at;
-    }
-    let row = number - first;
-    if (offsets.len() / 2) as u64 <= row {
-        return at;
-    }
-    let slot = 2 * (row as usize) + kind;
+    let slot = 2 * ((number - first) as usize) + kind;
     reading::write_slot(first, offsets, deltas, slot, out, at)
 }
 
@@ -128,8 +149,103 @@ fn children_rules(
     }
 }
 
-// The children of a number by a kind: those in the file, then those past it. Where they are more than the slice holds, the slice has as
-// many of them as it holds, and the answer says how many there are.
+// Whether a number has more children in two sets whose rules are kept than a column holds.
+fn are_children_over(
+    first: u64,
+    rcount: u64,
+    roffsets: &[u64],
+    rdeltas: &[i64],
+    icount: u64,
+    ioffsets: &[u64],
+    ideltas: &[i64],
+    kind: usize,
+    number: u64,
+) -> bool
+    requires { ⌜ kind < kinds ⌝ }
+    requires { ⌜ Readable first (columnsOf rcount (now roffsets) (now rdeltas)) ⌝ }
+    requires { ⌜ Readable first (columnsOf icount (now ioffsets) (now ideltas)) ⌝ }
+    ensures { λ r. ⌜ r ≡ ltb maxNumbers (length (asked.childrenOf first (columnsOf rcount (now (roffsets .entry)) (now (rdeltas .entry))) (columnsOf icount (now (ioffsets .entry)) (now (ideltas .entry))) kind number)) ⌝ }
+{
+    let n = list_length(first, rcount, roffsets, rdeltas, kind, number);
+    let m = list_length(first, icount, ioffsets, ideltas, kind, number);
+    4096 < n + m
+}
+
+// Writes the children of a number out of two sets whose rules are kept, those in the file first, and answers how many there are.
+fn write_children(
+    first: u64,
+    rcount: u64,
+    roffsets: &[u64],
+    rdeltas: &[i64],
+    icount: u64,
+    ioffsets: &[u64],
+    ideltas: &[i64],
+    kind: usize,
+    number: u64,
+    out: &mut [u64],
+) -> usize
+    requires { ⌜ kind < kinds ⌝ }
+    requires { ⌜ Readable first (columnsOf rcount (now roffsets) (now rdeltas)) ⌝ }
+    requires { ⌜ Readable first (columnsOf icount (now ioffsets) (now ideltas)) ⌝ }
+    ensures { λ r. ⌜ r ≡ length (asked.childrenOf first (columnsOf rcount (now (roffsets .entry)) (now (rdeltas .entry))) (columnsOf icount (now (ioffsets .entry)) (now (ideltas .entry))) kind number) ⌝ }
+    ensures { λ _. ⌜ now (out .exit) ≡ sets (now (out .entry)) 0 (asked.childrenOf first (columnsOf rcount (now (roffsets .entry)) (now (rdeltas .entry))) (columnsOf icount (now (ioffsets .entry)) (now (ideltas .entry))) kind number) ⌝ }
+{
+    let n = write_list(first, rcount, roffsets, rdeltas, kind, number, out, 0);
+    write_list(first, icount, ioffsets, ideltas, kind, number, out, n)
+}
+
+// The limits and the rules of the two sets, and whether the number has more children than a column holds.
+fn asked_rules(
+    first: u64,
+    rows: usize,
+    end: u64,
+    rcount: u64,
+    roffsets: &[u64],
+    rdeltas: &[i64],
+    icount: u64,
+    ioffsets: &[u64],
+    ideltas: &[i64],
+    kind: usize,
+    number: u64,
+    out: usize,
+) -> Checked
+    requires { ⌜ kind < kinds ⌝ }
+    ensures { λ r. ⌜ r ≡ checkedOf (askedRules first rows end (columnsOf rcount (now (roffsets .entry)) (now (rdeltas .entry))) (columnsOf icount (now (ioffsets .entry)) (now (ideltas .entry))) kind number (room out)) ⌝ }
+{
+    let rules = children_rules(
+        first,
+        rows,
+        end,
+        rcount,
+        roffsets,
+        rdeltas,
+        icount,
+        ioffsets,
+        ideltas,
+        out,
+    );
+    match rules {
+        Checked::Kept => {
+            if are_children_over(
+                first,
+                rcount,
+                roffsets,
+                rdeltas,
+                icount,
+                ioffsets,
+                ideltas,
+                kind,
+                number,
+            ) {
+                return Checked::Broken(Refusal::OverNumbers);
+            }
+            Checked::Kept
+        }
+        Checked::Broken(why) => Checked::Broken(why),
+    }
+}
+
+// The children of a number by a kind: those in the file, then those past it.
 pub fn children(
     first: u64,
     rows: usize,
@@ -147,7 +263,8 @@ pub fn children(
     ensures { λ r. ⌜ r ≡ countedOf (asked.children first rows end (columnsOf rcount (now (roffsets .entry)) (now (rdeltas .entry))) (columnsOf icount (now (ioffsets .entry)) (now (ideltas .entry))) (kindOf kind) number (room (length (now (out .entry))))) ⌝ }
     ensures { λ _. ⌜ now (out .exit) ≡ writtenOver (now (out .entry)) (asked.children first rows end (columnsOf rcount (now (roffsets .entry)) (now (rdeltas .entry))) (columnsOf icount (now (ioffsets .entry)) (now (ideltas .entry))) (kindOf kind) number (room (length (now (out .entry))))) ⌝ }
 {
-    let rules = children_rules(
+    let slot = kind::slot(kind);
+    let rules = asked_rules(
         first,
         rows,
         end,
@@ -157,14 +274,23 @@ pub fn children(
         icount,
         ioffsets,
         ideltas,
+        slot,
+        number,
         out.len(),
     );
     match rules {
-        Checked::Kept => {
-            let slot = kind::slot(kind);
-            let n = write_list(first, rcount, roffsets, rdeltas, slot, number, out, 0);
-            Counted::Entries(write_list(first, icount, ioffsets, ideltas, slot, number, out, n))
-        }
+        Checked::Kept => Counted::Entries(write_children(
+            first,
+            rcount,
+            roffsets,
+            rdeltas,
+            icount,
+            ioffsets,
+            ideltas,
+            slot,
+            number,
+            out,
+        )),
         Checked::Broken(why) => Counted::Refused(why),
     }
 }

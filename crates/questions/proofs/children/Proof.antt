@@ -1,24 +1,21 @@
 -- `questions::children` meets its contract.
+use Rattle.questions.proofs.Asked.{reverse-readable, inbound-readable, children-counted, children-written, children-refused, children-as-were}
+use Rattle.questions.proofs.Found.{kind-in}
 use borrow.Author.Needs.{needs}
-use Rattle.questions.proofs.Limited.{readable-reverse, readable-inbound}
-use Rattle.questions.proofs.Asked.{kind-in, list-few, children-counted, children-written, children-refused, children-as-were}
 use Rattle.questions.proofs.children.Statement.{statement}
 use Rattle.questions.proofs.children.Tie as tie
-
-children-rules-requires : tie.Need-children-rules-requires
-children-rules-requires c κs = search needs
-
-enum-told : tie.Need-enum-told
-enum-told c = search needs
 
 slot-requires : tie.Need-slot-requires
 slot-requires c κs = search needs
 
-write-list-requires : tie.Need-write-list-requires
-write-list-requires c κs = ((search kind-in, search needs), search readable-reverse)
+asked-rules-requires : tie.Need-asked-rules-requires
+asked-rules-requires c κs = search kind-in
 
-write-list-requires-2 : tie.Need-write-list-requires-2
-write-list-requires-2 c κs = ((search kind-in, search (list-few, readable-reverse)), search readable-inbound)
+enum-told : tie.Need-enum-told
+enum-told c = search needs
+
+write-children-requires : tie.Need-write-children-requires
+write-children-requires c κs = (search kind-in, (search reverse-readable, search inbound-readable))
 
 enum-known-rules : tie.Need-enum-known-rules
 enum-known-rules c = search needs
@@ -36,11 +33,10 @@ pub children-spec : {M : Type 1} → statement M
 children-spec =
     tie.close
     (tie.spec
-    children-rules-requires
-    enum-told
     slot-requires
-    write-list-requires
-    write-list-requires-2
+    asked-rules-requires
+    enum-told
+    write-children-requires
     enum-known-rules
     same-length
     returns

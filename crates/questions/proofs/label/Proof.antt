@@ -1,7 +1,7 @@
 -- `questions::label` meets its contract.
 use borrow.Author.Needs.{needs}
 use Rattle.questions.proofs.Limited.{as-many, short-chains, short-seqs}
-use Rattle.questions.proofs.Asked.{label-kept, label-refused}
+use Rattle.questions.proofs.Labels.{label-kept, label-refused}
 use Rattle.questions.proofs.label.Statement.{statement}
 use Rattle.questions.proofs.label.Tie as tie
 

@@ -1,6 +1,6 @@
 -- `questions::label_at` meets its contract.
 use borrow.Author.Needs.{needs}
-use Rattle.questions.proofs.Asked.{short-beside, short-at, label-below, label-past, label-told}
+use Rattle.questions.proofs.Labels.{short-beside, short-at, label-below, label-past, label-told}
 use Rattle.questions.proofs.label_at.Statement.{statement}
 use Rattle.questions.proofs.label_at.Tie as tie
 

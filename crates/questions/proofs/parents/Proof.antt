@@ -1,7 +1,8 @@
 -- `questions::parents` meets its contract.
 use borrow.Author.Needs.{needs}
 use Rattle.columns.proofs.Checks.{readable}
-use Rattle.questions.proofs.Asked.{kind-in, parents-counted, parents-written, parents-refused, parents-as-were}
+use Rattle.questions.proofs.Found.{kind-in}
+use Rattle.questions.proofs.Asked.{parents-counted, parents-written, parents-refused, parents-as-were}
 use Rattle.questions.proofs.parents.Statement.{statement}
 use Rattle.questions.proofs.parents.Tie as tie
 

@@ -1,0 +1,22 @@
+-- `questions::are_children_over` meets its contract.
+use Rattle.questions.proofs.Asked.{many-children}
+use Rattle.questions.proofs.Found.{two-fit}
+use borrow.Author.Needs.{needs}
+use Rattle.questions.proofs.are_children_over.Statement.{statement}
+use Rattle.questions.proofs.are_children_over.Tie as tie
+
+list-length-requires : tie.Need-list-length-requires
+list-length-requires c κs = search needs
+
+list-length-requires-2 : tie.Need-list-length-requires-2
+list-length-requires-2 c κs = search needs
+
+add-result : tie.Need-add-result
+add-result c = search two-fit
+
+returns : tie.Need-returns
+returns c = search many-children
+
+pub are-children-over-spec : {M : Type 1} → statement M
+are-children-over-spec =
+    tie.close (tie.spec list-length-requires list-length-requires-2 add-result returns)
