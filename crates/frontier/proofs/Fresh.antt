@@ -18,7 +18,7 @@ use Rattle.frontier.specs.Frontier.{one, hitsIn}
 
 -- ── how many entries are keys ────────────────────────────────────────────────────────────────
 
-hits-le : (ys l : List ℕ) → hitsIn ys l ≤ length l
+pub hits-le : (ys l : List ℕ) → hitsIn ys l ≤ length l
 unfolding hitsIn
 hits-le ys [] = omega arith
 hits-le ys (z ∷ zs) = elim (tested (mem z ys)) [ inl e ↦ rw e (let q = hits-le ys zs in omega arith) | inr e ↦ rw e (let q = hits-le ys zs in omega arith) ]

@@ -135,7 +135,7 @@ module _ (first kind left n r : ℕ) (offsets targets visited frontier keys keys
   keys-new : 0 < left → take r keys′ ≡ take n keys ++ newFrom visited [] (flat (parentsIn first kind offsets targets) frontier)
   keys-new h = k .are ∙ all-made h .0
 
-  slice-new : 0 < left → slice n r keys′ ≡ newFrom visited [] (flat (parentsIn first kind offsets targets) frontier)
+  pub slice-new : 0 < left → slice n r keys′ ≡ newFrom visited [] (flat (parentsIn first kind offsets targets) frontier)
   slice-new h =
       ap (λ (l : List ℕ). drop n l) (keys-new h) ∙ drop-at (take n keys) (newFrom visited [] (flat (parentsIn first kind offsets targets) frontier)) n (length-take-le n keys u)
 

@@ -1,8 +1,8 @@
 -- A walk at its start and at its end: the start is the only key, and what was laid out is handed out.
 use mathlib.Core.Path.{_≡_, refl, sym, _∙_, ap}
-use mathlib.Core.Bool.{Bool, true, false, _||_, or-true}
+use mathlib.Core.Bool.{true, or-true}
 use mathlib.Core.List.{List, [], _∷_, _++_}
-use Prim.Native.Nat.{ℕ, zero, suc, _≤_, _<_, _+_, _-_}
+use Prim.Native.Nat.{ℕ, suc, _≤_, _<_, _+_, _-_}
 use native.Mathlib.Omega.{arith}
 use lib.Dec.{eqb}
 use lib.ListN.{length, take, drop, set, length-take, take-append-drop}
@@ -14,7 +14,6 @@ use Rattle.columns.specs.Walk.{levels, levelsFrom}
 use Rattle.table.specs.Table.{Table, addCap}
 use Rattle.frontier.specs.Frontier.{hitsIn, copied, Seen}
 use Rattle.rounds.specs.Rounds.{endsFrom, Ran}
-use Rattle.walk.specs.declared.Handed.{Handed}
 use Rattle.walk.specs.declared.Handed.the-variants.{Levels}
 
 none-taken : (l : List ℕ) → take 0 l ≡ []

@@ -3,19 +3,18 @@ use columns::kind::Kind;
 use columns::reading::Counted;
 use columns::refusal::Refusal;
 ghost use mathlib.Core.Path.{_≡_};
-ghost use mathlib.Core.List.{[], _∷_, _++_};
-ghost use Prim.Native.Nat.{_+_, _-_, _≤_, _<_, min};
-ghost use lib.ListN.{length, take, drop};
+ghost use mathlib.Core.List.{[], _∷_};
+ghost use Prim.Native.Nat.{_-_, _≤_, _<_, min};
+ghost use lib.ListN.{length, take};
 ghost use lib.Seq.{sets};
 ghost use Rattle.lists.specs.Lists.{joined, sum};
-ghost use Rattle.columns.specs.Reading.{slotsOf, decodeSet};
+ghost use Rattle.columns.specs.Reading.{slotsOf};
 ghost use Rattle.columns.specs.Questions.{listOf};
 ghost use Rattle.columns.specs.Walk as definition;
 ghost use Rattle.columns.specs.Walk.{levels};
-ghost use Rattle.columns.specs.Answers.{kindOf, columnsOf, room, lentRules, inOne, countedOf, writtenOver};
+ghost use Rattle.columns.specs.Answers.{kindOf, columnsOf, lentRules, writtenOver};
 ghost use Rattle.frontier.specs.Frontier.{parentsIn};
 ghost use Rattle.rounds.specs.Rounds.{endsFrom, Ran};
-ghost use Rattle.rounds.specs.Closure.{Answer};
 ghost use Rattle.walk.specs.Handing.{rooms, handedOf, numbersOf, endsOf, sharedOf, Promised};
 ghost use Rattle.walk.specs.declared.Handed.the-variants.{Levels};
 
@@ -39,33 +38,6 @@ fn least(x: usize, n: usize) -> usize
         return x;
     }
     n
-}
-
-// Reads the forward set into the first n of the targets.
-fn read(
-    targets: &mut [u64],
-    n: usize,
-    first: u64,
-    rows: usize,
-    end: u64,
-    count: u64,
-    offsets: &[u64],
-    deltas: &[i64],
-) -> Counted
-    requires { ⌜ n ≤ length (now targets) ⌝ }
-    ensures { λ r. ⌜ r ≡ countedOf (inOne (decodeSet 0 first rows end (columnsOf count (now (offsets .entry)) (now (deltas .entry))) (room n))) ⌝ }
-    ensures { λ _. ⌜ now (targets .exit) ≡ writtenOver (take n (now (targets .entry))) (inOne (decodeSet 0 first rows end (columnsOf count (now (offsets .entry)) (now (deltas .entry))) (room n))) ++ drop n (now (targets .entry)) ⌝ }
-{
-    columns::reading::decode_csr(
-        0,
-        first,
-        rows,
-        end,
-        count,
-        offsets,
-        deltas,
-        &mut targets[..n],
-    )
 }
 
 // Walks from the start in buf[0], with the levels behind it.
@@ -148,7 +120,7 @@ pub fn walk(
 {
     let mut targets = [0u64; 4096];
     let n = least(least(out.len(), ends.len()), 4096);
-    let answer = read(&mut targets, n, first, rows, end, count, offsets, deltas);
+    let answer = targets::read(&mut targets, n, first, rows, end, count, offsets, deltas);
     let slot = columns::kind::slot(kind);
     match answer {
         Counted::Refused(why) => Handed::Refused(why),
@@ -181,7 +153,7 @@ pub fn ancestor(
     ensures { λ r. ⌜ Promised r (lentRules 0 first rows end (columnsOf count (now (offsets .entry)) (now (deltas .entry))) []) (listOf first (slotsOf first (columnsOf count (now (offsets .entry)) (now (deltas .entry)))) (kindOf kind)) a b ⌝ }
 {
     let mut targets = [0u64; 4096];
-    let answer = read(&mut targets, 4096, first, rows, end, count, offsets, deltas);
+    let answer = targets::read(&mut targets, 4096, first, rows, end, count, offsets, deltas);
     let slot = columns::kind::slot(kind);
     match answer {
         Counted::Refused(why) => Shared::Refused(why),

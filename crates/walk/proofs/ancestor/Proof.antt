@@ -1,14 +1,9 @@
 -- `walk::ancestor` meets its contract.
-use Rattle.walk.proofs.Verdicts.{ancestor-refused, ancestor-found, kind-below}
+use Rattle.walk.proofs.Verdicts.{ancestor-refused, ancestor-found}
+use Rattle.targets.proofs.Verdicts.{kind-below}
 use borrow.Author.Needs.{needs}
 use Rattle.walk.proofs.ancestor.Statement.{statement}
 use Rattle.walk.proofs.ancestor.Tie as tie
-use Rattle.walk.proofs.ancestor.Reads as reads
-use Rattle.walk.proofs.ancestor.Lts as lts
-use Rattle.columns.proofs.kind.slot.Reads as slot-reads
-use Rattle.rounds.proofs.shared.Reads as shared-reads
-use Rattle.walk.proofs.answered.Reads as answered-reads
-use Rattle.walk.proofs.read.Reads as read-reads
 
 slice-aggregate-read : tie.Need-slice-aggregate-read
 slice-aggregate-read c = search needs

@@ -3,8 +3,6 @@ use Rattle.walk.proofs.Verdicts.{answered-number, answered-nothing}
 use borrow.Author.Needs.{needs}
 use Rattle.walk.proofs.answered.Statement.{statement}
 use Rattle.walk.proofs.answered.Tie as tie
-use Rattle.walk.proofs.answered.Reads as reads
-use Rattle.walk.proofs.answered.Lts as lts
 
 enum-known-found : tie.Need-enum-known-found
 enum-known-found c = search needs

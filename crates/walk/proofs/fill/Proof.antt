@@ -8,10 +8,6 @@ use borrow.Author.Needs.{needs}
 use mathlib.Core.Path.{refl}
 use Rattle.walk.proofs.fill.Statement.{statement}
 use Rattle.walk.proofs.fill.Tie as tie
-use Rattle.walk.proofs.fill.Reads as reads
-use Rattle.walk.proofs.fill.Lts as lts
-use Rattle.rounds.proofs.run.Reads as run-reads
-use Rattle.table.proofs.add.Reads as add-reads
 
 slice-aggregate-add : tie.Need-slice-aggregate-add
 slice-aggregate-add c = search needs

@@ -3,10 +3,6 @@ use Rattle.walk.proofs.Starting.{counted, numbered, ended, in-out, in-b
 use borrow.Author.Needs.{needs}
 use Rattle.walk.proofs.hand.Statement.{statement}
 use Rattle.walk.proofs.hand.Tie as tie
-use Rattle.walk.proofs.hand.Reads as reads
-use Rattle.walk.proofs.hand.Lts as lts
-use Rattle.frontier.proofs.copy.Reads as copy-reads
-use Rattle.walk.proofs.fill.Reads as fill-reads
 
 array-write-buf : tie.Need-array-write-buf
 array-write-buf c = search needs

@@ -1,14 +1,9 @@
 -- `walk::walk` meets its contract.
-use Rattle.walk.proofs.Verdicts.{walk-refused, walk-out, walk-ends, room-out, room-ends, walk-handed, walk-numbers, walk-stops, kind-below}
+use Rattle.walk.proofs.Verdicts.{walk-refused, walk-out, walk-ends, room-out, room-ends, walk-handed, walk-numbers, walk-stops}
+use Rattle.targets.proofs.Verdicts.{kind-below}
 use borrow.Author.Needs.{needs}
 use Rattle.walk.proofs.walk.Statement.{statement}
 use Rattle.walk.proofs.walk.Tie as tie
-use Rattle.walk.proofs.walk.Reads as reads
-use Rattle.walk.proofs.walk.Lts as lts
-use Rattle.columns.proofs.kind.slot.Reads as slot-reads
-use Rattle.walk.proofs.hand.Reads as hand-reads
-use Rattle.walk.proofs.least.Reads as least-reads
-use Rattle.walk.proofs.read.Reads as read-reads
 
 least-requires : tie.Need-least-requires
 least-requires c κs = search needs

@@ -1,11 +1,8 @@
--- `walk::read` meets its contract.
-use Rattle.walk.proofs.Verdicts.{read-count, read-written, part-count}
+-- `targets::read` meets its contract.
+use Rattle.targets.proofs.Verdicts.{read-count, read-written, part-count}
 use borrow.Author.Needs.{needs}
-use Rattle.walk.proofs.read.Statement.{statement}
-use Rattle.walk.proofs.read.Tie as tie
-use Rattle.walk.proofs.read.Reads as reads
-use Rattle.walk.proofs.read.Lts as lts
-use Rattle.columns.proofs.reading.decode_csr.Reads as decode-csr-reads
+use Rattle.targets.proofs.read.Statement.{statement}
+use Rattle.targets.proofs.read.Tie as tie
 
 slice-relend-prefix-decode-csr : tie.Need-slice-relend-prefix-decode-csr
 slice-relend-prefix-decode-csr c = search needs

@@ -1,0 +1,4 @@
+pub mod Visited
+pub mod Handed
+pub mod Verdicts
+pub mod Repeated
