@@ -1,0 +1,43 @@
+-- What columns must satisfy to be those of a run: counts within the limits, tables in form, records of rows that are there, parents before their
+-- children. Every test computes, so that a run is tested before it is used.
+use mathlib.Core.Bool.{Bool, true, _&&_}
+use mathlib.Core.List.{List, [], _∷_}
+use Prim.Native.Nat.{ℕ, suc, _+_, _*_}
+use lib.Dec.{ltb, leb}
+use lib.ListN.{take}
+use Rattle.lists.specs.Lists.{all}
+use Rattle.columns.specs.Limits.{kinds, maxRecords, maxNumbers, maxGroups, maxSubject, end64}
+use Rattle.columns.specs.EdgeSet.{offsetsForm, eventOf}
+use Rattle.columns.specs.Building.{inFile}
+use Rattle.held.specs.declared.Sheet as sheets
+use Rattle.held.specs.declared.Edges.{Edges}
+use Rattle.held.specs.declared.Held as holds
+use Rattle.held.specs.View.{slotsIn}
+
+-- lists of n rows: no more numbers than there is room for, offsets in form
+unfoldable pub edgesOk : ℕ → Edges → Bool
+edgesOk n e = leb (e .count) maxNumbers && offsetsForm n (e .count) (take (kinds * n + 1) (e .offsets))
+
+-- counts within the limits
+unfoldable pub countsOk : sheets.Sheet → Bool
+countsOk s =
+    leb (s .subject .length) maxSubject && (leb (s .groups .count) maxGroups && (leb (s .rows .count) maxRecords
+    && (leb (s .unresolved .count) maxRecords && (leb (s .roots .count) maxRecords && (leb (s .links .count) maxRecords
+    && ltb (s .start + s .rows .count) end64)))))
+
+-- every number of the slots from `slot` on is below its event
+unfoldable pub earlier : ℕ → ℕ → List (List ℕ) → Bool
+earlier first slot [] = true
+earlier first slot (ps ∷ lists) = all (λ p. ltb p (eventOf first slot)) ps && earlier first (suc slot) lists
+
+-- records belong to rows that are there
+unfoldable pub recordsOk : sheets.Sheet → Bool
+recordsOk s =
+    all (inFile (s .start) (s .start + s .rows .count)) (take (s .unresolved .count) (s .unresolved .children))
+    && all (λ r. ltb r (s .rows .count)) (take (s .roots .count) (s .roots .rows))
+
+unfoldable pub sheetOk : sheets.Sheet → Bool
+sheetOk s = countsOk s && (edgesOk (s .rows .count) (s .edges) && (recordsOk s && earlier (s .start) 0 (slotsIn (s .rows .count) (s .edges))))
+
+unfoldable pub heldOk : holds.Held → Bool
+heldOk h = sheetOk (h .sheet) && (edgesOk (h .sheet .rows .count) (h .reverse) && edgesOk (h .sheet .rows .count) (h .inbound))
