@@ -47,3 +47,7 @@ pub mod TakenAgain
 pub mod SameBytes
 pub mod Slots
 pub mod SheetFacts
+pub mod Parts
+pub mod Ranks
+pub mod HeldColumns
+pub mod SurvivorSheet
