@@ -51,3 +51,9 @@ pub mod Parts
 pub mod Ranks
 pub mod HeldColumns
 pub mod SurvivorSheet
+pub mod HeldRows
+pub mod HeldEvents
+pub mod GroupLinks
+pub mod HeldGroups
+pub mod HeldArchive
+pub mod HeldLimits
