@@ -8,7 +8,6 @@ use lib.Dec.{leb}
 use lib.ListN.{length}
 use Rattle.lists.specs.Lists.{flat, Each}
 use Rattle.lists.proofs.Each.{each-append, each-imp, each-mem}
-use Rattle.columns.specs.Refusal
 use Rattle.columns.specs.Refusal.{unless}
 use Rattle.columns.specs.declared.refusal.Refusal.{Refusal}
 use Rattle.columns.specs.declared.refusal.Refusal.the-variants.{SliceShort}
@@ -23,6 +22,8 @@ use Rattle.cleaning.specs.Summary.{Summary, tabled}
 use Rattle.cleaning.specs.Resolving.{resolveRules}
 use Rattle.cleaning.specs.Writing.{writeRules, bytesOf, written}
 use Rattle.cleaning.specs.Step.{Call, takes, resolves, writes, Answer, refused, wrote, State, taking, resolved, spoiled, fresh, takeMore, resolveBy, writeInto, resolve, step}
+use Rattle.cleaning.specs.Held.{heldOf}
+use Rattle.cleaning.specs.Runs.{RunState, freshRun, runStep}
 use Rattle.cleaning.specs.History.{Did, did, history, took, bytesWritten, archiveIn, Wrote, cleaned}
 use Rattle.cleaning.specs.Alike.{Alike}
 use Rattle.cleaning.specs.Claim.{Claim}
@@ -31,6 +32,7 @@ use Rattle.cleaning.proofs.Events.{valid-sources}
 use Rattle.cleaning.proofs.Tabled.{tabled-summary}
 use Rattle.cleaning.proofs.SameSummary.{summary-alike}
 use Rattle.cleaning.proofs.Invariant.{Inv, step-after, no-more}
+use Rattle.cleaning.proofs.Holding.{hold, holdOutcome, run-step}
 
 abbrev archiveFrom : List Source → Archive
 archiveFrom ss = archiveOf (record { sources = ss })
@@ -122,25 +124,40 @@ claim cs ds l w v m n =
 abbrev callOf : Did → Call
 callOf (did c a) = c
 
-module _ (Run Reply : Type 0) (view : Run → State) (answered : Reply → Answer) where
-  -- a trace is the history of its calls
-  trace-history : {r : Run} {h : List Did} → Trace Run Reply view answered r h → h ≡ history (view r) (map callOf h)
+module _ (Run Reply : Type 0) (view : Run → RunState) (answered : Reply → Answer) where
+  -- a trace from what a state holds is the history of its calls from that state
+  trace-history : {r : Run} {h : List Did} → Trace Run Reply view answered r h → (s : State) (ss : List Source) → Inv s ss → view r ≡ hold s
+      → h ≡ history s (map callOf h)
   unfolding history
-  trace-history ended = refl
-  trace-history (called {before} after c reply {h} meets rest) =
-      ap₂ (λ x y. did c x ∷ y) (meets .answer) (trace-history rest ∙ ap (λ s. history s (map callOf h)) (meets .state))
+  trace-history ended s ss i e = refl
+  trace-history (called {before} after c reply {h} meets rest) s ss i e =
+      let o : runStep (view before) c ≡ holdOutcome (step s c) = ap (λ x. runStep x c) e ∙ run-step s c ss i in
+      ap₂ (λ a hs. did c a ∷ hs) (meets .answer ∙ ap (λ x. x .answer) o)
+      (trace-history rest ((step s c) .state) (ss ++ took (did c ((step s c) .answer))) (step-after s c ss i) (meets .state ∙ ap (λ x. x .state) o))
+
+  -- from a fresh run
+  fresh-history : {r : Run} {h : List Did} → view r ≡ freshRun → Trace Run Reply view answered r h → h ≡ history fresh (map callOf h)
+  unfolding Inv hold heldOf
+  fresh-history e t = trace-history t fresh [] (refl, tt) e
 
   pub claim-of-traces : ClaimOfTraces Run Reply view answered
   claim-of-traces r s er es h g t u l w v m n =
-      let p : h ≡ history fresh (map callOf h) = trace-history t ∙ ap (λ x. history x (map callOf h)) er in
-      let q : g ≡ history fresh (map callOf g) = trace-history u ∙ ap (λ x. history x (map callOf g)) es in
+      let p : h ≡ history fresh (map callOf h) = fresh-history er t in
+      let q : g ≡ history fresh (map callOf g) = fresh-history es u in
       let c = claim (map callOf h) (map callOf g)
       (subst (λ x. Alike x (archiveIn (history fresh (map callOf g)))) (ap archiveIn p) (subst (λ x. Alike (archiveIn h) x) (ap archiveIn q) l))
       w v (subst (λ x. Wrote x w) p m) (subst (λ x. Wrote x v) q n) in
       (c .0 ∙ ap (λ x. cleaned (archiveIn x)) (sym p), c .1 ∙ ap (λ x. cleaned (archiveIn x)) (sym q), c .2)
 
--- not empty: where the runs are the states themselves, every list of calls has its trace
-pub own-trace : (s : State) (cs : List Call) → Trace State Answer (λ x. x) (λ a. a) s (history s cs)
+-- not empty: where the runs are what they hold, every list of calls has its trace from a fresh run
+own-from : (s : State) (cs : List Call) (ss : List Source) → Inv s ss → Trace RunState Answer (λ x. x) (λ a. a) (hold s) (history s cs)
 unfolding history
-own-trace s [] = ended
-own-trace s (c ∷ cs) = called ((step s c) .state) c ((step s c) .answer) (record { state = refl; answer = refl }) (own-trace ((step s c) .state) cs)
+own-from s [] ss i = ended
+own-from s (c ∷ cs) ss i =
+    let e = run-step s c ss i in
+    called (hold ((step s c) .state)) c ((step s c) .answer) (record { state = ap (λ o. o .state) (sym e); answer = ap (λ o. o .answer) (sym e) })
+    (own-from ((step s c) .state) cs (ss ++ took (did c ((step s c) .answer))) (step-after s c ss i))
+
+pub own-trace : (cs : List Call) → Trace RunState Answer (λ x. x) (λ a. a) freshRun (history fresh cs)
+unfolding Inv hold heldOf
+own-trace cs = own-from fresh cs [] (refl, tt)

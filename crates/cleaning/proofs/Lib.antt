@@ -57,3 +57,4 @@ pub mod GroupLinks
 pub mod HeldGroups
 pub mod HeldArchive
 pub mod HeldLimits
+pub mod Holding
