@@ -1,14 +1,14 @@
 -- The columns of what is held are the archive's: flags of the rows and their lists, slot by slot, are columns of the archive that is held, so that
 -- what is made of them flat is what the archive's tables hold.
-use mathlib.Core.Path.{_≡_, refl, ap, sym, _∙_}
+use mathlib.Core.Path.{_≡_, ap, sym, _∙_}
 use mathlib.Core.Bool.{false}
-use mathlib.Core.List.{List, [], _∷_, map, map-map}
+use mathlib.Core.List.{List, [], map, map-map}
 use Prim.Native.Nat.{ℕ, _+_, _-_, _*_, _/_, _%_, _<_}
 use native.Mathlib.Omega.{arith}
 use native.Mathlib.Nat.{zero-add, mod-lt, div-add-mod}
 use lib.ListN.{length, getD, length-map, List·getD-map}
 use lib.Seq.{ext-getD}
-use Rattle.lists.specs.Lists.{flat, joined, part, upFrom}
+use Rattle.lists.specs.Lists.{joined, part, upFrom}
 use Rattle.lists.proofs.Each.{each-map, each-all}
 use Rattle.lists.proofs.Flat.{length-upFrom, length-map-upFrom, getD-map-upFrom, getD-upFrom}
 use Rattle.lists.proofs.Filters.{each-below, map-places}
@@ -27,7 +27,7 @@ use Rattle.cleaning.specs.Held.{Held, eventAt, archiveHeld}
 use Rattle.cleaning.specs.Runs.{slotted}
 use Rattle.cleaning.proofs.Slots.{flagged, erasedOf, listsOf, slotList, Columns, numbers-new, survivors-new, new-lists, slot-new, entries-new, reparented-new}
 use Rattle.cleaning.proofs.SheetFacts.{Rows}
-use Rattle.cleaning.proofs.Parts.{length-part, block-at, parts-all}
+use Rattle.cleaning.proofs.Parts.{length-part, block-at, parts-all, flat-map}
 
 -- ── the events of what is held ───────────────────────────────────────────────────────────────
 
@@ -80,10 +80,6 @@ module _ (n : ℕ) (ts : List (List (List ℕ))) (w : length ts ≡ kinds) where
       ∙ ap row (getD-upFrom 0 n i 0 h ∙ zero-add i)
 
 -- ── its columns ──────────────────────────────────────────────────────────────────────────────
-
-flat-map : {A B C : Type 0} (f : B → List C) (g : A → B) (xs : List A) → flat f (map g xs) ≡ flat (λ x. f (g x)) xs
-flat-map f g [] = refl
-flat-map f g (x ∷ xs) = rw (flat-map f g xs)
 
 module _ (h : Held) (r : Rows h) (flags : List ℕ) (e : map flagged flags ≡ h .erased) where
   pub held-columns : Columns (archiveHeld h) flags (h .sheet .lists)

@@ -58,3 +58,7 @@ pub mod HeldGroups
 pub mod HeldArchive
 pub mod HeldLimits
 pub mod Holding
+pub mod Places
+pub mod SheetRows
+pub mod SheetRecords
+pub mod SheetFiles

@@ -1,12 +1,16 @@
 -- Parts of lists: lists of one width joined, whose parts at the multiples of the width are the lists themselves, and a list out of such parts.
-use mathlib.Core.Path.{_≡_, ap, _∙_}
-use mathlib.Core.List.{List, [], _∷_, _++_}
-use Prim.Native.Nat.{ℕ, zero, suc, _+_, _*_, _≤_, _<_}
+use mathlib.Core.Path.{_≡_, refl, ap, _∙_}
+use mathlib.Core.Bool.{Bool}
+use mathlib.Core.Logic.{inl, inr}
+use mathlib.Core.List.{List, [], _∷_, _++_, map}
+use Prim.Native.Nat.{ℕ, zero, suc, _+_, _-_, _*_, _≤_, _<_}
 use native.Mathlib.Omega.{arith}
-use native.Mathlib.Nat.{not-suc-le-zero, le-of-suc-le-suc, mul-zero, mul-suc}
+use native.Mathlib.Nat.{not-suc-le-zero, le-of-suc-le-suc, mul-zero, mul-suc, zero-add}
 use lib.ListN.{length, getD, take, drop, length-drop}
-use lib.Seq.{length-take-le, take-all, take-at, take-add, drop-drop, drop-append-add}
-use Rattle.lists.specs.Lists.{flat, part, upFrom, Each}
+use lib.Seq.{length-take-le, take-all, take-at, take-add, drop-at, drop-drop, drop-cons, drop-append-add}
+use Rattle.lists.specs.Lists.{flat, filter, part, upFrom, Each}
+use Rattle.lists.proofs.Tests.{tested}
+use Rattle.lists.proofs.Flat.{length-upFrom, upFrom-append}
 
 pub length-part : {A : Type 0} (i n : ℕ) (l : List A) → i + n ≤ length l → length (part i n l) ≡ n
 unfolding part
@@ -34,3 +38,36 @@ parts-from w l i (suc n) =
 pub parts-all : {A : Type 0} (w n : ℕ) (l : List A) → length l ≡ w * n → flat (λ j. part (w * j) w l) (upFrom 0 n) ≡ l
 unfolding part
 parts-all w n l e = parts-from w l 0 n ∙ ap (λ i. take (w * n) (drop i l)) (mul-zero w) ∙ take-all (w * n) l (omega arith)
+
+-- ── numbers and places ───────────────────────────────────────────────────────────────────────
+
+pub take-upFrom : (i n m : ℕ) → n ≤ m → take n (upFrom i m) ≡ upFrom i n
+take-upFrom i n m l =
+    let e : m ≡ n + (m - n) = omega arith in
+    rw (e, upFrom-append i n (m - n)) (take-at (upFrom i n) (upFrom (i + n) (m - n)) n (length-upFrom i n))
+
+pub drop-upFrom : (i n m : ℕ) → n ≤ m → drop n (upFrom i m) ≡ upFrom (i + n) (m - n)
+drop-upFrom i n m l =
+    ap (λ k. drop n (upFrom i k)) {x = m} {y = n + (m - n)} (omega arith) ∙ ap (drop n) (upFrom-append i n (m - n))
+    ∙ drop-at (upFrom i n) (upFrom (i + n) (m - n)) n (length-upFrom i n)
+
+pub part-upFrom : (a n m : ℕ) → a + n ≤ m → part a n (upFrom 0 m) ≡ upFrom a n
+unfolding part
+part-upFrom a n m l = rw (drop-upFrom 0 a m (omega arith), zero-add a) (take-upFrom a n (m - a) (omega arith))
+
+-- the elements at some places that follow one another
+pub map-part : {A : Type 0} (xs : List A) (d : A) (a n : ℕ) → a + n ≤ length xs → map (λ i. getD xs i d) (upFrom a n) ≡ part a n xs
+unfolding part upFrom
+map-part xs d a zero l = refl
+map-part xs d a (suc n) l = rw (drop-cons xs a d (omega arith)) (ap (λ ys. getD xs a d ∷ ys) (map-part xs d (suc a) n (omega arith)))
+
+-- ── made lists ───────────────────────────────────────────────────────────────────────────────
+
+pub flat-map : {A B C : Type 0} (f : B → List C) (g : A → B) (xs : List A) → flat f (map g xs) ≡ flat (λ x. f (g x)) xs
+flat-map f g [] = refl
+flat-map f g (x ∷ xs) = rw (flat-map f g xs)
+
+pub filter-map : {A B : Type 0} (p : B → Bool) (g : A → B) (xs : List A) → filter p (map g xs) ≡ map g (filter (λ x. p (g x)) xs)
+unfolding filter
+filter-map p g [] = refl
+filter-map p g (x ∷ xs) = elim (tested (p (g x))) [ inl e ↦ rw (e, filter-map p g xs) | inr e ↦ rw e (filter-map p g xs) ]

@@ -75,7 +75,8 @@ groups-sorted : (n : ℕ) (ls : List GroupLink) (g : ℕ) (fs : List Facts) → 
 unfolding groupsFrom sortGroups
 groups-sorted n ls g [] h = refl
 groups-sorted n ls g (f ∷ fs) h =
-    ap₂ (λ x xs. x ∷ xs) (rw (links-at (λ j. sortLinks (linksOf ls j)) 0 n g (omega arith) (omega arith)) (go (f .covered))) (groups-sorted n ls (1 + g) fs (omega arith))
+    ap₂ (λ x xs. x ∷ xs) (rw (links-at (λ j. sortLinks (linksOf ls j)) 0 n g (omega arith) (omega arith)) (go (f .covered)))
+    (groups-sorted n ls (1 + g) fs (omega arith))
   where
     go : (b : Bool)
         → _≡_ {A = Group} (record { depth = f .depth; links = cond b (some (sortLinks (linksOf ls g))) none })

@@ -6,6 +6,7 @@ use Rattle.cleaning.specs.Memo
 use Rattle.cleaning.specs.Resolving
 use Rattle.cleaning.specs.Routes
 use Rattle.cleaning.specs.Runs
+use Rattle.cleaning.specs.Sections
 use Rattle.cleaning.specs.Sheet
 use Rattle.cleaning.specs.Source
 use Rattle.cleaning.specs.Step
@@ -25,6 +26,7 @@ unfolding
   Resolving.entries Resolving.survivesIn Resolving.groupsSurvive Resolving.resolveRules
   Routes.passes Routes.through Routes.ends Routes.Valid
   Runs.slotted Runs.heldRules Runs.resolveHeld Runs.runStep
+  Sections.labelsFit Sections.reaches Sections.place Sections.between Sections.sectionStart Sections.sectionRows Sections.rowEdges Sections.otherRows Sections.sectionGraph Sections.sectionFile Sections.sectionRules Sections.sectionBytes
   Sheet.bodyAt Sheet.parentsAt Sheet.linksOf Sheet.groupsFrom Sheet.groupsOfSheet Sheet.summaryOf
   Source.sourceOf
   Step.resolve Step.step

@@ -12,6 +12,7 @@ pub mod Sheet
 pub mod Held
 pub mod Survivors
 pub mod Runs
+pub mod Sections
 pub mod History
 pub mod Alike
 pub mod Claim

@@ -1,0 +1,175 @@
+-- Document 01, "Cleaning" and "Archive records": an output file made of a sheet's flat lists. In a tidy sheet the rows, records and links of a
+-- group stand together, so that each column of its file is a part of the sheet's column.
+use mathlib.Core.Path.{_≡_}
+use mathlib.Core.Bool.{Bool, true, false, cond, _&&_, Bool·beq}
+use mathlib.Core.List.{List, [], _∷_, _++_, map}
+use mathlib.Core.Option.{Option, none, some}
+use Prim.Native.Nat.{ℕ, suc, _+_, _-_, _*_}
+use lib.Dec.{ltb, eqb}
+use lib.ListN.{length, getD}
+use Rattle.lists.specs.Lists.{flat, joined, starts, part, upFrom, all, filter}
+use Rattle.lists.specs.Order.{rising, notFalling}
+use Rattle.columns.specs.Limits.{kinds}
+use Rattle.columns.specs.Refusal.{firstIn}
+use Rattle.columns.specs.Reading.{Label, Labels}
+use Rattle.columns.specs.Building.{Graph, Built, buildRules, builtOf, inFile}
+use Rattle.columns.specs.declared.refusal.Refusal.{Refusal}
+use Rattle.cover.specs.Chains.{Link, rangesOf}
+use Rattle.cover.specs.Cover.{columnsOf}
+use Rattle.archive.specs.File.{Row, Unresolved, Root, CoverColumns, File}
+use Rattle.archive.specs.Encode.{encode}
+use Rattle.cleaning.specs.Source.{isThere}
+use Rattle.cleaning.specs.Writing.{Edge, labelList, labelColumns, edgesInto, inboundColumns, unresolvedColumns}
+use Rattle.cleaning.specs.Sheet.{Facts, Sheet, rowCount, parentsAt}
+use Rattle.cleaning.specs.Held.{noFacts}
+
+-- ── tidy sheets ──────────────────────────────────────────────────────────────────────────────
+
+-- what is known of a group
+abbrev pub factsOf : Sheet → ℕ → Facts
+factsOf s g = getD (s .groups) g noFacts
+
+-- a label for every row whose group has a cover, and for no other
+unfoldable pub labelsFit : List Facts → List ℕ → List (Option Label) → Bool
+labelsFit fs [] [] = true
+labelsFit fs [] (l ∷ ls) = false
+labelsFit fs (g ∷ gs) [] = false
+labelsFit fs (g ∷ gs) (l ∷ ls) = Bool·beq (isThere l) ((getD fs g noFacts) .covered) && labelsFit fs gs ls
+
+-- columns of one length; groups, roots, children and links in order, none outside; labels where covers are
+pub record Tidy (s : Sheet) : Type 0 where
+  pub eachGroup : eqb (length (s .rowGroups)) (rowCount s) ≡ true
+  pub eachLabel : eqb (length (s .labels)) (rowCount s) ≡ true
+  pub eachList : eqb (length (s .lists)) (kinds * rowCount s) ≡ true
+  pub groupOrder : notFalling (s .rowGroups) ≡ true
+  pub groupsKnown : all (λ g. ltb g (length (s .groups))) (s .rowGroups) ≡ true
+  pub rootOrder : rising (map (λ r. r .row) (s .roots)) ≡ true
+  pub rootsWithin : all (λ r. ltb (r .row) (rowCount s)) (s .roots) ≡ true
+  pub childOrder : notFalling (map (λ u. u .child) (s .unresolved)) ≡ true
+  pub childrenWithin : all (λ u. inFile (s .start) (s .start + rowCount s) (u .child)) (s .unresolved) ≡ true
+  pub linkOrder : notFalling (map (λ l. l .group) (s .links)) ≡ true
+  pub linksKnown : all (λ l. ltb (l .group) (length (s .groups))) (s .links) ≡ true
+  pub labelled : labelsFit (s .groups) (s .rowGroups) (s .labels) ≡ true
+
+-- whether a column that does not fall has every number from `seen` up to n
+unfoldable pub reaches : ℕ → ℕ → List ℕ → Bool
+reaches n seen [] = eqb seen n
+reaches n seen (x ∷ xs) = cond (eqb x seen) (reaches n (suc seen) xs) (reaches n seen xs)
+
+-- every group has a row
+abbrev pub Filled : Sheet → Type 0
+Filled s = reaches (length (s .groups)) 0 (s .rowGroups) ≡ true
+
+-- ── sections ─────────────────────────────────────────────────────────────────────────────────
+
+-- how many numbers of a column are below n: where n stands, or would stand, in a column that does not fall
+unfoldable pub place : ℕ → List ℕ → ℕ
+place n xs = length (filter (λ x. ltb x n) xs)
+
+-- the elements whose figures, which do not fall, are from `low` up to `high`
+unfoldable pub between : {A : Type 0} → (A → ℕ) → ℕ → ℕ → List A → List A
+between f low high xs = part (place low (map f xs)) (place high (map f xs) - place low (map f xs)) xs
+
+-- the rows of the groups before g
+unfoldable pub sectionStart : Sheet → ℕ → ℕ
+sectionStart s g = place g (s .rowGroups)
+
+-- how many rows group g has
+unfoldable pub sectionRows : Sheet → ℕ → ℕ
+sectionRows s g = sectionStart s (suc g) - sectionStart s g
+
+abbrev pub sectionFirst : Sheet → ℕ → ℕ
+sectionFirst s g = s .start + sectionStart s g
+
+abbrev pub sectionEnd : Sheet → ℕ → ℕ
+sectionEnd s g = s .start + sectionStart s (suc g)
+
+abbrev pub sectionTags : Sheet → ℕ → List ℕ
+sectionTags s g = part (sectionStart s g) (sectionRows s g) (s .tags)
+
+-- the parents of the rows, slot by slot
+abbrev pub sectionLists : Sheet → ℕ → List (List ℕ)
+sectionLists s g = part (kinds * sectionStart s g) (kinds * sectionRows s g) (s .lists)
+
+abbrev pub sectionLabels : Sheet → ℕ → List Label
+sectionLabels s g = flat labelList (part (sectionStart s g) (sectionRows s g) (s .labels))
+
+abbrev pub sectionUnresolved : Sheet → ℕ → List Unresolved
+sectionUnresolved s g = between (λ u. u .child) (sectionFirst s g) (sectionEnd s g) (s .unresolved)
+
+-- the roots of the rows, which count from 0 in their file
+abbrev pub sectionRoots : Sheet → ℕ → List Root
+sectionRoots s g =
+    map (λ r. record { row = r .row - sectionStart s g; handle = r .handle }) (between (λ r. r .row) (sectionStart s g) (sectionStart s (suc g)) (s .roots))
+
+abbrev pub sectionLinks : Sheet → ℕ → List Link
+sectionLinks s g = map (λ l. l .link) (between (λ l. l .group) g (suc g) (s .links))
+
+-- the edges of a row into the numbers from `first` up to `end`
+unfoldable pub rowEdges : Sheet → ℕ → ℕ → ℕ → List Edge
+rowEdges s first end i = edgesInto first end (s .start + i) 0 (parentsAt s i)
+
+-- the rows of other groups, in order
+unfoldable pub otherRows : Sheet → ℕ → List ℕ
+otherRows s g = upFrom 0 (sectionStart s g) ++ upFrom (sectionStart s (suc g)) (rowCount s - sectionStart s (suc g))
+
+abbrev pub sectionEdges : Sheet → ℕ → List Edge
+sectionEdges s g = flat (rowEdges s (sectionFirst s g) (sectionEnd s g)) (otherRows s g)
+
+-- ── files ────────────────────────────────────────────────────────────────────────────────────
+
+-- labels where the group has a cover
+abbrev pub labelsWhere : Bool → List Label → Option Labels
+labelsWhere true ls = some (labelColumns ls)
+labelsWhere false ls = none
+
+abbrev pub coverWhere : Bool → List Label → List Link → Option CoverColumns
+coverWhere true ls links = some (record { labels = labelColumns ls; ranges = rangesOf ls; links = columnsOf links })
+coverWhere false ls links = none
+
+-- what building is given of a group
+unfoldable pub sectionGraph : Sheet → ℕ → Graph
+sectionGraph s g = record {
+  subject = s .subject;
+  first = sectionFirst s g;
+  rows = sectionRows s g;
+  offsets = starts 0 (sectionLists s g);
+  targets = joined (sectionLists s g);
+  unresolved = unresolvedColumns (sectionUnresolved s g);
+  depth = (factsOf s g) .depth;
+  labels = labelsWhere ((factsOf s g) .covered) (sectionLabels s g);
+  inbound = inboundColumns (sectionEdges s g);
+  granuleFirst = 0;
+  granuleRows = sectionRows s g;
+}
+
+-- a row of an output file, which is not erased
+abbrev pub unerasedRow : ℕ → Row
+unerasedRow tag = record { erased = false; tag = tag }
+
+abbrev pub sectionFileOf : Sheet → ℕ → Built → File
+sectionFileOf s g b = record {
+  first = sectionFirst s g;
+  group = g;
+  subject = s .subject;
+  depth = (factsOf s g) .depth;
+  forward = b .forward;
+  reverse = b .reverse;
+  inbound = b .inbound;
+  rows = map unerasedRow (sectionTags s g);
+  unresolved = sectionUnresolved s g;
+  roots = sectionRoots s g;
+  cover = coverWhere ((factsOf s g) .covered) (sectionLabels s g) (sectionLinks s g);
+}
+
+-- the output file of a group
+unfoldable pub sectionFile : Sheet → ℕ → File
+sectionFile s g = sectionFileOf s g (builtOf (sectionGraph s g))
+
+-- building's rules, group by group
+unfoldable pub sectionRules : Sheet → Option Refusal
+sectionRules s = firstIn (λ g. buildRules (sectionGraph s g)) (upFrom 0 (length (s .groups)))
+
+-- the archive's bytes
+unfoldable pub sectionBytes : Sheet → List ℕ
+sectionBytes s = encode (map (sectionFile s) (upFrom 0 (length (s .groups))))
