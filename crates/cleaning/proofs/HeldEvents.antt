@@ -179,7 +179,7 @@ module _ (h : Held) (s : Source) (q : Ready h s) (d : Sound s) where
 
   rows-more : rowCount ((heldWith h s) .sheet) ≡ n + length (s .rows)
   unfolding heldWith sheetWith
-  rows-more = length-more h s q (h .sheet .tags) (λ r. r .tag) (q .rows .tags)
+  rows-more = length-more h s (h .sheet .tags) (λ r. r .tag) (q .rows .tags)
 
   pub events-with : (t : Taken) → (archiveHeld (heldWith h s)) .events ≡ (archiveHeld h) .events ++ eventsIn t s
   unfolding archiveHeld

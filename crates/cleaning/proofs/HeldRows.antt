@@ -103,13 +103,13 @@ facts-grown (suc n) (x ∷ fs) f l m c =
     let q = facts-grown n fs f (le-of-suc-le-suc l) (le-of-suc-le-suc m) (λ k. c (omega arith)) in
     (ap suc (q .0), q .1)
 
-module _ (h : Held) (s : Source) (q : Ready h s) where
+module _ (h : Held) (s : Source) where
   -- how many rows there are then, by any list that has an element for each row
   pub length-more : {A : Type 0} (xs : List A) (f : Row → A) → length xs ≡ length (h .erased)
       → length (xs ++ map f (s .rows)) ≡ length (h .erased) + length (s .rows)
   length-more xs f e = omega (arith, length-append xs (map f (s .rows)), length-map (s .rows) f)
 
-  module _ (d : Sound s) where
+  module _ (q : Ready h s) (d : Sound s) where
     rows-with : Rows (heldWith h s)
     unfolding heldWith sheetWith shifted
     rows-with =
@@ -159,11 +159,11 @@ module _ (h : Held) (s : Source) (q : Ready h s) where
 -- ── all sources ──────────────────────────────────────────────────────────────────────────────
 
 -- the last of sources taken after `before`
-abbrev pub lastAfter : Option Source → List Source → Option Source
+abbrev lastAfter : Option Source → List Source → Option Source
 lastAfter before [] = before
 lastAfter before (s ∷ ss) = lastAfter (some s) ss
 
-pub held-after : (before : Option Source) (h : Held) (ss : List Source) → HeldTo before h → Followed before ss → HeldTo (lastAfter before ss) (foldl heldWith h ss)
+held-after : (before : Option Source) (h : Held) (ss : List Source) → HeldTo before h → Followed before ss → HeldTo (lastAfter before ss) (foldl heldWith h ss)
 held-after before h [] e f = e
 held-after before h (s ∷ ss) e f = held-after (some s) (heldWith h s) ss (held-with h s (ready before h s e (f .1)) (f .0)) (f .2)
 
