@@ -61,7 +61,7 @@ module _ (n : ℕ) (ts : List (List (List ℕ))) (w : length ts ≡ kinds) where
   unfolding row
   row-wide i = length-map ts (λ t. getD t i []) ∙ w
 
-  slotted-length : length (slotted n ts) ≡ kinds * n
+  pub slotted-length : length (slotted n ts) ≡ kinds * n
   unfolding slotted row
   slotted-length = length-blocks row kinds row-wide (upFrom 0 n) ∙ ap (λ m. kinds * m) (length-upFrom 0 n)
 

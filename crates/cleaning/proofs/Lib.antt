@@ -62,3 +62,5 @@ pub mod Places
 pub mod SheetRows
 pub mod SheetRecords
 pub mod SheetFiles
+pub mod TidySurvivors
+pub mod FilledGroups

@@ -1,12 +1,12 @@
 -- Parts of lists: lists of one width joined, whose parts at the multiples of the width are the lists themselves, and a list out of such parts.
-use mathlib.Core.Path.{_≡_, refl, ap, _∙_}
+use mathlib.Core.Path.{_≡_, refl, ap, sym, _∙_}
 use mathlib.Core.Bool.{Bool}
 use mathlib.Core.Logic.{inl, inr}
 use mathlib.Core.List.{List, [], _∷_, _++_, map}
 use Prim.Native.Nat.{ℕ, zero, suc, _+_, _-_, _*_, _≤_, _<_}
 use native.Mathlib.Omega.{arith}
 use native.Mathlib.Nat.{not-suc-le-zero, le-of-suc-le-suc, mul-zero, mul-suc, zero-add}
-use lib.ListN.{length, getD, take, drop, length-drop}
+use lib.ListN.{length, getD, take, drop, length-append, length-drop}
 use lib.Seq.{length-take-le, take-all, take-at, take-add, drop-at, drop-drop, drop-cons, drop-append-add}
 use Rattle.lists.specs.Lists.{flat, filter, part, upFrom, Each}
 use Rattle.lists.proofs.Tests.{tested}
@@ -16,7 +16,12 @@ pub length-part : {A : Type 0} (i n : ℕ) (l : List A) → i + n ≤ length l �
 unfolding part
 length-part i n l h = length-take-le n (drop i l) (omega (arith, length-drop i l))
 
--- of lists of one width, joined, each stands at its place
+-- lists of one width, joined
+pub length-wide : {A B : Type 0} (f : A → List B) (w : ℕ) (xs : List A) → Each (λ x. length (f x) ≡ w) xs → length (flat f xs) ≡ w * length xs
+length-wide f w [] e = sym (mul-zero w)
+length-wide f w (x ∷ xs) e = omega (arith, length-append (f x) (flat f xs), e .0, length-wide f w xs (e .1), mul-suc w (length xs))
+
+-- each stands at its place
 pub block-at : {A B : Type 0} (f : A → List B) (w : ℕ) (xs : List A) (i : ℕ) (d : A) → Each (λ x. length (f x) ≡ w) xs → i < length xs
     → part (w * i) w (flat f xs) ≡ f (getD xs i d)
 unfolding part

@@ -155,6 +155,13 @@ ranges-follow f start xs i (suc n) =
     let t : a + (b - a) ≡ b = omega arith in
     rw (e, d, q, take-add (b - a) (c - b) (drop a xs), drop-drop (b - a) a xs, t) (ap (λ ys. take (b - a) (drop a xs) ++ ys) (ranges-follow f start xs (suc i) n))
 
+-- ── columns that rise ────────────────────────────────────────────────────────────────────────
+
+pub rises-rising : (low : ℕ) (xs : List ℕ) → risesAbove low xs ≡ true → rising xs ≡ true
+unfolding risesAbove rising
+rises-rising low [] h = refl
+rises-rising low (x ∷ xs) h = both (ltb low x) (risesAbove x xs) h .1
+
 -- a column that rises does not fall
 rises-level : (low : ℕ) (xs : List ℕ) → risesAbove low xs ≡ true → levelAbove low xs ≡ true
 unfolding risesAbove levelAbove

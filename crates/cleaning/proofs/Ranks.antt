@@ -90,7 +90,18 @@ count-flags es =
     ap (λ bs. length (filter not bs)) (sym (take-all (length es) (map erasedOf es) (omega (arith, length-map es erasedOf))))
     ∙ rank-counts es (length es) ∙ ap count (take-length es)
 
-rank-rises : (es : List Bool) (i j : ℕ) → i < j → j < length es → getD es i false ≡ false → rankIn es i < rankIn es j
+-- ranks do not fall, and rise past a row that is not erased
+pub rank-level : (es : List Bool) (i j : ℕ) → i ≤ j → rankIn es i ≤ rankIn es j
+unfolding rankIn filter
+rank-level [] zero j h = omega arith
+rank-level [] (suc i) zero h = omega arith
+rank-level [] (suc i) (suc j) h = omega arith
+rank-level (b ∷ es) zero j h = omega arith
+rank-level (b ∷ es) (suc i) zero h = absurd (not-suc-le-zero h)
+rank-level (true ∷ es) (suc i) (suc j) h = rank-level es i j (le-of-suc-le-suc h)
+rank-level (false ∷ es) (suc i) (suc j) h = omega (arith, rank-level es i j (le-of-suc-le-suc h))
+
+pub rank-rises : (es : List Bool) (i j : ℕ) → i < j → j < length es → getD es i false ≡ false → rankIn es i < rankIn es j
 unfolding rankIn filter
 rank-rises [] i j h l s = absurd (not-suc-le-zero l)
 rank-rises (b ∷ es) i zero h l s = absurd (not-suc-le-zero h)

@@ -128,7 +128,7 @@ filled-section s h g l = omega (arith, mem-place g (s .rowGroups) (reaches-mem (
 
 -- ── writing ──────────────────────────────────────────────────────────────────────────────────
 
-groups-length : (ls : List GroupLink) (g : ℕ) (fs : List Facts) → length (groupsFrom ls g fs) ≡ length fs
+pub groups-length : (ls : List GroupLink) (g : ℕ) (fs : List Facts) → length (groupsFrom ls g fs) ≡ length fs
 unfolding groupsFrom
 groups-length ls g [] = refl
 groups-length ls g (f ∷ fs) = ap suc (groups-length ls (1 + g) fs)

@@ -22,7 +22,7 @@ use Rattle.cleaning.specs.Writing.{rowsIn, unresolvedOf, rootOf, rootsFr
 use Rattle.cleaning.specs.Held.{noFacts}
 use Rattle.cleaning.specs.Sections.{Tidy, factsOf, between, sectionStart, sectionRows, sectionFirst, sectionUnresolved, sectionRoots, sectionLinks}
 use Rattle.cleaning.proofs.Parts.{flat-map}
-use Rattle.cleaning.proofs.Places.{range-one, ranges-follow, rising-level}
+use Rattle.cleaning.proofs.Places.{range-one, ranges-follow, rises-rising, rising-level}
 use Rattle.cleaning.proofs.SheetRows.{rowAt, rows-section, section-end}
 
 -- ── unresolved references ────────────────────────────────────────────────────────────────────
@@ -67,11 +67,6 @@ rows-past low i (r ∷ rs) h l =
     let q = both (ltb low (r .row)) (risesAbove (r .row) (map (λ r. r .row) rs)) h in
     let m = ltb-true low (r .row) (q .0) in
     rw (ne-eqb (r .row) i (omega arith)) (rows-past (r .row) i rs (q .1) (omega arith))
-
-rises-rising : (low : ℕ) (xs : List ℕ) → risesAbove low xs ≡ true → rising xs ≡ true
-unfolding risesAbove rising
-rises-rising low [] h = refl
-rises-rising low (x ∷ xs) h = both (ltb low x) (risesAbove x xs) h .1
 
 -- the root of a row is the one record of it
 own-root : (a i : ℕ) (rs : List Root) → rising (map (λ r. r .row) rs) ≡ true

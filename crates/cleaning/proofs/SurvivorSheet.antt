@@ -2,19 +2,19 @@
 use mathlib.Core.Path.{_≡_, refl, ap, ap₂, sym, _∙_}
 use mathlib.Core.Bool.{Bool, true, false, cond, not}
 use mathlib.Core.Logic.{inl, inr}
-use mathlib.Core.List.{List, [], _∷_, _++_, map, map-map, map-append, append-nil}
+use mathlib.Core.List.{List, [], _∷_, _++_, map, map-map, append-nil}
 use mathlib.Core.Option.{none, some}
 use Prim.Native.Nat.{ℕ, zero, suc, _+_, _-_, _*_, _≤_, _<_}
 use native.Mathlib.Omega.{arith}
 use native.Mathlib.Nat.{zero-add}
 use lib.Dec.{eqb}
 use lib.ListN.{length, getD, length-map}
-use borrow.Author.Tests.{eq-eqb, ne-eqb, eqb-true, eqb-false}
+use borrow.Author.Tests.{eqb-true, eqb-false}
 use Rattle.lists.specs.Lists.{flat, filter, part, upFrom}
 use Rattle.lists.proofs.Tests.{tested}
 use Rattle.lists.proofs.Each.{each-imp}
 use Rattle.lists.proofs.Flat.{map-ext, length-upFrom, getD-upFrom}
-use Rattle.lists.proofs.Filters.{filter-append, each-below}
+use Rattle.lists.proofs.Filters.{each-below}
 use Rattle.columns.specs.Limits.{kinds}
 use Rattle.cover.specs.Chains.{Link, sortLinks}
 use Rattle.cleaning.specs.Archive.{Group, at}
@@ -26,44 +26,27 @@ use Rattle.cleaning.specs.Survivors.{keep, rankIn, keepSlots, sortGroups
 use Rattle.cleaning.specs.Runs.{slotted}
 use Rattle.cleaning.proofs.Survivors.{Survives, survive-from, map-rank-survivors, length-survivors}
 use Rattle.cleaning.proofs.SheetFacts.{Rows}
+use Rattle.cleaning.proofs.GroupLinks.{inGroup, links-append, links-own, links-other}
 use Rattle.cleaning.proofs.HeldColumns.{events-length, event-held, events-erased, slotted-row}
 use Rattle.cleaning.proofs.Parts.{block-at}
 use Rattle.cleaning.proofs.Ranks.{length-keep, keep-at, each-keep, keep-slots, rank-counts, count-flags, rank-below, keep-root, keep-references}
 
 -- ── groups ───────────────────────────────────────────────────────────────────────────────────
 
-abbrev tagged : ℕ → Link → GroupLink
-tagged g l = record { group = g; link = l }
-
-links-append : (ls ms : List GroupLink) (g : ℕ) → linksOf (ls ++ ms) g ≡ linksOf ls g ++ linksOf ms g
-unfolding linksOf
-links-append ls ms g =
-    rw (filter-append (λ l. eqb (l .group) g) ls ms) (map-append (λ l. l .link) (filter (λ l. eqb (l .group) g) ls) (filter (λ l. eqb (l .group) g) ms))
-
-links-own : (g : ℕ) (ls : List Link) → linksOf (map (tagged g) ls) g ≡ ls
-unfolding linksOf filter
-links-own g [] = refl
-links-own g (l ∷ ls) = rw (eq-eqb g g refl) (ap (λ ms. l ∷ ms) (links-own g ls))
-
-links-other : (g j : ℕ) (ls : List Link) → (g ≡ j → ⊥) → linksOf (map (tagged g) ls) j ≡ []
-unfolding linksOf filter
-links-other g j [] d = refl
-links-other g j (l ∷ ls) d = rw (ne-eqb g j d) (links-other g j ls d)
-
 module _ (f : ℕ → List Link) where
-  links-past : (i n j : ℕ) → j < i → linksOf (flat (λ g. map (tagged g) (f g)) (upFrom i n)) j ≡ []
+  links-past : (i n j : ℕ) → j < i → linksOf (flat (λ g. inGroup g (f g)) (upFrom i n)) j ≡ []
   unfolding upFrom linksOf filter
   links-past i zero j h = refl
   links-past i (suc n) j h =
-      links-append (map (tagged i) (f i)) (flat (λ g. map (tagged g) (f g)) (upFrom (suc i) n)) j
+      links-append (inGroup i (f i)) (flat (λ g. inGroup g (f g)) (upFrom (suc i) n)) j
       ∙ ap₂ _++_ (links-other i j (f i) (λ e. omega arith)) (links-past (suc i) n j (omega arith))
 
   -- links put group by group: a group's links are those put for it
-  links-at : (i n j : ℕ) → i ≤ j → j < i + n → linksOf (flat (λ g. map (tagged g) (f g)) (upFrom i n)) j ≡ f j
+  links-at : (i n j : ℕ) → i ≤ j → j < i + n → linksOf (flat (λ g. inGroup g (f g)) (upFrom i n)) j ≡ f j
   unfolding upFrom
   links-at i zero j h l = absurd (omega arith)
   links-at i (suc n) j h l =
-      links-append (map (tagged i) (f i)) (flat (λ g. map (tagged g) (f g)) (upFrom (suc i) n)) j
+      links-append (inGroup i (f i)) (flat (λ g. inGroup g (f g)) (upFrom (suc i) n)) j
       ∙ elim (tested (eqb i j)) [
         | inl e ↦ let q : j ≡ i = sym (eqb-true i j e) in
             rw q (ap₂ _++_ (links-own i (f i)) (links-past (suc i) n i (omega arith)) ∙ append-nil (f i))
