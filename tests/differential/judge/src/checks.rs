@@ -10,8 +10,6 @@ pub const ALL: &[(&str, Check)] = &[
     ("records read and written again are the same bytes", records),
     ("a cleaned archive is cleaned to itself", again),
     ("archives that differ in what was erased are cleaned to the same bytes", erased_parts),
-    #[cfg(feature = "port")]
-    ("the port answers as the original", crate::port::run),
 ];
 
 /// The first check that an archive fails.

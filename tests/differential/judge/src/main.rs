@@ -44,11 +44,11 @@ differential cases [--question NAME] [--seed N] [--count N] [--seconds N] [--sho
 differential sample [--each N]                  print short cases: N for each refusal of each question,
                                                 and 3 N that are accepted
 differential replay < CASES                     ask the original again what kept cases ask
-differential questions [--question NAME] [--seed N] [--count N] [--seconds N] [--short all]
+differential questions [--question NAME] [--seed N] [--count N] [--seconds N] [--short all] [--size large]
                                                 ask the port what the original is asked (feature `port`)";
 
 /// What chooses the inputs of questions.
-const ASKED: &[&str] = &["question", "seed", "count", "seconds", "short"];
+const ASKED: &[&str] = &["question", "seed", "count", "seconds", "short", "size"];
 
 fn main() -> ExitCode {
     match command(env::args().skip(1)) {

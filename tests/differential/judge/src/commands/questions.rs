@@ -25,6 +25,7 @@ type Input = (&'static Question, Vec<Part>, String);
 fn asked(options: &Options) -> Result<Box<dyn Iterator<Item = Input>>, String> {
     let chosen = chosen(options)?;
     let seeds = options.seeds(100)?;
+    let large = options.word("size") == Some("large");
     if options.word("short").is_some() {
         let numbered = |question: &'static Question| {
             (question.short)().into_iter().enumerate().map(move |(at, input)| (question, input, format!("short input {at}")))
@@ -32,7 +33,8 @@ fn asked(options: &Options) -> Result<Box<dyn Iterator<Item = Input>>, String> {
         return Ok(Box::new(chosen.into_iter().flat_map(numbered)));
     }
     Ok(Box::new(seeds.flat_map(move |seed| {
-        let made = move |question: &'static Question| (question, (question.make)(&mut Random::new(seed)), format!("seed {seed}"));
+        let random = if large { Random::large } else { Random::new };
+        let made = move |question: &'static Question| (question, (question.make)(&mut random(seed)), format!("seed {seed}"));
         chosen.clone().into_iter().map(made)
     })))
 }
@@ -96,18 +98,21 @@ pub fn compare(_options: &Options) -> Done {
 
 #[cfg(feature = "port")]
 pub fn compare(options: &Options) -> Done {
-    let mut count = 0;
+    let mut counts: BTreeMap<&str, [usize; 2]> = BTreeMap::new();
     for (question, input, origin) in asked(options)? {
-        count += 1;
-        if let Some(wrong) = port::question(question, &input) {
-            let small = port::smallest::smallest(&input, &|one| port::question(question, one).is_some());
+        let Some(compared) = port::question(question, &input) else { continue };
+        if let Err(wrong) = compared {
+            let small = port::smallest::smallest(&input, &|one| port::question(question, one).is_some_and(|one| one.is_err()));
             println!("{origin}, question {}: {wrong}", question.name);
             let original = (question.ask)(&small).expect("an input that both are asked");
             println!("smallest found, the original: {}", cases::line(question.name, &small, &original));
-            println!("{}", port::question(question, &small).expect("it still differs"));
+            println!("{}", port::question(question, &small).and_then(Result::err).expect("it still differs"));
             return Ok(false);
         }
+        counts.entry(question.name).or_default()[usize::from(compared == Ok(false))] += 1;
     }
-    println!("questions: {count} asked of both, all answers the same");
-    Ok(count > 0)
+    let total: usize = counts.values().flatten().sum();
+    println!("questions: {total} asked of both, all answers the same (accepted, refused):");
+    counts.iter().for_each(|(name, [accepted, refused])| println!("  {name}: {accepted}, {refused}"));
+    Ok(total > 0)
 }

@@ -1,10 +1,7 @@
 //! Slices lent for an answer, filled with a pattern, so that entries that must keep their value are seen to.
 
-pub const OFFSETS: usize = 2049;
 pub const NUMBERS: usize = 4096;
 pub const RECORDS: usize = 1024;
-/// More than any cleaned archive or listing has.
-pub const BYTES: usize = 1 << 20;
 
 /// A number that can be a pattern.
 pub trait Pattern: Copy + PartialEq {
@@ -15,7 +12,7 @@ macro_rules! patterns {
     ($($number:ty),*) => { $(impl Pattern for $number { const PATTERN: Self = 0x5a; })* };
 }
 
-patterns!(u8, u32, u64, i64);
+patterns!(u32, u64);
 
 pub struct Lent<T>(Vec<T>);
 

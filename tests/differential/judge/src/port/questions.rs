@@ -1,7 +1,10 @@
 //! The questions over columns, asked of the proved library. Input and answer are the parts of a case.
 
-use super::boundary::*;
-use super::lent::{Lent, NUMBERS, OFFSETS, Pattern, RECORDS};
+use super::boundary::{
+    self, ridgeoven_ancestor, ridgeoven_children, ridgeoven_cover_read, ridgeoven_cover_store, ridgeoven_label, ridgeoven_next,
+    ridgeoven_parents, ridgeoven_read_granule, ridgeoven_read_set, ridgeoven_roots, ridgeoven_walk, ridgeoven_window,
+};
+use super::lent::{Lent, NUMBERS, Pattern, RECORDS};
 use crate::cases::{Answer, Part, list, number};
 
 /// What the library answers, or what it did that no answer allows.
@@ -30,11 +33,11 @@ fn refused(refusal: u64, kept: &[Result<(), String>]) -> Asked {
 }
 
 /// A list of which the library said the length.
-fn answered<T: Pattern + Into<i128>>(refusal: u64, out: &Lent<T>, length: usize) -> Asked {
-    if refusal != 0 {
-        return refused(refusal, &[out.kept()]);
+fn answered<T: Pattern + Into<i128>>(answer: &boundary::Answer, out: &Lent<T>) -> Asked {
+    if answer.refusal != 0 {
+        return refused(answer.refusal, &[out.kept()]);
     }
-    Ok(Ok(vec![list(out.taken(length)?)]))
+    Ok(Ok(vec![list(out.taken(answer.length)?)]))
 }
 
 /// The question of a name, or `None` where the boundary has none.
@@ -46,225 +49,235 @@ pub fn ask(name: &str, p: &[Part]) -> Option<Asked> {
         "label" => label(p),
         "roots" => roots(p),
         "walk" => walk(p),
-        "build" => build(p),
-        "cover" => cover(p),
         "stored" => stored(p),
         "decode" => decode(p),
         "window" => window(p),
-        "links" => chain_links(p),
         _ => return None,
     })
 }
 
-/// Set by set, then the labels: the order of reading.
+/// A set of the input: its count, offsets and deltas.
+struct Set(u64, Vec<u64>, Vec<i64>);
+
+fn set(p: &[Part], at: usize) -> Set {
+    Set(n(&p[at]), l(&p[at + 1]), l(&p[at + 2]))
+}
+
+/// The granule in one call, and each set by itself, which must answer what the granule does.
 fn read(p: &[Part]) -> Asked {
-    let mut answer = Vec::new();
-    for set in 0..3 {
-        let (count, offsets, deltas) = (n(&p[3 + 3 * set]), l::<u64>(&p[4 + 3 * set]), l::<i64>(&p[5 + 3 * set]));
-        let mut targets = Lent::<u64>::new(NUMBERS);
-        let refusal = unsafe {
-            ridgeoven_read_set(
-                set as u64, n(&p[0]), n(&p[1]), n(&p[2]), count, offsets.as_ptr(), offsets.len(), deltas.as_ptr(), deltas.len(),
-                targets.at(), targets.len(),
-            )
-        };
-        if refusal != 0 {
-            return refused(refusal, &[targets.kept()]);
-        }
-        answer.push(list(targets.taken(count as usize)?));
-    }
+    let [forward, reverse, inbound] = std::array::from_fn(|at| set(p, 3 + 3 * at));
     let (chains, seqs) = (l::<u64>(&p[13]), l::<u64>(&p[14]));
-    if n(&p[12]) == 1 {
-        let refusal = unsafe { ridgeoven_read_labels(n(&p[1]), chains.as_ptr(), chains.len(), seqs.as_ptr(), seqs.len()) };
-        if refusal != 0 {
-            return Ok(Err(refusal as u8));
-        }
-        answer.extend([list(&chains), list(&seqs)]);
-    } else {
-        answer.extend([list::<u64>(&[]), list::<u64>(&[])]);
+    let mut out: [Lent<u64>; 3] = std::array::from_fn(|_| Lent::new(NUMBERS));
+    let [f, r, i] = &mut out;
+    let answer = unsafe {
+        ridgeoven_read_granule(
+            n(&p[0]), n(&p[1]) as usize, n(&p[2]),
+            forward.0, forward.1.as_ptr(), forward.1.len(), forward.2.as_ptr(), forward.2.len(),
+            reverse.0, reverse.1.as_ptr(), reverse.1.len(), reverse.2.as_ptr(), reverse.2.len(),
+            inbound.0, inbound.1.as_ptr(), inbound.1.len(), inbound.2.as_ptr(), inbound.2.len(),
+            n(&p[12]), chains.as_ptr(), chains.len(), seqs.as_ptr(), seqs.len(),
+            f.at(), f.len(), r.at(), r.len(), i.at(), i.len(),
+        )
+    };
+    if answer.refusal != 0 {
+        return refused(answer.refusal, &out.map(|one| one.kept()));
     }
-    Ok(Ok(answer))
+    let mut read = Vec::new();
+    for ((which, set), (out, length)) in
+        [forward, reverse, inbound].iter().enumerate().zip(out.iter().zip([answer.forward, answer.reverse, answer.inbound]))
+    {
+        let targets = list(out.taken(length)?);
+        if read_set(which, set, p)? != Ok(vec![targets.clone()]) {
+            return Err(format!("set {which} is read otherwise by itself"));
+        }
+        read.push(targets);
+    }
+    let none: [u64; 0] = [];
+    read.extend(if n(&p[12]) == 1 { [list(&chains), list(&seqs)] } else { [list(&none), list(&none)] });
+    Ok(Ok(read))
+}
+
+fn read_set(which: usize, set: &Set, p: &[Part]) -> Asked {
+    let mut targets = Lent::<u64>::new(NUMBERS);
+    let answer = unsafe {
+        ridgeoven_read_set(
+            which as u64, n(&p[0]), n(&p[1]) as usize, n(&p[2]), set.0, set.1.as_ptr(), set.1.len(), set.2.as_ptr(), set.2.len(),
+            targets.at(), targets.len(),
+        )
+    };
+    answered(&answer, &targets)
 }
 
 fn parents(p: &[Part]) -> Asked {
-    let (offsets, deltas) = (l::<u64>(&p[4]), l::<i64>(&p[5]));
-    let (mut out, mut length) = (Lent::<u64>::new(NUMBERS), 0);
-    let refusal = unsafe {
+    let set = set(p, 3);
+    let mut out = Lent::<u64>::new(NUMBERS);
+    let answer = unsafe {
         ridgeoven_parents(
-            n(&p[0]), n(&p[1]), n(&p[2]), n(&p[3]), offsets.as_ptr(), offsets.len(), deltas.as_ptr(), deltas.len(),
-            n(&p[6]), n(&p[7]), out.at(), out.len(), &mut length,
+            n(&p[0]), n(&p[1]) as usize, n(&p[2]), set.0, set.1.as_ptr(), set.1.len(), set.2.as_ptr(), set.2.len(),
+            n(&p[6]), n(&p[7]), out.at(), out.len(),
         )
     };
-    answered(refusal, &out, length as usize)
+    answered(&answer, &out)
 }
 
 fn children(p: &[Part]) -> Asked {
-    let (reverse_offsets, reverse_deltas) = (l::<u64>(&p[4]), l::<i64>(&p[5]));
-    let (inbound_offsets, inbound_deltas) = (l::<u64>(&p[7]), l::<i64>(&p[8]));
-    let (mut out, mut length) = (Lent::<u64>::new(NUMBERS), 0);
-    let refusal = unsafe {
+    let (reverse, inbound) = (set(p, 3), set(p, 6));
+    let mut out = Lent::<u64>::new(NUMBERS);
+    let answer = unsafe {
         ridgeoven_children(
-            n(&p[0]), n(&p[1]), n(&p[2]),
-            n(&p[3]), reverse_offsets.as_ptr(), reverse_offsets.len(), reverse_deltas.as_ptr(), reverse_deltas.len(),
-            n(&p[6]), inbound_offsets.as_ptr(), inbound_offsets.len(), inbound_deltas.as_ptr(), inbound_deltas.len(),
-            n(&p[9]), n(&p[10]), out.at(), out.len(), &mut length,
+            n(&p[0]), n(&p[1]) as usize, n(&p[2]),
+            reverse.0, reverse.1.as_ptr(), reverse.1.len(), reverse.2.as_ptr(), reverse.2.len(),
+            inbound.0, inbound.1.as_ptr(), inbound.1.len(), inbound.2.as_ptr(), inbound.2.len(),
+            n(&p[9]), n(&p[10]), out.at(), out.len(),
         )
     };
-    answered(refusal, &out, length as usize)
+    answered(&answer, &out)
 }
 
 fn label(p: &[Part]) -> Asked {
     let (chains, seqs) = (l::<u64>(&p[2]), l::<u64>(&p[3]));
-    let (mut out, mut length) = (Lent::<u64>::new(2), 0);
-    let refusal = unsafe {
-        ridgeoven_label(
-            n(&p[0]), n(&p[1]), chains.as_ptr(), chains.len(), seqs.as_ptr(), seqs.len(), n(&p[4]), out.at(), out.len(), &mut length,
-        )
+    let label = unsafe {
+        ridgeoven_label(n(&p[0]), n(&p[1]) as usize, chains.as_ptr(), chains.len(), seqs.as_ptr(), seqs.len(), n(&p[4]))
     };
-    answered(refusal, &out, length as usize)
+    let found: &[u32] = if label.found == 1 { &[label.chain, label.seq] } else { &[] };
+    Ok(if label.refusal != 0 { Err(label.refusal as u8) } else { Ok(vec![list(found)]) })
 }
 
 fn roots(p: &[Part]) -> Asked {
     let events = l::<u64>(&p[2]);
     let mut out = Lent::<u64>::new(RECORDS);
-    let refusal = unsafe { ridgeoven_roots(n(&p[0]), n(&p[1]), events.as_ptr(), events.len(), out.at(), out.len()) };
-    answered(refusal, &out, events.len())
+    let answer = unsafe { ridgeoven_roots(n(&p[0]), n(&p[1]) as usize, events.as_ptr(), events.len(), out.at(), out.len()) };
+    answered(&answer, &out)
 }
 
 fn walk(p: &[Part]) -> Asked {
-    let (offsets, deltas) = (l::<u64>(&p[4]), l::<i64>(&p[5]));
+    let set = set(p, 3);
     let (mut numbers, mut ends) = (Lent::<u64>::new(NUMBERS), Lent::<u64>::new(NUMBERS));
-    let mut work = vec![0u64; NUMBERS];
-    let (mut levels, mut handed) = (0, 0);
-    let refusal = unsafe {
+    let walked = unsafe {
         ridgeoven_walk(
-            n(&p[0]), n(&p[1]), n(&p[2]), n(&p[3]), offsets.as_ptr(), offsets.len(), deltas.as_ptr(), deltas.len(),
-            n(&p[6]), n(&p[7]), n(&p[8]), numbers.at(), numbers.len(), ends.at(), ends.len(), work.as_mut_ptr(), work.len(),
-            &mut levels, &mut handed,
+            n(&p[0]), n(&p[1]) as usize, n(&p[2]), set.0, set.1.as_ptr(), set.1.len(), set.2.as_ptr(), set.2.len(),
+            n(&p[6]), n(&p[7]) as usize, n(&p[8]), numbers.at(), numbers.len(), ends.at(), ends.len(),
         )
     };
-    if work.iter().any(|word| *word != 0) {
-        return Err("a work slice is not zeros".into());
+    if walked.refusal != 0 {
+        return refused(walked.refusal, &[numbers.kept(), ends.kept()]);
     }
-    if refusal != 0 {
-        return refused(refusal, &[numbers.kept(), ends.kept()]);
-    }
-    let numbers = numbers.taken(handed as usize)?;
-    let mut answer = vec![number(levels)];
+    let numbers = numbers.taken(walked.handed)?;
+    let mut answer = vec![number(walked.levels as u64)];
     let mut start = 0;
-    for &end in ends.taken(levels as usize)? {
+    for &end in ends.taken(walked.levels)? {
         answer.push(list(numbers.get(start..end as usize).ok_or("levels do not end in order")?));
         start = end as usize;
     }
-    answer.push(number(handed));
+    step_by_step(p, &set, &answer[1..])?;
+    shared(p, &set, numbers)?;
+    answer.push(number(walked.handed as u64));
     Ok(Ok(answer))
 }
 
-fn build(p: &[Part]) -> Asked {
-    let subject = l::<u8>(&p[0]);
-    let column = |at: usize| l::<u64>(&p[at]);
-    let (offsets, targets) = (column(3), column(4));
-    let (children, kinds, flags) = (column(5), column(6), column(7));
-    let (depth, chains, seqs) = (column(8), column(10), column(11));
-    let (into, parents, by) = (column(12), column(13), column(14));
-    let mut out: [(Lent<u64>, Lent<i64>); 3] = std::array::from_fn(|_| (Lent::new(OFFSETS), Lent::new(NUMBERS)));
-    let [(fo, fd), (ro, rd), (io, id)] = &mut out;
-    let refusal = unsafe {
-        ridgeoven_build(
-            subject.as_ptr(), subject.len(), n(&p[1]), n(&p[2]), offsets.as_ptr(), offsets.len(), targets.as_ptr(), targets.len(),
-            children.as_ptr(), children.len(), kinds.as_ptr(), kinds.len(), flags.as_ptr(), flags.len(),
-            depth.as_ptr(), depth.len(), n(&p[9]), chains.as_ptr(), chains.len(), seqs.as_ptr(), seqs.len(),
-            into.as_ptr(), into.len(), parents.as_ptr(), parents.len(), by.as_ptr(), by.len(), n(&p[15]), n(&p[16]),
-            fo.at(), fo.len(), fd.at(), fd.len(), ro.at(), ro.len(), rd.at(), rd.len(), io.at(), io.len(), id.at(), id.len(),
+/// The levels again, each asked for by itself from what was visited and the level before it.
+fn step_by_step(p: &[Part], set: &Set, levels: &[Part]) -> Result<(), String> {
+    let mut visited = vec![n(&p[8])];
+    let (mut frontier, mut limit) = (visited.clone(), n(&p[7]) as usize);
+    for at in 0.. {
+        let mut out = Lent::<u64>::new(NUMBERS);
+        let answer = unsafe {
+            ridgeoven_next(
+                n(&p[0]), n(&p[1]) as usize, n(&p[2]), set.0, set.1.as_ptr(), set.1.len(), set.2.as_ptr(), set.2.len(),
+                n(&p[6]), limit, visited.as_ptr(), visited.len(), frontier.as_ptr(), frontier.len(), out.at(), out.len(),
+            )
+        };
+        let level = match answered(&answer, &out)? {
+            Ok(level) => level,
+            Err(refusal) => return Err(format!("next refuses with {refusal} what the walk takes")),
+        };
+        let found = out.taken(answer.length)?;
+        if found.is_empty() {
+            return if at == levels.len() { Ok(()) } else { Err(format!("next ends after {at} levels")) };
+        }
+        if levels.get(at) != level.first() {
+            return Err(format!("next answers another level {at}"));
+        }
+        limit -= found.len();
+        visited.extend(found);
+        frontier = found.to_vec();
+        if visited.len() > NUMBERS {
+            return Ok(());
+        }
+    }
+    Ok(())
+}
+
+/// The shared ancestor of the start and each of the first numbers that it reaches: there is one, and of a number with itself it is that
+/// number.
+fn shared(p: &[Part], set: &Set, numbers: &[u64]) -> Result<(), String> {
+    let start = n(&p[8]);
+    let ask = |a: u64, b: u64| unsafe {
+        ridgeoven_ancestor(
+            n(&p[0]), n(&p[1]) as usize, n(&p[2]), set.0, set.1.as_ptr(), set.1.len(), set.2.as_ptr(), set.2.len(), n(&p[6]), a, b,
         )
     };
-    if refusal != 0 {
-        return refused(refusal, &out.iter().flat_map(|(offsets, deltas)| [offsets.kept(), deltas.kept()]).collect::<Vec<_>>());
+    let own = ask(start, start);
+    if (own.refusal, own.found) != (0, 1) {
+        return Err("a number has no shared ancestor with itself".into());
     }
-    let mut answer = Vec::new();
-    for (offsets, deltas) in &out {
-        let offsets = offsets.taken(2 * n(&p[16]) as usize + 1)?;
-        let count = *offsets.last().expect("at least one offset");
-        answer.extend([number(count), list(offsets), list(deltas.taken(count as usize)?)]);
+    match numbers.iter().take(4).find(|number| ask(start, **number).found != 1 || ask(**number, start).found != 1) {
+        Some(number) => Err(format!("{start} reaches {number}, and they have no shared ancestor")),
+        None => Ok(()),
     }
-    Ok(Ok(answer))
 }
 
-/// Records of so many parts as one column after the other.
-fn parted(records: &[u32], parts: usize) -> Vec<Part> {
-    (0..parts).map(|part| list(&records.iter().skip(part).step_by(parts).copied().collect::<Vec<u32>>())).collect()
+/// The columns of records, one for each part.
+fn columns<const PARTS: usize>(p: &[Part]) -> [Vec<u32>; PARTS] {
+    std::array::from_fn(|at| l(&p[at]))
 }
 
-/// Columns of equal number as records.
-fn joined(columns: &[Part]) -> Vec<u32> {
-    let columns: Vec<Vec<u32>> = columns.iter().map(l).collect();
-    (0..columns[0].len()).flat_map(|at| columns.iter().map(move |column| column[at])).collect()
+/// Four lent columns of records.
+fn four() -> [Lent<u32>; 4] {
+    std::array::from_fn(|_| Lent::new(RECORDS))
 }
 
-fn cover(p: &[Part]) -> Asked {
-    let (chains, seqs, links) = (l::<u32>(&p[0]), l::<u32>(&p[1]), joined(&p[2..6]));
-    let (mut ranges, mut sorted) = (Lent::<u32>::new(3 * RECORDS), Lent::<u32>::new(4 * RECORDS));
-    let mut counts = [0u64; 2];
-    let refusal = unsafe {
-        ridgeoven_cover_build(
-            chains.as_ptr(), chains.len(), seqs.as_ptr(), seqs.len(), links.as_ptr(), links.len(),
-            ranges.at(), ranges.len(), sorted.at(), sorted.len(), counts.as_mut_ptr(), counts.len(),
-        )
-    };
-    if refusal != 0 {
-        return refused(refusal, &[ranges.kept(), sorted.kept()]);
+fn records(answer: &boundary::Answer, out: &[Lent<u32>]) -> Asked {
+    if answer.refusal != 0 {
+        return refused(answer.refusal, &out.iter().map(Lent::kept).collect::<Vec<_>>());
     }
-    let mut answer = parted(ranges.taken(3 * counts[0] as usize)?, 3);
-    answer.extend(parted(sorted.taken(4 * counts[1] as usize)?, 4));
-    Ok(Ok(answer))
+    Ok(Ok(out.iter().map(|one| Ok(list(one.taken(answer.length)?))).collect::<Result<_, String>>()?))
 }
 
 fn stored(p: &[Part]) -> Asked {
-    let links = joined(&p[0..4]);
-    let mut columns = Lent::<u32>::new(4 * RECORDS);
-    let refusal = unsafe { ridgeoven_cover_store(links.as_ptr(), links.len(), columns.at(), columns.len()) };
-    if refusal != 0 {
-        return refused(refusal, &[columns.kept()]);
-    }
-    Ok(Ok(parted(columns.taken(links.len())?, 4)))
+    let [a, b, c, d] = columns(p);
+    let mut out = four();
+    let [w, x, y, z] = &mut out;
+    let answer = unsafe {
+        ridgeoven_cover_store(
+            a.as_ptr(), a.len(), b.as_ptr(), b.len(), c.as_ptr(), c.len(), d.as_ptr(), d.len(),
+            w.at(), w.len(), x.at(), x.len(), y.at(), y.len(), z.at(), z.len(),
+        )
+    };
+    records(&answer, &out)
 }
 
 fn decode(p: &[Part]) -> Asked {
-    let ranges = joined(&p[0..3]);
-    let [a, b, c, d] = std::array::from_fn(|at| l::<u32>(&p[3 + at]));
-    let mut links = Lent::<u32>::new(4 * RECORDS);
-    let refusal = unsafe {
+    let [ids, minima, maxima, a, b, c, d] = columns(p);
+    let mut out = four();
+    let [w, x, y, z] = &mut out;
+    let answer = unsafe {
         ridgeoven_cover_read(
-            ranges.as_ptr(), ranges.len(), a.as_ptr(), a.len(), b.as_ptr(), b.len(), c.as_ptr(), c.len(), d.as_ptr(), d.len(),
-            links.at(), links.len(),
+            ids.as_ptr(), ids.len(), minima.as_ptr(), minima.len(), maxima.as_ptr(), maxima.len(),
+            a.as_ptr(), a.len(), b.as_ptr(), b.len(), c.as_ptr(), c.len(), d.as_ptr(), d.len(),
+            w.at(), w.len(), x.at(), x.len(), y.at(), y.len(), z.at(), z.len(),
         )
     };
-    if refusal != 0 {
-        return refused(refusal, &[links.kept()]);
-    }
-    Ok(Ok(parted(links.taken(4 * a.len())?, 4)))
+    records(&answer, &out)
 }
 
 fn window(p: &[Part]) -> Asked {
-    let ranges = joined(&p[0..3]);
-    let mut met = 0;
-    let refusal = unsafe {
-        ridgeoven_window(ranges.as_ptr(), ranges.len(), n(&p[3]) as u32, n(&p[4]) as u32, n(&p[5]) as u32, &mut met)
-    };
-    Ok(if refusal != 0 { Err(refusal as u8) } else { Ok(vec![number(met)]) })
-}
-
-fn chain_links(p: &[Part]) -> Asked {
-    let [a, b, c, d, chains] = std::array::from_fn(|at| l::<u32>(&p[at]));
-    let (mut links, mut count) = (Lent::<u32>::new(4 * RECORDS), 0);
-    let refusal = unsafe {
-        ridgeoven_chain_links(
-            a.as_ptr(), a.len(), b.as_ptr(), b.len(), c.as_ptr(), c.len(), d.as_ptr(), d.len(), chains.as_ptr(), chains.len(),
-            links.at(), links.len(), &mut count,
+    let [ids, minima, maxima] = columns(p);
+    let held = unsafe {
+        ridgeoven_window(
+            ids.as_ptr(), ids.len(), minima.as_ptr(), minima.len(), maxima.as_ptr(), maxima.len(),
+            n(&p[3]) as u32, n(&p[4]) as u32, n(&p[5]) as u32,
         )
     };
-    if refusal != 0 {
-        return refused(refusal, &[links.kept()]);
-    }
-    Ok(Ok(parted(links.taken(4 * count as usize)?, 4)))
+    Ok(if held.refusal != 0 { Err(held.refusal as u8) } else { Ok(vec![number(held.holds)]) })
 }

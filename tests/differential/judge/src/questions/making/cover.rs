@@ -5,7 +5,11 @@ use crate::random::Random;
 use std::collections::BTreeSet;
 
 fn few(random: &mut Random) -> usize {
-    if random.once_in(12) { random.below(40) } else { random.below(5) }
+    match random.below(12) {
+        _ if random.large => random.below(1025),
+        0 => random.below(40),
+        _ => random.below(5),
+    }
 }
 
 fn some_links(random: &mut Random) -> Vec<[u32; 4]> {

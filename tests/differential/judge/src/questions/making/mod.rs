@@ -22,7 +22,11 @@ struct Place {
 }
 
 fn place(random: &mut Random) -> Place {
-    let rows = if random.once_in(12) { random.within(0, 40) } else { random.within(0, 4) };
+    let rows = match random.below(12) {
+        _ if random.large => random.of(&[64, 1023, 1024]).min(random.within(1, 2000)),
+        0 => random.within(0, 40),
+        _ => random.within(0, 4),
+    };
     let near = random.within(0, 3);
     let last = u64::MAX - rows;
     let first = random.of(&[near, 100, 100, 1000, (1 << 63) - near, (1 << 63) + near, last - near, last]).min(last);
@@ -60,7 +64,9 @@ fn targets(random: &mut Random, place: &Place, set: usize, event: u64) -> Vec<u6
         _ => (place.end.max(event.saturating_sub(REACH)), event.saturating_add(1 << 63)),
     };
     let mut found = Vec::new();
-    for _ in 0..random.of(&[0, 0, 1, 1, 2, 3, 6]) {
+    // with so many rows all slots together stay within a column
+    let most = (2048 / place.rows.max(1)).min(6);
+    for _ in 0..random.of(&[0, 0, 1, 1, 2, 3, 6]).min(most) {
         if low <= high && !(set == 0 && event == 0) {
             let near = if set == 0 { high - random.within(0, (high - low).min(5)) } else { low + random.within(0, (high - low).min(5)) };
             found.push(random.of(&[near, near, near, near, low, high]));

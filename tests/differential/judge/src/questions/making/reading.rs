@@ -104,7 +104,8 @@ pub fn walk(random: &mut Random) -> Vec<Part> {
     let place = place(random);
     let mut parts = place.parts();
     parts.extend(set(random, &place, 0));
-    let limit = random.of(&[0, 1, 2, 3, 4, 5, 10, 100]);
+    let limits: &[u64] = if random.large { &[0, 1, 100, 1023, 4095, 4096, 4097, u64::MAX] } else { &[0, 1, 2, 3, 4, 5, 10, 100] };
+    let limit = random.of(limits);
     parts.extend([number(random.below(2) as u8), number(limit), number(place.number(random))]);
     parts
 }
