@@ -1,17 +1,10 @@
--- Places: where a number stands in a rising list, and the link that stands at a place of four columns.
-use mathlib.Core.Bool.{cond}
-use mathlib.Core.List.{List, [], _∷_}
-use Prim.Native.Nat.{ℕ, suc}
-use lib.Dec.{ltb}
+-- Places: the link that stands at a place of four columns, and those from a place on.
+use mathlib.Core.List.{List}
+use Prim.Native.Nat.{ℕ}
 use lib.ListN.{getD, drop}
 use Rattle.cover.specs.Chains.{Link}
 use Rattle.cover.specs.Cover.{linksOf}
 use Rattle.cover.specs.Answers.{link}
-
--- how many numbers stand before the first that is not below x
-unfoldable pub placeOf : ℕ → List ℕ → ℕ
-placeOf x [] = 0
-placeOf x (y ∷ ys) = cond (ltb y x) (suc (placeOf x ys)) 0
 
 -- the link at a place of four columns
 unfoldable pub rowAt : List ℕ → List ℕ → List ℕ → List ℕ → ℕ → Link

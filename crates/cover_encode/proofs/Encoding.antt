@@ -1,7 +1,7 @@
 -- Encoding: the loop that writes differences, and the verdict, return by return.
 use mathlib.Core.Path.{_≡_, refl, sym, _∙_, ap}
 use mathlib.Core.Bool.{Bool, true, false, not, _&&_}
-use mathlib.Core.List.{List, [], _∷_, map}
+use mathlib.Core.List.{List, [], _∷_}
 use mathlib.Core.Option.{none}
 use Prim.Native.Nat.{ℕ, suc, _+_, _≤_, _<_}
 use native.Mathlib.Numerals.{add-one}
@@ -18,7 +18,7 @@ use Rattle.columns.specs.declared.refusal.Refusal.the-variants.{OverRecords, Sl
 use Rattle.cover.specs.Cover.{LinkColumns, linksOf, evenColumns, wrappingLess, differences, columnsOf, encode}
 use Rattle.cover.specs.Answers.{linkColumns, linkLengths, forRecords, over, counted, columnsOver, columnsAfter}
 use Rattle.cover.specs.declared.answer.Answer.the-variants.{Refused, Done}
-use Rattle.cover_limits.proofs.Anyone.{any-nil, few-first, long-first}
+use Rattle.cover_limits.proofs.Anyone.{any-nil}
 use Rattle.cover_rows.proofs.Columned.{over-sets}
 use Rattle.cover_rows.proofs.Fitting.{columns-of}
 use Rattle.cover_limits.proofs.Verdicts.{counted-refused, counted-done, limits-records, limits-short, limits-none, first-refuses, next-rule, no-rule, refuse-not, refuse-none}
@@ -159,17 +159,3 @@ module _ (s b c d ns : List ℕ) where
 
 pub columns-even : (s b c d : List ℕ) {v : Bool} → v ≡ evenColumns (linkColumns s b c d) → not v ≡ false → evenColumns (linkColumns s b c d) ≡ true
 columns-even s b c d {v} g p = sym g ∙ not-false v p
-
--- columns within the limits fit into the slices
-module _ (s b c d x y z v : ℕ) (t : Bool) (e : t ≡ any (ltb maxRecords) (s ∷ b ∷ c ∷ d ∷ [])) (h : t ≡ false) where
-  pub four-few : s ≤ 1024
-  four-few = few-first 1024 s _ (sym e ∙ h) .0
-
-  module _ (u : Bool) (f : u ≡ any short (forRecords (x ∷ y ∷ z ∷ v ∷ []))) (k : u ≡ false) where
-    pub four-rooms : (s ≤ x) × ((s ≤ y) × ((s ≤ z) × (s ≤ v)))
-    four-rooms =
-        let p = long-first x _ (sym f ∙ k) in
-        let q = long-first y _ (p .1) in
-        let r = long-first z _ (q .1) in
-        let o = long-first v [] (r .1) in
-        (omega (arith, four-few), (omega (arith, four-few), (omega (arith, four-few), omega (arith, four-few))))

@@ -1,2 +1,3 @@
 pub mod Anyone
 pub mod Verdicts
+pub mod Rooms

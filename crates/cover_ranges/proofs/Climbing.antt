@@ -1,19 +1,17 @@
 -- Rising lists: a loop that tests them, and where a number stands in one.
-use mathlib.Core.Path.{_≡_, refl, sym, _∙_, ap}
-use mathlib.Core.Bool.{Bool, true, false, cond, _&&_}
-use mathlib.Core.Logic.{inl, inr}
+use mathlib.Core.Path.{_≡_, refl}
+use mathlib.Core.Bool.{Bool, true, false}
 use mathlib.Core.List.{List, [], _∷_}
-use Prim.Native.Nat.{ℕ, zero, suc, _+_, _-_, _/_, _≤_, _<_}
+use Prim.Native.Nat.{ℕ, zero, suc, _+_, _≤_, _<_}
 use native.Mathlib.Numerals.{add-one}
 use native.Mathlib.Nat.{not-suc-le-zero, le-of-suc-le-suc}
 use native.Mathlib.Omega.{arith}
 use lib.Dec.{ltb}
-use lib.ListN.{length, take, drop, getD, drop-of-length-le}
-use lib.Seq.{drop-cons, length-take-le, getD-take}
-use borrow.Author.Tests.{lt-ltb, le-ltb, ltb-true, ltb-false}
+use lib.ListN.{length, drop, getD, drop-of-length-le}
+use lib.Seq.{drop-cons}
+use borrow.Author.Tests.{lt-ltb, le-ltb, ltb-true}
 use Rattle.lists.specs.Order.{risesAbove, rising}
-use Rattle.lists.proofs.Tests.{tested, both}
-use Rattle.cover.specs.Places.{placeOf}
+use Rattle.lists.proofs.Tests.{both}
 
 -- ── the test ─────────────────────────────────────────────────────────────────────────────────
 
@@ -70,57 +68,3 @@ unfolding rising
 rises-past [] i a h = absurd (not-suc-le-zero h)
 rises-past (x ∷ xs) zero a h = a
 rises-past (x ∷ xs) (suc i) a h = rises-past xs i (rises-rising x xs a) (le-of-suc-le-suc h)
-
--- ── where a number stands ────────────────────────────────────────────────────────────────────
-
-pub place-le : (x : ℕ) (l : List ℕ) → placeOf x l ≤ length l
-unfolding placeOf
-place-le x [] = omega arith
-place-le x (y ∷ ys) = elim (tested (ltb y x)) [ inl e ↦ rw e (omega (arith, place-le x ys)) | inr e ↦ rw e (omega arith) ]
-
-above : (x : ℕ) (l : List ℕ) (i : ℕ) → rising l ≡ true → i < length l → getD l i 0 < x → i < placeOf x l
-unfolding rising placeOf
-above x [] i a h k = absurd (not-suc-le-zero h)
-above x (y ∷ ys) zero a h k = rw (lt-ltb y x k) (omega arith)
-above x (y ∷ ys) (suc i) a h k =
-    let p = rises-get y ys i a (le-of-suc-le-suc h) in
-    rw (lt-ltb y x (omega arith)) (omega (arith, above x ys i (rises-rising y ys a) (le-of-suc-le-suc h) k))
-
-not-above : (x : ℕ) (l : List ℕ) (i : ℕ) → i < length l → x ≤ getD l i 0 → placeOf x l ≤ i
-unfolding placeOf
-not-above x [] i h k = absurd (not-suc-le-zero h)
-not-above x (y ∷ ys) zero h k = rw (le-ltb y x k) (omega arith)
-not-above x (y ∷ ys) (suc i) h k =
-    elim (tested (ltb y x)) [ inl e ↦ rw e (omega (arith, not-above x ys i (le-of-suc-le-suc h) k)) | inr e ↦ rw e (omega arith) ]
-
-pub place-stands : (x : ℕ) (l : List ℕ) → placeOf x l < length l → x ≤ getD l (placeOf x l) 0
-unfolding placeOf
-place-stands x [] h = absurd (not-suc-le-zero h)
-place-stands x (y ∷ ys) h =
-    elim (tested (ltb y x)) [ inl e ↦ rw e (place-stands x ys (le-of-suc-le-suc (rw e at h))) | inr e ↦ rw e (ltb-false y x e) ]
-
--- ── the search ───────────────────────────────────────────────────────────────────────────────
-
-module _ (x n : ℕ) (l : List ℕ) (o : n ≤ length l) where
-  pub place-in : placeOf x (take n l) ≤ n
-  place-in = omega (arith, place-le x (take n l), length-take-le n l o)
-
-  module _ (low high : ℕ) (h : low < high) (k : high ≤ n) where
-    middle-in : low + (high - low) / 2 < n
-    middle-in = omega arith
-
-    pub go-right : rising (take n l) ≡ true → getD l (low + (high - low) / 2) 0 < x → low + (high - low) / 2 + 1 ≤ placeOf x (take n l)
-    go-right a f =
-        let m = middle-in in
-        let g : getD (take n l) (low + (high - low) / 2) 0 < x = rw (getD-take n l (low + (high - low) / 2) 0 m) f in
-        let q = above x (take n l) (low + (high - low) / 2) a (rw (length-take-le n l o) m) g in
-        rw add-one q
-
-    pub go-left : x ≤ getD l (low + (high - low) / 2) 0 → placeOf x (take n l) ≤ low + (high - low) / 2
-    go-left f =
-        let m = middle-in in
-        let g : x ≤ getD (take n l) (low + (high - low) / 2) 0 = rw (getD-take n l (low + (high - low) / 2) 0 m) f in
-        not-above x (take n l) (low + (high - low) / 2) (rw (length-take-le n l o) m) g
-
-pub meet-there : (low high p : ℕ) → low ≤ p → p ≤ high → high ≤ low → low ≡ p
-meet-there low high p h k g = omega arith

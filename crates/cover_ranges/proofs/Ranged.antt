@@ -1,25 +1,25 @@
 -- Range columns place by place: the tests of their form, and the range that a window meets.
-use mathlib.Core.Path.{_≡_, refl, sym, _∙_, ap}
-use mathlib.Core.Bool.{Bool, true, false, cond, not, _&&_, _||_}
+use mathlib.Core.Path.{_≡_, refl, ap}
+use mathlib.Core.Bool.{Bool, true, false, not, _&&_, _||_}
 use mathlib.Core.Logic.{inl, inr}
 use mathlib.Core.List.{List, [], _∷_, map}
-use Prim.Native.Nat.{ℕ, zero, suc, _+_, _≤_, _<_}
+use Prim.Native.Nat.{ℕ, suc, _+_, _≤_, _<_}
 use native.Mathlib.Numerals.{add-one}
-use native.Mathlib.Nat.{not-suc-le-zero, le-of-suc-le-suc}
 use native.Mathlib.Omega.{arith}
 use lib.Dec.{ltb, leb, eqb}
-use lib.ListN.{length, take, drop, getD, drop-of-length-le}
-use lib.Seq.{drop-cons, take-length, drop-length}
-use borrow.Author.Tests.{lt-ltb, le-ltb, le-leb, lt-leb, eq-eqb, ne-eqb, ltb-true, ltb-false, eqb-true, not-true, not-false}
+use lib.ListN.{length, drop, getD, drop-of-length-le}
+use lib.Seq.{drop-cons}
+use borrow.Author.Tests.{le-leb, lt-leb, eq-eqb, ne-eqb, ltb-true, eqb-true, not-true, not-false}
 use Rattle.lists.specs.Lists.{all, any}
-use Rattle.lists.specs.Order.{risesAbove, rising}
+use Rattle.lists.specs.Order.{risesAbove, rising, notFalling}
 use Rattle.lists.proofs.Tests.{tested, both}
 use Rattle.cover.specs.Chains.{Range}
 use Rattle.cover.specs.Cover.{rangesOk}
 use Rattle.cover.specs.Questions.{meets}
-use Rattle.cover.specs.Places.{placeOf}
+use Rattle.searching.specs.Place.{placeOf}
+use Rattle.searching.proofs.Halving.{rising-level, place-stands}
 use Rattle.cover.specs.Answers.{range, rangesIn, rangeColumns, evenRanges, rangesFit}
-use Rattle.cover_ranges.proofs.Climbing.{rises-lower, rises-past, place-stands}
+use Rattle.cover_ranges.proofs.Climbing.{rises-lower, rises-past}
 
 pub ranges-cons : (i : ℕ) (a b c : List ℕ) → i < length a → length b ≡ length a → length c ≡ length a
     → rangesIn (drop i a) (drop i b) (drop i c) ≡ range (getD a i 0) (getD b i 0) (getD c i 0) ∷ rangesIn (drop (suc i) a) (drop (suc i) b) (drop (suc i) c)
@@ -97,8 +97,8 @@ module _ (a b c : List ℕ) (fit : rangesFit (rangeColumns a b c) ≡ true) wher
       let q = both (rising (map (λ r. r .chain) (rangesIn a b c))) (all (λ x. leb (x .least) (x .greatest)) (rangesIn a b c)) p .0 in
       rw (ids-of a b c fit-minima fit-maxima) at q
 
-  pub fit-rises : rising (take (length a) a) ≡ true
-  fit-rises = rw (take-length a) fit-rising
+  pub fit-level : notFalling a ≡ true
+  fit-level = rising-level a fit-rising
 
   pub in-minima : (p : ℕ) → p < length a → p < length b
   in-minima p h = omega (arith, fit-minima)
@@ -137,10 +137,7 @@ module _ (chain low high : ℕ) where
   or-false true = refl
   or-false false = refl
 
-  module _ (a b c : List ℕ) (fit : rangesFit (rangeColumns a b c) ≡ true) (p : ℕ) (e : p ≡ placeOf chain (take (length a) a)) where
-    at-place : p ≡ placeOf chain a
-    at-place = e ∙ ap (placeOf chain) (take-length a)
-
+  module _ (a b c : List ℕ) (fit : rangesFit (rangeColumns a b c) ≡ true) (p : ℕ) (at-place : p ≡ placeOf chain a) where
     from-place : any (meets chain low high) (rangesIn a b c) ≡ any (meets chain low high) (rangesIn (drop p a) (drop p b) (drop p c))
     from-place = rw at-place (skip a b c (fit-minima a b c fit) (fit-maxima a b c fit))
 

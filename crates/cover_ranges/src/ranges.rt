@@ -3,11 +3,10 @@ ghost use mathlib.Core.Path.{_≡_};
 ghost use mathlib.Core.Bool.{true, _&&_};
 ghost use Prim.Native.Nat.{_≤_};
 ghost use lib.Dec.{leb};
-ghost use lib.ListN.{length, take, drop};
+ghost use lib.ListN.{length, drop};
 ghost use Rattle.lists.specs.Lists.{all, any};
 ghost use Rattle.lists.specs.Order.{rising, risesAbove};
 ghost use Rattle.cover.specs.Answers.{rangesIn, rangeColumns, rangesFit};
-ghost use Rattle.cover.specs.Places.{placeOf};
 ghost use Rattle.cover.specs.Questions.{meets};
 
 // Whether ids rise from the second on, the second above `first`.
@@ -68,32 +67,13 @@ pub fn ranges_fit(ids: &[u32], minima: &[u32], maxima: &[u32]) -> bool
     in_order(ids, minima, maxima)
 }
 
-// How many of the first n ids are below the chain: where its range is, or would be.
-pub fn place(ids: &[u32], n: usize, chain: u32) -> usize
-    requires { ⌜ (n ≤ length (now ids)) × (rising (take n (now ids)) ≡ true) ⌝ }
-    ensures { λ r. ⌜ (r ≤ n) × (r ≡ placeOf chain (take n (now (ids .entry)))) ⌝ }
-{
-    let mut low = 0;
-    let mut high = n;
-    while low < high {
-        let middle = low + (high - low) / 2;
-        if ids[middle] < chain {
-            low = middle + 1;
-        } else {
-            high = middle;
-        }
-    }
-    low
-}
-
 // Whether the window meets the chain's range.
 pub fn holds(ids: &[u32], minima: &[u32], maxima: &[u32], chain: u32, low: u32, high: u32) -> bool
     requires { ⌜ rangesFit (rangeColumns (now ids) (now minima) (now maxima)) ≡ true ⌝ }
     ensures { λ r. ⌜ r ≡ any (meets chain low high) (rangesIn (now (ids .entry)) (now (minima .entry)) (now (maxima .entry))) ⌝ }
 {
-    let n = ids.len();
-    let p = place(ids, n, chain);
-    if n <= p {
+    let p = searching::place_in_narrow(ids, chain as u64);
+    if ids.len() <= p {
         return false;
     }
     if ids[p] != chain {

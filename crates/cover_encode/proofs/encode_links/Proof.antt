@@ -1,4 +1,5 @@
-use Rattle.cover_encode.proofs.Encoding.{encode-over-told, encode-over-kept, encode-short-told, encode-short-kept, encode-uneven-told, encode-uneven-kept, encode-told, encode-written, columns-even, four-rooms}
+use Rattle.cover_limits.proofs.Rooms.{four-rooms}
+use Rattle.cover_encode.proofs.Encoding.{encode-over-told, encode-over-kept, encode-short-told, encode-short-kept, encode-uneven-told, encode-uneven-kept, encode-told, encode-written, columns-even}
 use borrow.Author.Needs.{needs}
 use Rattle.cover_encode.proofs.encode_links.Statement.{statement}
 use Rattle.cover_encode.proofs.encode_links.Tie as tie
@@ -24,7 +25,7 @@ returns-3 c = (search encode-uneven-told, search encode-uneven-kept)
 write-stored-requires : tie.Need-write-stored-requires
 write-stored-requires c κs = (
   columns-even _ _ _ _ (c .before .before .before .before .before .are-even .ensures) (c .before .before .before .before .if3 .left),
-  four-rooms _ _ _ _ _ _ _ _ _ (c .before .before .before .before .before .before .before .before .before .four-over .ensures) (c .before .before .before .before .before .before .before .before .if1 .left) _ (c .before .before .before .before .before .before .before .four-short .ensures) (c .before .before .before .before .before .before .if2 .left),
+  four-rooms _ _ _ _ _ (c .before .before .before .before .before .before .before .before .before .four-over .ensures) (c .before .before .before .before .before .before .before .before .if1 .left) _ _ _ _ _ (c .before .before .before .before .before .before .before .four-short .ensures) (c .before .before .before .before .before .before .if2 .left),
 )
 
 same-length : tie.Need-same-length

@@ -1,10 +1,10 @@
-use Rattle.cover_ranges.proofs.Ranged.{fit-rises, in-minima, in-maxima, window-past, window-other, window-under, window-meets}
+use Rattle.cover_ranges.proofs.Ranged.{fit-level, in-minima, in-maxima, window-past, window-other, window-under, window-meets}
 use borrow.Author.Needs.{needs}
 use Rattle.cover_ranges.proofs.ranges.holds.Statement.{statement}
 use Rattle.cover_ranges.proofs.ranges.holds.Tie as tie
 
-place-requires : tie.Need-place-requires
-place-requires c κs = (search needs, search fit-rises)
+place-in-narrow-requires : tie.Need-place-in-narrow-requires
+place-in-narrow-requires c κs = search fit-level
 
 returns : tie.Need-returns
 returns c = search window-past
@@ -40,7 +40,7 @@ pub holds-spec : {M : Type 1} → statement M
 holds-spec =
     tie.close
     (tie.spec
-    place-requires
+    place-in-narrow-requires
     returns
     mul-if2
     shared-slice-read-if2

@@ -1,21 +1,19 @@
-use mathlib.Core.Path.{_≡_}
 use Prim.Native.Nat.{_≤_, _-_}
-use native.Mathlib.Omega.{arith}
-use lib.ListN.{length, take}
-use Rattle.cover.specs.Places.{placeOf}
-use Rattle.cover_ranges.proofs.Climbing.{place-in, go-right, go-left, meet-there}
+use lib.ListN.{length}
+use Rattle.searching.specs.Place.{placeOf}
+use Rattle.searching.proofs.Halving.{place-le, go-right, go-left, meet-there}
 use borrow.Author.Needs.{needs}
-use Rattle.cover_ranges.proofs.ranges.place.Statement.{statement}
-use Rattle.cover_ranges.proofs.ranges.place.Tie as tie
+use Rattle.searching.proofs.place_in_wide.Statement.{statement}
+use Rattle.searching.proofs.place_in_wide.Tie as tie
 
 abbrev Inv-loop : tie.InvT-loop
-Inv-loop ids n chain low₀ high₀ low high = (low ≤ high) × (high ≤ n) × (low ≤ placeOf chain (take n ids)) × (placeOf chain (take n ids) ≤ high)
+Inv-loop a x low₀ high₀ low high = (low ≤ high) × (high ≤ length a) × (low ≤ placeOf x a) × (placeOf x a ≤ high)
 
 abbrev μ-loop : tie.MeasureT-loop
-μ-loop ids n chain low₀ high₀ low high = high - low
+μ-loop a x low₀ high₀ low high = high - low
 
 loop-holds : tie.Need-loop-holds Inv-loop μ-loop
-loop-holds c = (search needs, search needs, search needs, search place-in)
+loop-holds c = (search needs, search needs, search needs, search place-le)
 
 sub-middle : tie.Need-sub-middle Inv-loop μ-loop
 sub-middle c = search needs
@@ -23,11 +21,11 @@ sub-middle c = search needs
 add-middle : tie.Need-add-middle Inv-loop μ-loop
 add-middle c = search needs
 
-mul-if1 : tie.Need-mul-if1 Inv-loop μ-loop
-mul-if1 c = search needs
+mul-y : tie.Need-mul-y Inv-loop μ-loop
+mul-y c = search needs
 
-shared-slice-read-if1 : tie.Need-shared-slice-read-if1 Inv-loop μ-loop
-shared-slice-read-if1 c = search needs
+shared-slice-read-y : tie.Need-shared-slice-read-y Inv-loop μ-loop
+shared-slice-read-y c = search needs
 
 add-low : tie.Need-add-low Inv-loop μ-loop
 add-low c = search needs
@@ -47,8 +45,8 @@ loop-again-2 c = (search needs, search needs, search needs, search go-left)
 returns : tie.Need-returns Inv-loop μ-loop
 returns c = (search needs, search meet-there)
 
-pub place-spec : {M : Type 1} → statement M
-place-spec =
+pub place-in-wide-spec : {M : Type 1} → statement M
+place-in-wide-spec =
     tie.close
     (tie.spec
     Inv-loop
@@ -56,8 +54,8 @@ place-spec =
     loop-holds
     sub-middle
     add-middle
-    mul-if1
-    shared-slice-read-if1
+    mul-y
+    shared-slice-read-y
     add-low
     loop-less
     loop-again
