@@ -25,16 +25,20 @@ countsOk s =
     && (leb (s .unresolved .count) maxRecords && (leb (s .roots .count) maxRecords && (leb (s .links .count) maxRecords
     && ltb (s .start + s .rows .count) end64)))))
 
+-- a number is below a bound
+unfoldable pub below : ℕ → ℕ → Bool
+below bound n = ltb n bound
+
 -- every number of the slots from `slot` on is below its event
 unfoldable pub earlier : ℕ → ℕ → List (List ℕ) → Bool
 earlier first slot [] = true
-earlier first slot (ps ∷ lists) = all (λ p. ltb p (eventOf first slot)) ps && earlier first (suc slot) lists
+earlier first slot (ps ∷ lists) = all (below (eventOf first slot)) ps && earlier first (suc slot) lists
 
 -- records belong to rows that are there
 unfoldable pub recordsOk : sheets.Sheet → Bool
 recordsOk s =
     all (inFile (s .start) (s .start + s .rows .count)) (take (s .unresolved .count) (s .unresolved .children))
-    && all (λ r. ltb r (s .rows .count)) (take (s .roots .count) (s .roots .rows))
+    && all (below (s .rows .count)) (take (s .roots .count) (s .roots .rows))
 
 unfoldable pub sheetOk : sheets.Sheet → Bool
 sheetOk s = countsOk s && (edgesOk (s .rows .count) (s .edges) && (recordsOk s && earlier (s .start) 0 (slotsIn (s .rows .count) (s .edges))))

@@ -1,4 +1,7 @@
 // What a run holds, as columns of fixed length: the rows and records of its sources, and those of its survivors. specs/ says what they stand for.
+pub mod empty;
+pub mod tests;
+pub mod valid;
 
 // The bytes that name the room.
 pub struct Subject {

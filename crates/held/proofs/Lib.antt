@@ -1,0 +1,2 @@
+pub mod ColumnTurns
+pub mod Verdicts

@@ -1,0 +1,20 @@
+-- `held::valid::edges_ok` meets its contract.
+use Rattle.held.proofs.Verdicts.{many-numbers, table-test}
+use borrow.Author.Needs.{needs}
+use Rattle.held.proofs.valid.edges_ok.Statement.{statement}
+use Rattle.held.proofs.valid.edges_ok.Tie as tie
+use Rattle.held.proofs.valid.edges_ok.Reads as reads
+use Rattle.held.proofs.valid.edges_ok.Lts as lts
+use Rattle.held.proofs.tests.table_ok.Reads as table-ok-reads
+
+returns : tie.Need-returns
+returns c = search many-numbers
+
+table-ok-requires : tie.Need-table-ok-requires
+table-ok-requires c κs = search needs
+
+returns-2 : tie.Need-returns-2
+returns-2 c = search table-test
+
+pub edges-ok-spec : {M : Type 1} → statement M
+edges-ok-spec = tie.close (tie.spec returns table-ok-requires returns-2)
