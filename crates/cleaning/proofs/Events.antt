@@ -63,7 +63,7 @@ getD-below first slot lists i h = elim (tested (ltb i (length lists))) [
   | inr e ↦ rw (List·getD-eq-default lists [] {n = i} (ltb-false i (length lists) e)) tt
 ]
 
-part-below : (first i k : ℕ) (lists : List (List ℕ)) → EachFrom (SlotBelow first) 0 lists → AllBelow (first + i) (getD (part (kinds * i) kinds lists) k [])
+pub part-below : (first i k : ℕ) (lists : List (List ℕ)) → EachFrom (SlotBelow first) 0 lists → AllBelow (first + i) (getD (part (kinds * i) kinds lists) k [])
 unfolding part
 part-below first i k lists h = elim (tested (ltb k kinds)) [
   | inl e ↦ let l = ltb-true k kinds e in

@@ -64,3 +64,10 @@ pub mod SheetRecords
 pub mod SheetFiles
 pub mod TidySurvivors
 pub mod FilledGroups
+pub mod SheetLabels
+pub mod Offsets
+pub mod Orders
+pub mod HeldValid
+pub mod Orderly
+pub mod TidyHeld
+pub mod Neat

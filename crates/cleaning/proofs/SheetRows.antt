@@ -3,22 +3,24 @@ use mathlib.Core.Path.{_≡_, refl, ap, ap₂, sym, _∙_}
 use mathlib.Core.Bool.{true, not}
 use mathlib.Core.List.{_∷_, _++_, map, map-map}
 use mathlib.Core.Option.{none}
-use Prim.Native.Nat.{ℕ, zero, suc, _+_, _-_, _≤_, _<_}
+use Prim.Native.Nat.{ℕ, zero, suc, _+_, _-_, _*_, _≤_, _<_}
 use native.Mathlib.Omega.{arith}
 use native.Mathlib.Nat.{not-suc-le-zero, zero-add, add-zero}
 use lib.Dec.{eqb}
 use lib.ListN.{length, getD, take, drop}
 use borrow.Author.Tests.{eqb-true}
-use Rattle.lists.specs.Lists.{flat, filter, part, upFrom}
+use Rattle.lists.specs.Lists.{flat, joined, starts, filter, part, upFrom}
 use Rattle.lists.specs.Order.{notFalling}
-use Rattle.lists.proofs.Flat.{length-map-upFrom}
-use Rattle.lists.proofs.Filters.{map-places}
+use Rattle.lists.proofs.Each.{each-getD}
+use Rattle.lists.proofs.Flat.{length-upFrom, length-map-upFrom, getD-upFrom}
+use Rattle.lists.proofs.Filters.{filter-passes, map-places}
 use Rattle.columns.specs.Limits.{kinds}
 use Rattle.cleaning.specs.Summary.{Kept, kept}
 use Rattle.cleaning.specs.Sheet.{Sheet, rowCount, bodyAt, parentsAt, summaryOf}
 use Rattle.cleaning.specs.Writing.{Numbered, numberedFrom, numbered, groupIs, rowsIn, firstNumber, labelList, labelsIn, slotsOfRows}
 use Rattle.cleaning.specs.Sections.{Tidy, place, between, sectionStart, sectionRows, sectionFirst, sectionTags, sectionLists, sectionLabels, otherRows}
 use Rattle.cleaning.proofs.Parts.{parts-from, take-upFrom, drop-upFrom, part-upFrom, map-part, flat-map, filter-map}
+use Rattle.cleaning.proofs.Offsets.{starts-part, joined-part}
 use Rattle.cleaning.proofs.Places.{place-within, place-rises, range-one, outside-one}
 
 -- the i-th row under its number
@@ -69,6 +71,16 @@ module _ (s : Sheet) (t : Tidy s) where
         range-one (λ i. getD (s .rowGroups) i 0) g (upFrom 0 (rowCount s)) in-order
         ∙ ap (λ gs. part (place g gs) (place (suc g) gs - place g gs) (upFrom 0 (rowCount s))) row-groups
         ∙ part-upFrom (sectionStart s g) (sectionRows s g) (rowCount s) (omega (arith, section-end, section-within))
+
+    -- each of its rows is of the group
+    pub group-row : (i : ℕ) → sectionStart s g ≤ i → i < sectionStart s (suc g) → getD (s .rowGroups) i 0 ≡ g
+    group-row i l m =
+        let a = sectionStart s g in
+        let n = sectionRows s g in
+        let q = each-getD (λ j. eqb (getD (s .rowGroups) j 0) g ≡ true) (upFrom a n) (i - a) 0
+        (rw places-section at (filter-passes (λ j. eqb (getD (s .rowGroups) j 0) g) (upFrom 0 (rowCount s)))) (omega (arith, length-upFrom a n, section-end)) in
+        let e : getD (upFrom a n) (i - a) 0 ≡ i = getD-upFrom a n (i - a) 0 (omega (arith, section-end)) ∙ omega arith in
+        eqb-true (getD (s .rowGroups) i 0) g (rw e at q)
 
     -- the rows of a group
     pub rows-section : rowsIn (summaryOf s) g ≡ map (rowAt s) (upFrom (sectionStart s g) (sectionRows s g))
@@ -122,3 +134,24 @@ module _ (s : Sheet) (t : Tidy s) where
     lists-section =
         ap (flat (λ r. r .row .parents)) rows-section ∙ flat-map (λ r. r .row .parents) (rowAt s) (upFrom (sectionStart s g) (sectionRows s g))
         ∙ parts-from kinds (s .lists) (sectionStart s g) (sectionRows s g)
+
+    -- ── its lists as flat columns ────────────────────────────────────────────────────────────
+
+    lists-within : kinds * sectionStart s g + kinds * sectionRows s g ≤ length (s .lists)
+    lists-within = omega (arith, section-end, section-within, eqb-true (length (s .lists)) (kinds * rowCount s) (t .eachList))
+
+    -- where the lists start, out of where all start
+    pub offsets-section : starts 0 (sectionLists s g)
+        ≡ map (λ o. o - getD (starts 0 (s .lists)) (kinds * sectionStart s g) 0)
+        (part (kinds * sectionStart s g) (suc (kinds * sectionRows s g)) (starts 0 (s .lists)))
+    offsets-section = starts-part (kinds * sectionStart s g) (kinds * sectionRows s g) (s .lists) lists-within
+
+    -- what they hold, out of what all hold
+    pub targets-section : joined (sectionLists s g)
+        ≡ part (getD (starts 0 (s .lists)) (kinds * sectionStart s g) 0)
+        (getD (starts 0 (s .lists)) (kinds * sectionStart s (suc g)) 0 - getD (starts 0 (s .lists)) (kinds * sectionStart s g) 0) (joined (s .lists))
+    targets-section =
+        let e : kinds * sectionStart s g + kinds * sectionRows s g ≡ kinds * sectionStart s (suc g) = omega (arith, section-end) in
+        joined-part (kinds * sectionStart s g) (kinds * sectionRows s g) (s .lists) lists-within
+        ∙ ap (λ k. part (getD (starts 0 (s .lists)) (kinds * sectionStart s g) 0)
+        (getD (starts 0 (s .lists)) k 0 - getD (starts 0 (s .lists)) (kinds * sectionStart s g) 0) (joined (s .lists))) e

@@ -77,7 +77,7 @@ same-eq [] (y ∷ ys) e = absurd (false≢true e)
 same-eq (x ∷ xs) [] e = absurd (false≢true e)
 same-eq (x ∷ xs) (y ∷ ys) e = let p = both (eqb x y) (same xs ys) e in ap₂ (λ z zs. z ∷ zs) (eqb-true x y (p .0)) (same-eq xs ys (p .1))
 
-beq-eq : (a b : Bool) → Bool·beq a b ≡ true → a ≡ b
+pub beq-eq : (a b : Bool) → Bool·beq a b ≡ true → a ≡ b
 beq-eq true true e = refl
 beq-eq true false e = absurd (false≢true e)
 beq-eq false true e = absurd (false≢true e)
