@@ -71,3 +71,4 @@ pub mod HeldValid
 pub mod Orderly
 pub mod TidyHeld
 pub mod Neat
+pub mod FlatResolving

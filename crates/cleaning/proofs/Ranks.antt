@@ -14,11 +14,12 @@ use Rattle.lists.specs.Lists.{flat, filter, part, upFrom, Each}
 use Rattle.lists.proofs.Tests.{tested, not-both}
 use Rattle.lists.proofs.Once.{eqb-iff}
 use Rattle.columns.specs.Limits.{kinds}
+use Rattle.renumber.specs.Numbers.{takes, numbersFrom}
 use Rattle.archive.specs.File.{Unresolved, Root}
 use Rattle.cleaning.specs.Archive.{Event, rootIn, referencesIn}
 use Rattle.cleaning.specs.Cleaning.{count}
 use Rattle.cleaning.specs.Survivors.{keep, rankIn, keepSlots, keepUnresolved, keepRoots}
-use Rattle.cleaning.proofs.Slots.{erasedOf}
+use Rattle.cleaning.proofs.Slots.{flagged, erasedOf}
 
 -- ── elements ─────────────────────────────────────────────────────────────────────────────────
 
@@ -89,6 +90,20 @@ unfolding rankIn
 count-flags es =
     ap (λ bs. length (filter not bs)) (sym (take-all (length es) (map erasedOf es) (omega (arith, length-map es erasedOf))))
     ∙ rank-counts es (length es) ∙ ap count (take-length es)
+
+-- renumbering's column gives every row its rank, from the start on
+pub numbers-ranks : (start : ℕ) (flags : List ℕ) (i : ℕ) → i < length flags → getD (numbersFrom start flags) i 0 ≡ start + rankIn (map flagged flags) i
+unfolding numbersFrom takes rankIn filter
+numbers-ranks start [] i l = absurd (not-suc-le-zero l)
+numbers-ranks start (f ∷ fs) zero l = omega arith
+numbers-ranks start (f ∷ fs) (suc i) l = numbers-ranks (start + cond (eqb f 0) 1 0) fs i (le-of-suc-le-suc l) ∙ go (eqb f 0)
+  where
+    rest : List Bool
+    rest = filter not (take i (map flagged fs))
+
+    go : (b : Bool) → start + cond b 1 0 + length rest ≡ start + length (cond (not (not b)) (not b ∷ rest) rest)
+    go true = omega arith
+    go false = omega arith
 
 -- ranks do not fall, and rise past a row that is not erased
 pub rank-level : (es : List Bool) (i j : ℕ) → i ≤ j → rankIn es i ≤ rankIn es j
