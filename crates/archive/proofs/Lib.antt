@@ -5,3 +5,4 @@ pub mod Back
 pub mod Framed
 pub mod Bodies
 pub mod Faithful
+pub mod Lengths

@@ -26,15 +26,23 @@ unfoldable pub depthBytes : Option Depth → List ℕ
 depthBytes none = (0 ∷ []) ++ (bytesOf 8 0 ++ bytesOf 8 0)
 depthBytes (some d) = (1 ∷ []) ++ (bytesOf 8 (d .least) ++ bytesOf 8 (d .greatest))
 
+-- first number, number of rows, group, subject and depth
+abbrev pub headFields : ℕ → ℕ → ℕ → List ℕ → Option Depth → List ℕ
+headFields first rows group subject depth =
+    bytesOf 8 first ++ (bytesOf 4 rows ++ ((group ∷ []) ++ ((length subject ∷ []) ++ (subject ++ depthBytes depth))))
+
 unfoldable pub headBytes : File → List ℕ
-headBytes f =
-    bytesOf 8 (f .first) ++ (bytesOf 4 (length (f .rows)) ++ ((f .group ∷ []) ++ ((length (f .subject) ∷ []) ++ (f .subject ++ depthBytes (f .depth)))))
+headBytes f = headFields (f .first) (length (f .rows)) (f .group) (f .subject) (f .depth)
 
 unfoldable pub setBytes : EdgeSet → List ℕ
 setBytes s = bytesOf 4 (s .count) ++ (columnBytes 8 (s .offsets) ++ columnBytes 8 (map unsignedOf (s .deltas)))
 
+-- forward, reverse, inbound
+abbrev pub setsBytes : EdgeSet → EdgeSet → EdgeSet → List ℕ
+setsBytes a b c = setBytes a ++ (setBytes b ++ setBytes c)
+
 unfoldable pub edgesBytes : File → List ℕ
-edgesBytes f = setBytes (f .forward) ++ (setBytes (f .reverse) ++ setBytes (f .inbound))
+edgesBytes f = setsBytes (f .forward) (f .reverse) (f .inbound)
 
 abbrev pub flagOf : Bool → ℕ
 flagOf true = 1

@@ -1,0 +1,47 @@
+-- `archive_records::record_edges` meets its contract.
+use Rattle.archive_records.proofs.Whole.{edges-record}
+use borrow.Author.Needs.{needs}
+use Rattle.archive_records.proofs.record_edges.Statement.{statement}
+use Rattle.archive_records.proofs.record_edges.Tie as tie
+use Rattle.archive_records.proofs.record_edges.Reads as reads
+use Rattle.archive_records.proofs.record_edges.Lts as lts
+use Rattle.archive_records.proofs.sets_size.Reads as sets-size-reads
+use Rattle.archive_stores.proofs.edges.store_edges.Reads as store-edges-reads
+use Rattle.archive_stores.proofs.heads.store_start.Reads as store-start-reads
+
+sets-size-requires : tie.Need-sets-size-requires
+sets-size-requires c κs = search needs
+
+store-start-requires : tie.Need-store-start-requires
+store-start-requires c κs = search needs
+
+add-store-edges : tie.Need-add-store-edges
+add-store-edges c = search needs
+
+store-edges-requires : tie.Need-store-edges-requires
+store-edges-requires c κs = search needs
+
+add-result : tie.Need-add-result
+add-result c = search needs
+
+add-result-2 : tie.Need-add-result-2
+add-result-2 c = search needs
+
+same-length : tie.Need-same-length
+same-length c = search needs
+
+returns : tie.Need-returns
+returns c = (search (needs, edges-record), search needs)
+
+pub record-edges-spec : {M : Type 1} → statement M
+record-edges-spec =
+    tie.close
+    (tie.spec
+    sets-size-requires
+    store-start-requires
+    add-store-edges
+    store-edges-requires
+    add-result
+    add-result-2
+    same-length
+    returns)

@@ -1,0 +1,42 @@
+-- `archive_stores::heads::store_three` meets its contract.
+use Rattle.archive_stores.proofs.Chained.{three-stored}
+use borrow.Author.Needs.{needs}
+use Rattle.archive_stores.proofs.heads.store_three.Statement.{statement}
+use Rattle.archive_stores.proofs.heads.store_three.Tie as tie
+use Rattle.archive_stores.proofs.heads.store_three.Reads as reads
+use Rattle.archive_stores.proofs.heads.store_three.Lts as lts
+use Rattle.bigend.proofs.store_u64.Reads as store-u64-reads
+use Rattle.bigend.proofs.store_u8.Reads as store-u8-reads
+
+store-u8-requires : tie.Need-store-u8-requires
+store-u8-requires c κs = search needs
+
+add-store-u64 : tie.Need-add-store-u64
+add-store-u64 c = search needs
+
+store-u64-requires : tie.Need-store-u64-requires
+store-u64-requires c κs = search needs
+
+add-store-u64-2 : tie.Need-add-store-u64-2
+add-store-u64-2 c = search needs
+
+store-u64-requires-2 : tie.Need-store-u64-requires-2
+store-u64-requires-2 c κs = search needs
+
+same-length : tie.Need-same-length
+same-length c = search needs
+
+returns : tie.Need-returns
+returns c = search (needs, three-stored)
+
+pub store-three-spec : {M : Type 1} → statement M
+store-three-spec =
+    tie.close
+    (tie.spec
+    store-u8-requires
+    add-store-u64
+    store-u64-requires
+    add-store-u64-2
+    store-u64-requires-2
+    same-length
+    returns)

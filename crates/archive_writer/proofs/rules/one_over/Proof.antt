@@ -1,0 +1,11 @@
+-- `archive_writer::rules::one_over` meets its contract.
+use Rattle.cover_limits.proofs.Anyone.{any-here, any-last, any-on}
+use borrow.Author.Needs.{needs}
+use Rattle.archive_writer.proofs.rules.one_over.Statement.{statement}
+use Rattle.archive_writer.proofs.rules.one_over.Tie as tie
+
+returns : tie.Need-returns
+returns c = search any-last
+
+pub one-over-spec : {M : Type 1} → statement M
+one-over-spec = tie.close (tie.spec returns)

@@ -1,0 +1,14 @@
+-- `archive_writer::rules::two_over` meets its contract.
+use Rattle.cover_limits.proofs.Anyone.{any-here, any-last, any-on}
+use borrow.Author.Needs.{needs}
+use Rattle.archive_writer.proofs.rules.two_over.Statement.{statement}
+use Rattle.archive_writer.proofs.rules.two_over.Tie as tie
+
+returns : tie.Need-returns
+returns c = search any-here
+
+returns-2 : tie.Need-returns-2
+returns-2 c = search (any-on, any-last)
+
+pub two-over-spec : {M : Type 1} → statement M
+two-over-spec = tie.close (tie.spec returns returns-2)
