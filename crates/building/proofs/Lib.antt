@@ -1,4 +1,2 @@
 pub mod RootRows
-pub mod SpanWrites
-pub mod SetWrites
-pub mod StartWrites
+pub mod WholeBuild

@@ -1,2 +1,1 @@
-pub mod GivenEdges
 pub mod Recorded

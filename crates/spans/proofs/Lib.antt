@@ -1,4 +1,3 @@
 pub mod SpanTurns
-pub mod EdgeTables
+pub mod GranuleTables
 pub mod SpanOrder
-pub mod RuleGroups

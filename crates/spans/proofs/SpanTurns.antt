@@ -1,21 +1,21 @@
 -- Edges of a granule: event minus target as a number of signed 64 bits, and one turn over targets, slots and edges.
 use mathlib.Core.Path.{_≡_, refl, sym, ap}
-use mathlib.Core.Bool.{Bool, true, false, not, cond, _&&_, _||_}
+use mathlib.Core.Bool.{Bool, true, false, not, _&&_}
 use mathlib.Core.Logic.{inl, inr}
 use mathlib.Core.List.{List, [], _∷_, _++_, map}
 use Prim.Native.Nat.{ℕ, zero, suc, _+_, _-_, _*_, _/_, _≤_, _<_}
 use native.Mathlib.Numerals.{add-one}
 use native.Mathlib.Omega.{arith}
-use lib.Dec.{ltb, leb, eqb}
+use lib.Dec.{ltb, leb}
 use lib.IntN.{pos, negsuc}
 use lib.ListN.{length, getD, drop, drop-of-length-le, length-take, length-drop}
 use lib.Seq.{slice, slice-cons, drop-cons, getD-take, getD-drop}
-use borrow.Author.Tests.{lt-ltb, le-ltb, leb-true, leb-false, eq-eqb, ne-eqb, not-true, not-false}
-use Rattle.lists.specs.Lists.{all, mem, part, joined}
+use borrow.Author.Tests.{lt-ltb, le-ltb, leb-true, leb-false, not-true, not-false}
+use Rattle.lists.specs.Lists.{all, part, joined}
 use Rattle.lists.proofs.Tests.{tested}
 use Rattle.columns.specs.EdgeSet.{offsetsForm, cut, eventOf, deltaOf, deltasFrom}
-use Rattle.columns.specs.Building.{inFile, childrenTo, fits63, deltasFit}
-use Rattle.spans.specs.Spanned.{edgesOnce, edgeFits, edgesFit, spansFit, slotsFit}
+use Rattle.columns.specs.Building.{fits63, deltasFit}
+use Rattle.spans.specs.Spanned.{spansFit, slotsFit}
 use Rattle.rules.proofs.SlotTables.{table-of, length-cut, getD-cut}
 use Rattle.rules.proofs.ParentTurns.{slice-none}
 
@@ -127,82 +127,3 @@ module _ {t : Bool} (first rows from n q : ℕ) (offsets targets : List ℕ) (ok
 
     pub gran-on : not r ≡ false → t ≡ slotsFit (first + from) (q + 1) (drop (q + 1) (part (2 * from) (2 * n) (cut offsets targets)))
     gran-on k = rw (gran-step, not-false r k, add-one)
-
--- ── edges ────────────────────────────────────────────────────────────────────────────────────
-
-module _ (p parent k kind child c : ℕ) where
-  pub other-parent : (p ≡ parent → ⊥) → false ≡ ((eqb p parent && eqb k kind) && eqb child c)
-  other-parent h = rw (ne-eqb p parent h)
-
-  module _ (h : p ≡ parent) where
-    pub other-kind : (k ≡ kind → ⊥) → false ≡ ((eqb p parent && eqb k kind) && eqb child c)
-    other-kind g = rw (eq-eqb p parent h, ne-eqb k kind g)
-
-    pub same-slot : k ≡ kind → eqb child c ≡ ((eqb p parent && eqb k kind) && eqb child c)
-    same-slot g = rw (eq-eqb p parent h, eq-eqb k kind g)
-
-mem-cond : (x c : ℕ) (b : Bool) (l : List ℕ) → mem x (cond b (c ∷ l) l) ≡ ((b && eqb x c) || mem x l)
-unfolding mem
-mem-cond x c true l = refl
-mem-cond x c false l = refl
-
-module _ {t : Bool} (cs ps ks : List ℕ) (j child parent kind : ℕ) (e : t ≡ mem child (childrenTo parent kind (drop j cs) (drop j ps) (drop j ks))) where
-  pub given-none : length cs ≤ j → false ≡ t
-  unfolding childrenTo mem
-  given-none h = rw (e, drop-of-length-le cs {i = j} h)
-
-  module _ (h : j < length cs) (l : length cs ≡ length ps) (m : length cs ≡ length ks) {r : Bool}
-      (f : r ≡ ((eqb (getD ps j 0) parent && eqb (getD ks j 0) kind) && eqb child (getD cs j 0))) where
-    given-step : t ≡ (r || mem child (childrenTo parent kind (drop (suc j) cs) (drop (suc j) ps) (drop (suc j) ks)))
-    unfolding childrenTo
-    given-step =
-        rw (e, drop-cons cs j 0, drop-cons ps j 0 (omega arith), drop-cons ks j 0 (omega arith), f)
-        (mem-cond child (getD cs j 0) (eqb (getD ps j 0) parent && eqb (getD ks j 0) kind) (childrenTo parent kind (drop (suc j) cs) (drop (suc j) ps) (drop (suc j) ks)))
-
-    pub given-here : r ≡ true → true ≡ t
-    given-here q = rw (given-step, q)
-
-    pub given-on : r ≡ false → t ≡ mem child (childrenTo parent kind (drop (j + 1) cs) (drop (j + 1) ps) (drop (j + 1) ks))
-    given-on q = rw (given-step, q, add-one)
-
-module _ {t : Bool} (cs ps ks : List ℕ) (i : ℕ) (e : t ≡ edgesOnce (drop i cs) (drop i ps) (drop i ks)) where
-  pub once-done : length cs ≤ i → true ≡ t
-  unfolding edgesOnce
-  once-done h = rw (e, drop-of-length-le cs {i = i} h)
-
-  module _ (h : i < length cs) (l : length cs ≡ length ps) (m : length cs ≡ length ks) {r : Bool}
-      (f : r ≡ mem (getD cs i 0) (childrenTo (getD ps i 0) (getD ks i 0) (drop (i + 1) cs) (drop (i + 1) ps) (drop (i + 1) ks))) where
-    once-step : t ≡ (not r && edgesOnce (drop (i + 1) cs) (drop (i + 1) ps) (drop (i + 1) ks))
-    unfolding edgesOnce
-    once-step = rw (e, drop-cons cs i 0, drop-cons ps i 0 (omega arith), drop-cons ks i 0 (omega arith), f, add-one)
-
-    pub once-twice : r ≡ true → false ≡ t
-    once-twice q = rw (once-step, q)
-
-    pub once-on : r ≡ false → t ≡ edgesOnce (drop (i + 1) cs) (drop (i + 1) ps) (drop (i + 1) ks)
-    once-on q = rw (once-step, q)
-
-module _ (first n child parent : ℕ) {r : Bool} (e : r ≡ inFile first (first + n) parent) where
-  pub edge-elsewhere : not r ≡ true → true ≡ edgeFits first n child parent
-  unfolding edgeFits
-  edge-elsewhere q = rw (← e, not-true r q)
-
-  pub edge-here : not r ≡ false → {s : Bool} → s ≡ fits63 (deltaOf parent child) → s ≡ edgeFits first n child parent
-  unfolding edgeFits
-  edge-here q f = rw (← e, not-false r q) f
-
-module _ {t : Bool} (first n i : ℕ) (cs ps : List ℕ) (e : t ≡ edgesFit first n (drop i cs) (drop i ps)) where
-  pub fit-done : length cs ≤ i → true ≡ t
-  unfolding edgesFit
-  fit-done h = rw (e, drop-of-length-le cs {i = i} h)
-
-  module _ (h : i < length cs) (l : length cs ≡ length ps) {r : Bool} (f : r ≡ edgeFits first n (getD cs i 0) (getD ps i 0)) where
-    fit-step : t ≡ (r && edgesFit first n (drop (suc i) cs) (drop (suc i) ps))
-    unfolding edgesFit
-    fit-step = rw (e, drop-cons cs i 0, drop-cons ps i 0 (omega arith), ← f)
-
-    pub fit-far : not r ≡ true → false ≡ t
-    fit-far q = rw (fit-step, not-true r q)
-
-    pub fit-on : not r ≡ false → t ≡ edgesFit first n (drop (i + 1) cs) (drop (i + 1) ps)
-    fit-on q = rw (fit-step, not-false r q, add-one)

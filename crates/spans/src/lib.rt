@@ -1,3 +1,3 @@
-// What building refuses of inbound edges and of a granule (11 to 15), in document 01's order.
+// What building refuses of a granule: its rows (14) and its spans (15).
 pub mod groups;
 pub mod reach;

@@ -1,0 +1,65 @@
+-- `building::encode::encode_graph_blocks` meets its contract.
+use Rattle.building.proofs.WholeBuild.{early-given, rooms-given, whole-answer, whole-offsets, whole-deltas, whole-refused, whole-offsets-as-were, whole-deltas-as-were}
+use borrow.Author.Needs.{needs}
+use Rattle.building.proofs.encode.encode_graph_blocks.Statement.{statement}
+use Rattle.building.proofs.encode.encode_graph_blocks.Tie as tie
+
+are-sets-short-requires : tie.Need-are-sets-short-requires
+are-sets-short-requires c κs = search needs
+
+early-rules-requires : tie.Need-early-rules-requires
+early-rules-requires c κs = search needs
+
+enum-known-r : tie.Need-enum-known-r
+enum-known-r c = search needs
+
+enum-told : tie.Need-enum-told
+enum-told c = search needs
+
+encode-kept-requires : tie.Need-encode-kept-requires
+encode-kept-requires c κs =
+    let early = c .before .before .before .before .before .before .before .before .early-rules .ensures in
+    let kept = c .before .before .before .before .before .before .enum-told .given .1 in
+    (early-given _ _ _ _ _ _ _ _ _ _ _ _ _ _ early kept, rooms-given _ _ _ _ _ _ _ _ _ _ _ _ _ _ early kept _ _ _ _ _ _ (c .before .before .before .before .before .before .before .before .before .are-sets-short .ensures))
+
+returns : tie.Need-returns
+returns c = (search whole-refused, (search whole-offsets-as-were, (search whole-deltas-as-were, (search whole-offsets-as-were, (search whole-deltas-as-were, (search whole-offsets-as-were, search whole-deltas-as-were))))))
+
+same-length : tie.Need-same-length
+same-length c = search needs
+
+same-length-2 : tie.Need-same-length-2
+same-length-2 c = search needs
+
+same-length-3 : tie.Need-same-length-3
+same-length-3 c = search needs
+
+same-length-4 : tie.Need-same-length-4
+same-length-4 c = search needs
+
+same-length-5 : tie.Need-same-length-5
+same-length-5 c = search needs
+
+same-length-6 : tie.Need-same-length-6
+same-length-6 c = search needs
+
+returns-2 : tie.Need-returns-2
+returns-2 c = (search whole-answer, (search whole-offsets, (search whole-deltas, (search whole-offsets, (search whole-deltas, (search whole-offsets, search whole-deltas))))))
+
+pub encode-graph-blocks-spec : {M : Type 1} → statement M
+encode-graph-blocks-spec =
+    tie.close
+    (tie.spec
+    are-sets-short-requires
+    early-rules-requires
+    enum-known-r
+    enum-told
+    encode-kept-requires
+    returns
+    same-length
+    same-length-2
+    same-length-3
+    same-length-4
+    same-length-5
+    same-length-6
+    returns-2)

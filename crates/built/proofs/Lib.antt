@@ -1,0 +1,2 @@
+pub mod BuiltSides
+pub mod BuiltBack

@@ -1,0 +1,3 @@
+pub mod Grouped
+pub mod Encoded
+pub mod Answered

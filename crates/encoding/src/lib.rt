@@ -1,0 +1,5 @@
+// The work of building behind its public call: limits and rules in order, then the three sets of a granule.
+pub mod early;
+pub mod kept;
+mod late;
+mod writing;

@@ -1,0 +1,4 @@
+pub mod SpanWrites
+pub mod SetWrites
+pub mod StartWrites
+pub mod WholeSets
