@@ -109,7 +109,7 @@ one-file l t f u (got fs q) =
     let i = links-counted l f u in
     same-sums _ _ _ _ _ _ _ _ _ _ _ _ _ _ _ _ _ _ (omega arith) (omega arith) (omega arith) (omega arith) (omega arith) (omega arith) (omega arith) (omega arith) (omega arith)
 
-files-end : (n : ℕ) (l : List ℕ) (p : ℕ) → length l ≤ p → files n l p ≡ got [] p
+pub files-end : (n : ℕ) (l : List ℕ) (p : ℕ) → length l ≤ p → files n l p ≡ got [] p
 unfolding files _>>=_
 files-end zero l p h = rw (le-leb (length l) p h)
 files-end (suc n) l p h = rw (le-leb (length l) p h)

@@ -1,5 +1,5 @@
 -- Each record whole: its start and its body, and how long its body is.
-use mathlib.Core.Path.{_≡_, sym, _∙_, ap}
+use mathlib.Core.Path.{_≡_, sym, _∙_}
 use mathlib.Core.List.{List}
 use Prim.Native.Nat.{ℕ, _+_, _*_}
 use native.Mathlib.Omega.{arith}
@@ -9,7 +9,7 @@ use lib.Seq.{sets}
 use Rattle.lists.specs.Lists.{flat}
 use Rattle.lists.proofs.Cut.{length-blocks}
 use Rattle.bigend.specs.Bytes.{bytesOf}
-use Rattle.archive.specs.Encode.{recordBytes, headFields, setsBytes, rowBytes, unresolvedBytes, rootBytes, coverBytes, countedBytes}
+use Rattle.archive.specs.Encode.{recordBytes, setsBytes, rowBytes, unresolvedBytes, rootBytes, coverBytes, countedBytes}
 use Rattle.archive.proofs.Lengths.{length-head, length-set, length-sets, length-counted, length-links, length-cover, wide-row, wide-unresolved, wide-root}
 use Rattle.archive_stores.specs.Lent.{zip2, zip3, startBytes, depthFrom, headFrom, setFrom, rowFrom, unresolvedFrom, rootFrom, rangeFrom, linksFrom, coverFrom}
 use Rattle.archive_stores.specs.declared.heads.HeadOut.{HeadOut}

@@ -1,9 +1,8 @@
 -- Each call that writes a record: what its worker asks for holds where no rule refuses, and what the call answers.
-use mathlib.Core.Path.{_≡_, refl, sym, _∙_, ap}
-use mathlib.Core.Bool.{Bool, true, false}
+use mathlib.Core.Path.{_≡_, sym, _∙_}
 use mathlib.Core.List.{List, [], _∷_}
-use mathlib.Core.Option.{Option, none, some}
-use Prim.Native.Nat.{ℕ, _≤_, _<_, _+_, _*_, _^_}
+use mathlib.Core.Option.{Option}
+use Prim.Native.Nat.{ℕ, _<_, _+_, _*_, _^_}
 use native.Mathlib.Omega.{arith}
 use lib.IntN.{ℤ}
 use lib.ListN.{length}
@@ -16,7 +15,7 @@ use Rattle.archive_stores.specs.Lent.{zip2, zip3, headFrom, setFrom, rowFrom, u
 use Rattle.archive_stores.specs.declared.heads.HeadOut.{HeadOut}
 use Rattle.archive_records.specs.Sizes.{headSize, setsSize, rowsSize, unresolvedSize, rootsSize, coverBody}
 use Rattle.archive_records.proofs.Whole.{head-size, sets-size, rows-size, unresolved-size, roots-size, cover-size}
-use Rattle.archive_writer.specs.Writes.{writeRules, headRules, edgesRules, rowsRules, unresolvedRules, rootsRules, coverRules, asked, wrote, left}
+use Rattle.archive_writer.specs.Writes.{headRules, edgesRules, rowsRules, unresolvedRules, rootsRules, coverRules, asked, wrote, left}
 use Rattle.archive_writer.specs.declared.rules.Asked.{Asked}
 use Rattle.archive_writer.specs.declared.rules.Asked.the-variants.{Fine, No}
 use Rattle.archive_writer.specs.declared.writer.Wrote.the-variants.{Ends, Refused}

@@ -5,7 +5,7 @@ use mathlib.Core.Option.{Option, none, some}
 use Prim.Native.Nat.{ℕ, _+_}
 use lib.Dec.{eqb, ltb, leb}
 use Rattle.columns.specs.Limits.{maxSubject}
-use Rattle.columns.specs.Refusal.{refuse, firstOf, Lent, limits}
+use Rattle.columns.specs.Refusal.{refuse, firstOf, limits}
 use Rattle.columns.specs.declared.refusal.Refusal.{Refusal}
 use Rattle.columns.specs.declared.refusal.Refusal.the-variants.{SubjectLength, CoverForm, RecordBroken}
 use Rattle.archive_records.specs.Sizes.{headSize, setsSize, rowsSize, unresolvedSize, rootsSize, coverBody}

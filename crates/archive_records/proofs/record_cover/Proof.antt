@@ -3,11 +3,6 @@ use Rattle.archive_records.proofs.Whole.{cover-record}
 use borrow.Author.Needs.{needs}
 use Rattle.archive_records.proofs.record_cover.Statement.{statement}
 use Rattle.archive_records.proofs.record_cover.Tie as tie
-use Rattle.archive_records.proofs.record_cover.Reads as reads
-use Rattle.archive_records.proofs.record_cover.Lts as lts
-use Rattle.archive_records.proofs.cover_body.Reads as cover-body-reads
-use Rattle.archive_stores.proofs.covers.store_cover.Reads as store-cover-reads
-use Rattle.archive_stores.proofs.heads.store_start.Reads as store-start-reads
 
 cover-body-requires : tie.Need-cover-body-requires
 cover-body-requires c κs = search needs

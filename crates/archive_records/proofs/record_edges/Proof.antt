@@ -3,11 +3,6 @@ use Rattle.archive_records.proofs.Whole.{edges-record}
 use borrow.Author.Needs.{needs}
 use Rattle.archive_records.proofs.record_edges.Statement.{statement}
 use Rattle.archive_records.proofs.record_edges.Tie as tie
-use Rattle.archive_records.proofs.record_edges.Reads as reads
-use Rattle.archive_records.proofs.record_edges.Lts as lts
-use Rattle.archive_records.proofs.sets_size.Reads as sets-size-reads
-use Rattle.archive_stores.proofs.edges.store_edges.Reads as store-edges-reads
-use Rattle.archive_stores.proofs.heads.store_start.Reads as store-start-reads
 
 sets-size-requires : tie.Need-sets-size-requires
 sets-size-requires c κs = search needs

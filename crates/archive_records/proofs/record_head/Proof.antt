@@ -3,10 +3,6 @@ use Rattle.archive_records.proofs.Whole.{head-record}
 use borrow.Author.Needs.{needs}
 use Rattle.archive_records.proofs.record_head.Statement.{statement}
 use Rattle.archive_records.proofs.record_head.Tie as tie
-use Rattle.archive_records.proofs.record_head.Reads as reads
-use Rattle.archive_records.proofs.record_head.Lts as lts
-use Rattle.archive_stores.proofs.heads.store_head.Reads as store-head-reads
-use Rattle.archive_stores.proofs.heads.store_start.Reads as store-start-reads
 
 add-n : tie.Need-add-n
 add-n c = search needs

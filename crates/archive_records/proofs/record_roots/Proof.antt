@@ -3,11 +3,6 @@ use Rattle.archive_records.proofs.Whole.{roots-record}
 use borrow.Author.Needs.{needs}
 use Rattle.archive_records.proofs.record_roots.Statement.{statement}
 use Rattle.archive_records.proofs.record_roots.Tie as tie
-use Rattle.archive_records.proofs.record_roots.Reads as reads
-use Rattle.archive_records.proofs.record_roots.Lts as lts
-use Rattle.archive_stores.proofs.heads.store_start.Reads as store-start-reads
-use Rattle.archive_stores.proofs.tables.store_roots.Reads as store-roots-reads
-use Rattle.bigend.proofs.store_u32.Reads as store-u32-reads
 
 mul-store-start : tie.Need-mul-store-start
 mul-store-start c = search needs

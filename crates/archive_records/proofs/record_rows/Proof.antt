@@ -3,10 +3,6 @@ use Rattle.archive_records.proofs.Whole.{rows-record}
 use borrow.Author.Needs.{needs}
 use Rattle.archive_records.proofs.record_rows.Statement.{statement}
 use Rattle.archive_records.proofs.record_rows.Tie as tie
-use Rattle.archive_records.proofs.record_rows.Reads as reads
-use Rattle.archive_records.proofs.record_rows.Lts as lts
-use Rattle.archive_stores.proofs.heads.store_start.Reads as store-start-reads
-use Rattle.archive_stores.proofs.tables.store_rows.Reads as store-rows-reads
 
 mul-n : tie.Need-mul-n
 mul-n c = search needs

@@ -3,10 +3,6 @@ use Rattle.archive_stores.proofs.Zipped.{ranges-counted}
 use borrow.Author.Needs.{needs}
 use Rattle.archive_stores.proofs.covers.store_counted.Statement.{statement}
 use Rattle.archive_stores.proofs.covers.store_counted.Tie as tie
-use Rattle.archive_stores.proofs.covers.store_counted.Reads as reads
-use Rattle.archive_stores.proofs.covers.store_counted.Lts as lts
-use Rattle.archive_stores.proofs.tables.store_ranges.Reads as store-ranges-reads
-use Rattle.bigend.proofs.store_u32.Reads as store-u32-reads
 
 store-u32-requires : tie.Need-store-u32-requires
 store-u32-requires c κs = search needs

@@ -3,11 +3,6 @@ use Rattle.archive_stores.proofs.Zipped.{cover-stored}
 use borrow.Author.Needs.{needs}
 use Rattle.archive_stores.proofs.covers.store_cover.Statement.{statement}
 use Rattle.archive_stores.proofs.covers.store_cover.Tie as tie
-use Rattle.archive_stores.proofs.covers.store_cover.Reads as reads
-use Rattle.archive_stores.proofs.covers.store_cover.Lts as lts
-use Rattle.archive_stores.proofs.covers.store_counted.Reads as store-counted-reads
-use Rattle.archive_stores.proofs.covers.store_links.Reads as store-links-reads
-use Rattle.archive_stores.proofs.covers.store_two.Reads as store-two-reads
 
 mul-p : tie.Need-mul-p
 mul-p c = search needs

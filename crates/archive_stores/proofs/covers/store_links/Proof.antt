@@ -3,10 +3,6 @@ use Rattle.archive_stores.proofs.Chained.{links-stored}
 use borrow.Author.Needs.{needs}
 use Rattle.archive_stores.proofs.covers.store_links.Statement.{statement}
 use Rattle.archive_stores.proofs.covers.store_links.Tie as tie
-use Rattle.archive_stores.proofs.covers.store_links.Reads as reads
-use Rattle.archive_stores.proofs.covers.store_links.Lts as lts
-use Rattle.archive_stores.proofs.covers.store_two.Reads as store-two-reads
-use Rattle.bigend.proofs.store_u32.Reads as store-u32-reads
 
 store-u32-requires : tie.Need-store-u32-requires
 store-u32-requires c κs = search needs

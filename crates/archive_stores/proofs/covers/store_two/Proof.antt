@@ -3,9 +3,6 @@ use Rattle.archive_stores.proofs.Chained.{two-stored}
 use borrow.Author.Needs.{needs}
 use Rattle.archive_stores.proofs.covers.store_two.Statement.{statement}
 use Rattle.archive_stores.proofs.covers.store_two.Tie as tie
-use Rattle.archive_stores.proofs.covers.store_two.Reads as reads
-use Rattle.archive_stores.proofs.covers.store_two.Lts as lts
-use Rattle.bigend_columns.proofs.store_u32s.Reads as store-u32s-reads
 
 store-u32s-requires : tie.Need-store-u32s-requires
 store-u32s-requires c κs = search needs

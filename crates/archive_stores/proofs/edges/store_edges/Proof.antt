@@ -3,9 +3,6 @@ use Rattle.archive_stores.proofs.Chained.{edges-stored}
 use borrow.Author.Needs.{needs}
 use Rattle.archive_stores.proofs.edges.store_edges.Statement.{statement}
 use Rattle.archive_stores.proofs.edges.store_edges.Tie as tie
-use Rattle.archive_stores.proofs.edges.store_edges.Reads as reads
-use Rattle.archive_stores.proofs.edges.store_edges.Lts as lts
-use Rattle.archive_stores.proofs.edges.store_set.Reads as store-set-reads
 
 store-set-requires : tie.Need-store-set-requires
 store-set-requires c κs = search needs

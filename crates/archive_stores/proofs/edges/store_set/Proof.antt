@@ -3,11 +3,6 @@ use Rattle.archive_stores.proofs.Chained.{set-stored}
 use borrow.Author.Needs.{needs}
 use Rattle.archive_stores.proofs.edges.store_set.Statement.{statement}
 use Rattle.archive_stores.proofs.edges.store_set.Tie as tie
-use Rattle.archive_stores.proofs.edges.store_set.Reads as reads
-use Rattle.archive_stores.proofs.edges.store_set.Lts as lts
-use Rattle.bigend.proofs.store_u32.Reads as store-u32-reads
-use Rattle.bigend_columns.proofs.store_i64s.Reads as store-i64s-reads
-use Rattle.bigend_columns.proofs.store_u64s.Reads as store-u64s-reads
 
 store-u32-requires : tie.Need-store-u32-requires
 store-u32-requires c κs = search needs

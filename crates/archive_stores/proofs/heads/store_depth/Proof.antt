@@ -3,9 +3,6 @@ use Rattle.archive_stores.proofs.Chained.{depth-known, depth-unknown}
 use borrow.Author.Needs.{needs}
 use Rattle.archive_stores.proofs.heads.store_depth.Statement.{statement}
 use Rattle.archive_stores.proofs.heads.store_depth.Tie as tie
-use Rattle.archive_stores.proofs.heads.store_depth.Reads as reads
-use Rattle.archive_stores.proofs.heads.store_depth.Lts as lts
-use Rattle.archive_stores.proofs.heads.store_three.Reads as store-three-reads
 
 store-three-requires : tie.Need-store-three-requires
 store-three-requires c κs = search needs

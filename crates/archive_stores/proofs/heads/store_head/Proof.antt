@@ -3,11 +3,6 @@ use Rattle.archive_stores.proofs.Chained.{head-stored}
 use borrow.Author.Needs.{needs}
 use Rattle.archive_stores.proofs.heads.store_head.Statement.{statement}
 use Rattle.archive_stores.proofs.heads.store_head.Tie as tie
-use Rattle.archive_stores.proofs.heads.store_head.Reads as reads
-use Rattle.archive_stores.proofs.heads.store_head.Lts as lts
-use Rattle.archive_stores.proofs.heads.store_depth.Reads as store-depth-reads
-use Rattle.archive_stores.proofs.heads.store_front.Reads as store-front-reads
-use Rattle.bigend_columns.proofs.store_bytes.Reads as store-bytes-reads
 
 cast-store-front : tie.Need-cast-store-front
 cast-store-front c = search needs

@@ -3,10 +3,6 @@ use Rattle.archive_stores.proofs.Chained.{start-stored}
 use borrow.Author.Needs.{needs}
 use Rattle.archive_stores.proofs.heads.store_start.Statement.{statement}
 use Rattle.archive_stores.proofs.heads.store_start.Tie as tie
-use Rattle.archive_stores.proofs.heads.store_start.Reads as reads
-use Rattle.archive_stores.proofs.heads.store_start.Lts as lts
-use Rattle.bigend.proofs.store_u32.Reads as store-u32-reads
-use Rattle.bigend.proofs.store_u8.Reads as store-u8-reads
 
 add-store-u32 : tie.Need-add-store-u32
 add-store-u32 c = search needs

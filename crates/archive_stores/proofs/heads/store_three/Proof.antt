@@ -3,10 +3,6 @@ use Rattle.archive_stores.proofs.Chained.{three-stored}
 use borrow.Author.Needs.{needs}
 use Rattle.archive_stores.proofs.heads.store_three.Statement.{statement}
 use Rattle.archive_stores.proofs.heads.store_three.Tie as tie
-use Rattle.archive_stores.proofs.heads.store_three.Reads as reads
-use Rattle.archive_stores.proofs.heads.store_three.Lts as lts
-use Rattle.bigend.proofs.store_u64.Reads as store-u64-reads
-use Rattle.bigend.proofs.store_u8.Reads as store-u8-reads
 
 store-u8-requires : tie.Need-store-u8-requires
 store-u8-requires c κs = search needs

@@ -1,11 +1,7 @@
 -- `archive_stores::tables::flag_byte` meets its contract.
-use mathlib.Core.Path.{sym}
 use borrow.Author.Tests.{eq-eqb, ne-eqb}
-use borrow.Author.Needs.{needs}
 use Rattle.archive_stores.proofs.tables.flag_byte.Statement.{statement}
 use Rattle.archive_stores.proofs.tables.flag_byte.Tie as tie
-use Rattle.archive_stores.proofs.tables.flag_byte.Reads as reads
-use Rattle.archive_stores.proofs.tables.flag_byte.Lts as lts
 
 returns : tie.Need-returns
 returns c = rw (eq-eqb _ _ (c .if1 .taken))

@@ -3,12 +3,6 @@ use Rattle.archive_stores.proofs.Chained.{unresolved-stored}
 use borrow.Author.Needs.{needs}
 use Rattle.archive_stores.proofs.tables.store_one.Statement.{statement}
 use Rattle.archive_stores.proofs.tables.store_one.Tie as tie
-use Rattle.archive_stores.proofs.tables.store_one.Reads as reads
-use Rattle.archive_stores.proofs.tables.store_one.Lts as lts
-use Rattle.bigend.proofs.long.Reads as long-reads
-use Rattle.bigend.proofs.store_u32.Reads as store-u32-reads
-use Rattle.bigend.proofs.store_u64.Reads as store-u64-reads
-use Rattle.bigend.proofs.store_u8.Reads as store-u8-reads
 
 store-u64-requires : tie.Need-store-u64-requires
 store-u64-requires c κs = search needs

@@ -3,10 +3,6 @@ use Rattle.archive_stores.proofs.Chained.{range-stored}
 use borrow.Author.Needs.{needs}
 use Rattle.archive_stores.proofs.tables.store_range.Statement.{statement}
 use Rattle.archive_stores.proofs.tables.store_range.Tie as tie
-use Rattle.archive_stores.proofs.tables.store_range.Reads as reads
-use Rattle.archive_stores.proofs.tables.store_range.Lts as lts
-use Rattle.bigend.proofs.long.Reads as long-reads
-use Rattle.bigend.proofs.store_u32.Reads as store-u32-reads
 
 long-requires : tie.Need-long-requires
 long-requires c κs = search needs

@@ -10,9 +10,6 @@ use Rattle.archive_stores.proofs.Zipped.{ranges-done, range-next}
 use borrow.Author.Needs.{needs}
 use Rattle.archive_stores.proofs.tables.store_ranges.Statement.{statement}
 use Rattle.archive_stores.proofs.tables.store_ranges.Tie as tie
-use Rattle.archive_stores.proofs.tables.store_ranges.Reads as reads
-use Rattle.archive_stores.proofs.tables.store_ranges.Lts as lts
-use Rattle.archive_stores.proofs.tables.store_range.Reads as store-range-reads
 
 abbrev Inv-loop : tie.InvT-loop
 Inv-loop out₀ at ids minima maxima i₀ p₀ out i p = (i ≤ length ids) × (p ≡ at + i * 12) × (length out ≡ length out₀) × (sets out₀ at (flat rangeBytes (zip3 rangeFrom ids minima maxima)) ≡ sets out p (flat rangeBytes (zip3 rangeFrom (drop i ids) (drop i minima) (drop i maxima))))

@@ -3,9 +3,6 @@ use Rattle.archive_stores.proofs.Chained.{root-stored}
 use borrow.Author.Needs.{needs}
 use Rattle.archive_stores.proofs.tables.store_root.Statement.{statement}
 use Rattle.archive_stores.proofs.tables.store_root.Tie as tie
-use Rattle.archive_stores.proofs.tables.store_root.Reads as reads
-use Rattle.archive_stores.proofs.tables.store_root.Lts as lts
-use Rattle.bigend.proofs.store_u64.Reads as store-u64-reads
 
 store-u64-requires : tie.Need-store-u64-requires
 store-u64-requires c κs = search needs

@@ -10,9 +10,6 @@ use Rattle.archive_stores.proofs.Zipped.{roots-done, root-next}
 use borrow.Author.Needs.{needs}
 use Rattle.archive_stores.proofs.tables.store_roots.Statement.{statement}
 use Rattle.archive_stores.proofs.tables.store_roots.Tie as tie
-use Rattle.archive_stores.proofs.tables.store_roots.Reads as reads
-use Rattle.archive_stores.proofs.tables.store_roots.Lts as lts
-use Rattle.archive_stores.proofs.tables.store_root.Reads as store-root-reads
 
 abbrev Inv-loop : tie.InvT-loop
 Inv-loop out₀ at rows handles i₀ p₀ out i p = (i ≤ length rows) × (p ≡ at + i * 16) × (length out ≡ length out₀) × (sets out₀ at (flat rootBytes (zip2 rootFrom rows handles)) ≡ sets out p (flat rootBytes (zip2 rootFrom (drop i rows) (drop i handles))))

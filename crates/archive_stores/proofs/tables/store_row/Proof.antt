@@ -3,11 +3,6 @@ use Rattle.archive_stores.proofs.Chained.{row-stored}
 use borrow.Author.Needs.{needs}
 use Rattle.archive_stores.proofs.tables.store_row.Statement.{statement}
 use Rattle.archive_stores.proofs.tables.store_row.Tie as tie
-use Rattle.archive_stores.proofs.tables.store_row.Reads as reads
-use Rattle.archive_stores.proofs.tables.store_row.Lts as lts
-use Rattle.archive_stores.proofs.tables.flag_byte.Reads as flag-byte-reads
-use Rattle.bigend.proofs.store_u64.Reads as store-u64-reads
-use Rattle.bigend.proofs.store_u8.Reads as store-u8-reads
 
 flag-byte-requires : tie.Need-flag-byte-requires
 flag-byte-requires c κs = search needs

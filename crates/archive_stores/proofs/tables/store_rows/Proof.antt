@@ -10,9 +10,6 @@ use Rattle.archive_stores.proofs.Zipped.{rows-done, row-next}
 use borrow.Author.Needs.{needs}
 use Rattle.archive_stores.proofs.tables.store_rows.Statement.{statement}
 use Rattle.archive_stores.proofs.tables.store_rows.Tie as tie
-use Rattle.archive_stores.proofs.tables.store_rows.Reads as reads
-use Rattle.archive_stores.proofs.tables.store_rows.Lts as lts
-use Rattle.archive_stores.proofs.tables.store_row.Reads as store-row-reads
 
 abbrev Inv-loop : tie.InvT-loop
 Inv-loop out₀ at flags tags i₀ p₀ out i p = (i ≤ length tags) × (p ≡ at + i * 9) × (length out ≡ length out₀) × (sets out₀ at (flat rowBytes (zip2 rowFrom flags tags)) ≡ sets out p (flat rowBytes (zip2 rowFrom (drop i flags) (drop i tags))))

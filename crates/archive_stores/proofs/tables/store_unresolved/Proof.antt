@@ -10,9 +10,6 @@ use Rattle.archive_stores.proofs.Zipped.{unresolved-done, unresolved-ne
 use borrow.Author.Needs.{needs}
 use Rattle.archive_stores.proofs.tables.store_unresolved.Statement.{statement}
 use Rattle.archive_stores.proofs.tables.store_unresolved.Tie as tie
-use Rattle.archive_stores.proofs.tables.store_unresolved.Reads as reads
-use Rattle.archive_stores.proofs.tables.store_unresolved.Lts as lts
-use Rattle.archive_stores.proofs.tables.store_one.Reads as store-one-reads
 
 abbrev Inv-loop : tie.InvT-loop
 Inv-loop out₀ at children kinds handles i₀ p₀ out i p = (i ≤ length children) × (p ≡ at + i * 13) × (length out ≡ length out₀) × (sets out₀ at (flat unresolvedBytes (zip3 unresolvedFrom children kinds handles)) ≡ sets out p (flat unresolvedBytes (zip3 unresolvedFrom (drop i children) (drop i kinds) (drop i handles))))

@@ -1,6 +1,5 @@
 -- `archive_writer::rules::one_over` meets its contract.
-use Rattle.cover_limits.proofs.Anyone.{any-here, any-last, any-on}
-use borrow.Author.Needs.{needs}
+use Rattle.cover_limits.proofs.Anyone.{any-last}
 use Rattle.archive_writer.proofs.rules.one_over.Statement.{statement}
 use Rattle.archive_writer.proofs.rules.one_over.Tie as tie
 

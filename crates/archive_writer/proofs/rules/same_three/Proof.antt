@@ -1,6 +1,5 @@
 -- `archive_writer::rules::same_three` meets its contract.
 use Rattle.archive_writer.proofs.Judged.{differ, so-far}
-use borrow.Author.Needs.{needs}
 use Rattle.archive_writer.proofs.rules.same_three.Statement.{statement}
 use Rattle.archive_writer.proofs.rules.same_three.Tie as tie
 

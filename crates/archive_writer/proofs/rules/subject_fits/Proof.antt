@@ -1,6 +1,5 @@
 -- `archive_writer::rules::subject_fits` meets its contract.
 use Rattle.archive_writer.proofs.Judged.{no-subject, some-subject}
-use borrow.Author.Needs.{needs}
 use Rattle.archive_writer.proofs.rules.subject_fits.Statement.{statement}
 use Rattle.archive_writer.proofs.rules.subject_fits.Tie as tie
 

@@ -1,6 +1,5 @@
 -- `archive_writer::rules::three_many` meets its contract.
 use Rattle.cover_limits.proofs.Anyone.{any-here, any-last, any-on}
-use borrow.Author.Needs.{needs}
 use Rattle.archive_writer.proofs.rules.three_many.Statement.{statement}
 use Rattle.archive_writer.proofs.rules.three_many.Tie as tie
 

@@ -1,6 +1,5 @@
 -- `archive_writer::rules::two_over` meets its contract.
 use Rattle.cover_limits.proofs.Anyone.{any-here, any-last, any-on}
-use borrow.Author.Needs.{needs}
 use Rattle.archive_writer.proofs.rules.two_over.Statement.{statement}
 use Rattle.archive_writer.proofs.rules.two_over.Tie as tie
 
