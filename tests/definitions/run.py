@@ -8,13 +8,13 @@ prover must find true by computing, in a crate of its own beside a copy of this 
 taken (default: all), spread evenly, none of more than so many bytes (default: 1200). With --keep the crate is written to
 crates/computed of this repository instead, a sample that the gate proves without the folder."""
 import argparse
-import os
 import pathlib
-import shutil
-import subprocess
 import sys
-import tempfile
 
+sys.path.insert(0, str(pathlib.Path(__file__).resolve().parents[1]))
+import scratch  # noqa: E402
+
+COMMENT = "Archives with known answers, computed by the definitions. There is no code here."
 HEAD = """use mathlib.Core.Path.{_≡_, refl}
 use mathlib.Core.List.{List, [], _∷_}
 use Prim.Native.Nat.{ℕ}
@@ -48,13 +48,8 @@ def choose(folder, most, size):
     return found if most is None or most >= len(found) else [found[i * len(found) // most] for i in range(most)]
 
 
-def write(crate, archives):
-    (crate / "src").mkdir(parents=True)
-    (crate / "specs").mkdir()
-    (crate / "src" / "lib.rt").write_text("// Archives with known answers, computed by the definitions. There is no code here.\n")
-    for i, archive in enumerate(archives):
-        (crate / "specs" / f"Archive{i}.antt").write_text(f"-- {archive.stem}: its listing and its cleaned bytes.\n" + module(archive))
-    (crate / "specs" / "Lib.antt").write_text("".join(f"pub mod Archive{i}\n" for i in range(len(archives))))
+def modules(archives):
+    return {f"Archive{i}": f"-- {archive.stem}: its listing and its cleaned bytes.\n" + module(archive) for i, archive in enumerate(archives)}
 
 
 def main():
@@ -64,25 +59,18 @@ def main():
     parser.add_argument("--bytes", type=int, default=1200)
     parser.add_argument("--keep", action="store_true")
     args = parser.parse_args()
-    root = pathlib.Path(__file__).resolve().parents[2]
-    folder = args.folder or root.parent / "shared" / "vectors" / "archives"
+    folder = args.folder or scratch.ROOT.parent / "shared" / "vectors" / "archives"
     if not folder.is_dir():
         print(f"definitions: skipped, no archives with answers at {folder}")
         return 0
     archives = choose(folder, args.most, args.bytes)
     if args.keep:
-        shutil.rmtree(root / "crates" / "computed", ignore_errors=True)
-        write(root / "crates" / "computed", archives)
+        scratch.write(scratch.ROOT / "crates" / "computed", COMMENT, modules(archives))
         return 0
-    with tempfile.TemporaryDirectory() as scratch:
-        work = pathlib.Path(scratch) / "work"
-        shutil.copytree(root, work, ignore=shutil.ignore_patterns(".git", "must-fail", "differential"))
-        shutil.rmtree(work / "crates" / "computed", ignore_errors=True)
-        write(work / "crates" / "computed", archives)
-        done = subprocess.run(["rt", "dev", "computed"], cwd=work, capture_output=True, text=True, env=dict(os.environ, RT_CUT="300"))
-    wrong = sorted({archives[int(line.split("Archive")[1].split(".")[0])].name for line in done.stdout.splitlines() + done.stderr.splitlines() if "/Archive" in line and ": error:" in line})
-    if done.returncode or wrong:
-        print("\n".join(f"definitions: {name}: computes to something else" for name in wrong) or done.stdout[-2000:] + done.stderr[-2000:])
+    status, said, places = scratch.prove("computed", COMMENT, modules(archives))
+    wrong = sorted({archives[int(name.removeprefix("Archive"))].name for name, _ in places})
+    if status or wrong:
+        print("\n".join(f"definitions: {name}: computes to something else" for name in wrong) or said[-4000:])
         print(f"definitions: {len(wrong)} of {len(archives)} archives failed")
         return 1
     print(f"definitions: {len(archives)} archives give their listings and their cleaned bytes")

@@ -5,13 +5,11 @@
 
 CASES holds lines that `differential cases` printed. Each becomes an equation between a definition and the original's answer that
 the prover must find true by computing, in a crate of its own beside a copy of this repository, outside it."""
-import os
 import pathlib
-import re
-import shutil
-import subprocess
 import sys
-import tempfile
+
+sys.path.insert(0, str(pathlib.Path(__file__).resolve().parents[1]))
+import scratch  # noqa: E402
 
 FORMS = {
     "build": "LNNLLLLLLNLLLLLNN", "read": "NNNNLLNLLNLLNLL", "parents": "NNNNLLNN", "children": "NNNNLLNLLNN", "label": "NNLLN",
@@ -189,36 +187,21 @@ def modules(lines):
         yield text, places
 
 
-def prove(root, texts):
-    with tempfile.TemporaryDirectory() as scratch:
-        work = pathlib.Path(scratch) / "work"
-        shutil.copytree(root, work, ignore=shutil.ignore_patterns(".git", "must-fail", "differential"))
-        crate = work / "crates" / "answered"
-        (crate / "src").mkdir(parents=True)
-        (crate / "specs").mkdir()
-        (crate / "src" / "lib.rt").write_text("// The original's answers.\n")
-        for i, text in enumerate(texts):
-            (crate / "specs" / f"Cases{i}.antt").write_text(text)
-        (crate / "specs" / "Lib.antt").write_text("".join(f"pub mod Cases{i}\n" for i in range(len(texts))))
-        with open(work / "crates.txt", "a") as listed:
-            listed.write("answered: lists columns cover\n")
-        return subprocess.run(["rt", "dev", "answered"], cwd=work, capture_output=True, text=True, env=dict(os.environ, RT_CUT="300"))
-
-
 def main():
     if len(sys.argv) != 2:
         sys.exit(__doc__)
     lines = pathlib.Path(sys.argv[1]).read_text().splitlines()
     made = list(modules(lines))
-    done = prove(pathlib.Path(__file__).resolve().parents[2], [text for text, _ in made])
+    texts = {f"Cases{i}": text for i, (text, _) in enumerate(made)}
+    status, said, places = scratch.prove("answered", "The original's answers.", texts, "lists columns cover")
     wrong = set()
-    for module, at in re.findall(r"Cases(\d+)\.antt:(\d+).*error", done.stdout + done.stderr):
-        places = made[int(module)][1]
-        wrong.add(int(module) * EACH + max(i for i, place in enumerate(places) if place <= int(at)))
+    for name, at in places:
+        module = int(name.removeprefix("Cases"))
+        wrong.add(module * EACH + max(i for i, place in enumerate(made[module][1]) if place <= at))
     for i in sorted(wrong, key=lambda i: len(lines[i])):
         print(f"the definition computes to something else: {lines[i]}")
-    if done.returncode or wrong:
-        print("" if wrong else done.stdout[-2000:] + done.stderr[-2000:])
+    if status or wrong:
+        print("" if wrong else said[-4000:])
         print(f"definitions: {len(wrong)} of {len(lines)} cases failed")
         return 1
     print(f"definitions: {len(lines)} cases give the original's answers")

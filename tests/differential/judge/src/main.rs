@@ -45,7 +45,8 @@ differential sample [--each N]                  print short cases: N for each re
                                                 and 3 N that are accepted
 differential replay < CASES                     ask the original again what kept cases ask
 differential questions [--question NAME] [--seed N] [--count N] [--seconds N] [--short all] [--size large]
-                                                ask the port what the original is asked (feature `port`)";
+                                                ask the port what the original is asked (feature `port`)
+differential bench                              time both on the same inputs (feature `port`)";
 
 /// What chooses the inputs of questions.
 const ASKED: &[&str] = &["question", "seed", "count", "seconds", "short", "size"];
@@ -75,6 +76,7 @@ fn command(mut words: impl Iterator<Item = String>) -> Done {
         "cases" => asking::print(&Options::read(words, ASKED)?),
         "sample" => asking::sample(&Options::read(words, &["each"])?),
         "replay" => asking::replay(),
+        "bench" => asking::bench(),
         "questions" => asking::compare(&Options::read(words, ASKED)?),
         _ => Err(format!("unknown command {name}")),
     }

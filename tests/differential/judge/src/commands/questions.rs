@@ -92,6 +92,17 @@ pub fn replay() -> Done {
 }
 
 #[cfg(not(feature = "port"))]
+pub fn bench() -> Done {
+    Err("built without the feature `port`: there is nothing to time the original against".into())
+}
+
+#[cfg(feature = "port")]
+pub fn bench() -> Done {
+    port::bench::table();
+    Ok(true)
+}
+
+#[cfg(not(feature = "port"))]
 pub fn compare(_options: &Options) -> Done {
     Err("built without the feature `port`: there is nothing to compare the original with".into())
 }

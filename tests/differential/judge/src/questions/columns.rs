@@ -220,7 +220,7 @@ pub fn label(input: &[Part]) -> Option<Answer> {
 // ── the walk ────────────────────────────────────────────────────────────────────────────────
 
 /// One file's parents; other numbers have none.
-struct OneFile(GranuleEdges);
+pub struct OneFile(pub GranuleEdges);
 
 impl EventGraph for OneFile {
     fn parents_of(&self, _subject: &[u8], sns: &[u64], kind: EdgeKind) -> Result<Vec<Vec<u64>>, FormatError> {

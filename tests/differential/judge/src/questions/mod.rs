@@ -7,6 +7,8 @@ mod short;
 
 use crate::cases::{Answer, Part};
 use crate::random::Random;
+#[cfg(feature = "port")]
+pub use columns::OneFile;
 
 pub struct Question {
     pub name: &'static str,

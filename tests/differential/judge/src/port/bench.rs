@@ -1,0 +1,205 @@
+//! Times of the original and of the port on the same inputs, in one process: the best of many calls each.
+
+use super::boundary::{
+    ridgeoven_children, ridgeoven_cover_read, ridgeoven_cover_store, ridgeoven_parents, ridgeoven_read_granule, ridgeoven_walk,
+};
+use crate::archive::Set;
+use crate::blocks;
+use crate::questions::OneFile;
+use crate::random::Random;
+use original::layout::api::EventGraph;
+use original::layout::graph::{ChainCover, ChainLink, EdgeKind, GranuleEdges, decode_granule_edges};
+use original::layout::shown::{decode_cover, encode_cover};
+use std::hint::black_box;
+use std::time::{Duration, Instant};
+
+const FIRST: u64 = 1_000_000;
+const CALLS: usize = 200;
+
+/// The best time of a call in microseconds.
+fn best(mut call: impl FnMut()) -> f64 {
+    let mut best = Duration::MAX;
+    for _ in 0..CALLS {
+        let start = Instant::now();
+        call();
+        best = best.min(start.elapsed());
+    }
+    best.as_secs_f64() * 1e6
+}
+
+/// Forward, reverse and inbound sets of a file: each row names `each` earlier numbers in each kind, some of them before the file.
+struct Inputs {
+    rows: usize,
+    end: u64,
+    sets: [Set; 3],
+}
+
+fn inputs(rows: usize, each: usize) -> Inputs {
+    let mut random = Random::new(rows as u64);
+    let end = FIRST + rows as u64;
+    let mut lists: [Vec<Vec<u64>>; 3] = std::array::from_fn(|_| vec![Vec::new(); 2 * rows]);
+    for slot in 0..2 * rows {
+        let event = FIRST + slot as u64 / 2;
+        let kinds = if each == 1 { 1 } else { 2 };
+        if slot % 2 >= kinds {
+            continue;
+        }
+        for step in 0..each as u64 {
+            let target = if step == 0 { event - 1 } else { event - 1 - random.within(0, 2 * rows as u64) };
+            lists[0][slot].push(target);
+            if target >= FIRST {
+                lists[1][2 * (target - FIRST) as usize + slot % 2].push(event);
+            }
+        }
+        lists[2][slot].push(end + slot as u64);
+    }
+    Inputs { rows, end, sets: lists.map(|lists| Set::of(FIRST, &lists)) }
+}
+
+impl Inputs {
+    fn decoded(&self, block: &[u8]) -> GranuleEdges {
+        decode_granule_edges(block, FIRST, self.rows as u32, self.end, false).expect("a sound granule")
+    }
+
+    fn read(&self) -> [f64; 2] {
+        let block = blocks::granule(&self.sets, None);
+        let [f, r, i] = &self.sets;
+        let mut out = [vec![0u64; 4096], vec![0u64; 4096], vec![0u64; 4096]];
+        let rust = best(|| drop(black_box(self.decoded(&block))));
+        let port = best(|| {
+            let [a, b, c] = &mut out;
+            let answer = unsafe {
+                ridgeoven_read_granule(
+                    FIRST, self.rows, self.end,
+                    f.count.into(), f.offsets.as_ptr(), f.offsets.len(), f.deltas.as_ptr(), f.deltas.len(),
+                    r.count.into(), r.offsets.as_ptr(), r.offsets.len(), r.deltas.as_ptr(), r.deltas.len(),
+                    i.count.into(), i.offsets.as_ptr(), i.offsets.len(), i.deltas.as_ptr(), i.deltas.len(),
+                    0, [].as_ptr(), 0, [].as_ptr(), 0,
+                    a.as_mut_ptr(), a.len(), b.as_mut_ptr(), b.len(), c.as_mut_ptr(), c.len(),
+                )
+            };
+            assert_eq!(answer.refusal, 0);
+        });
+        [rust, port]
+    }
+
+    /// Both read the columns first.
+    fn parents(&self) -> [f64; 2] {
+        let forward = [self.sets[0].clone(), Set::empty(self.rows), Set::empty(self.rows)];
+        let (block, f) = (blocks::granule(&forward, None), &self.sets[0]);
+        let mut out = vec![0u64; 4096];
+        let rust = best(|| drop(black_box(self.decoded(&block).parents(self.end - 1, EdgeKind::Prev).to_vec())));
+        let port = best(|| {
+            let answer = unsafe {
+                ridgeoven_parents(
+                    FIRST, self.rows, self.end, f.count.into(), f.offsets.as_ptr(), f.offsets.len(), f.deltas.as_ptr(), f.deltas.len(),
+                    0, self.end - 1, out.as_mut_ptr(), out.len(),
+                )
+            };
+            assert_eq!(answer.refusal, 0);
+        });
+        [rust, port]
+    }
+
+    fn children(&self) -> [f64; 2] {
+        let sets = [Set::empty(self.rows), self.sets[1].clone(), self.sets[2].clone()];
+        let (block, r, i) = (blocks::granule(&sets, None), &self.sets[1], &self.sets[2]);
+        let mut out = vec![0u64; 4096];
+        let rust = best(|| drop(black_box(self.decoded(&block).children(FIRST, EdgeKind::Prev))));
+        let port = best(|| {
+            let answer = unsafe {
+                ridgeoven_children(
+                    FIRST, self.rows, self.end,
+                    r.count.into(), r.offsets.as_ptr(), r.offsets.len(), r.deltas.as_ptr(), r.deltas.len(),
+                    i.count.into(), i.offsets.as_ptr(), i.offsets.len(), i.deltas.as_ptr(), i.deltas.len(),
+                    0, FIRST, out.as_mut_ptr(), out.len(),
+                )
+            };
+            assert_eq!(answer.refusal, 0);
+        });
+        [rust, port]
+    }
+
+    fn walk(&self) -> [f64; 2] {
+        let forward = [self.sets[0].clone(), Set::empty(self.rows), Set::empty(self.rows)];
+        let (block, f) = (blocks::granule(&forward, None), &self.sets[0]);
+        let (mut numbers, mut ends) = (vec![0u64; 4096], vec![0u64; 4096]);
+        let rust = best(|| {
+            let file = OneFile(self.decoded(&block));
+            drop(black_box(file.walk(b"a", self.end - 1, EdgeKind::Prev, 4096).map(|level| level.expect("a level")).collect::<Vec<_>>()));
+        });
+        let port = best(|| {
+            let walked = unsafe {
+                ridgeoven_walk(
+                    FIRST, self.rows, self.end, f.count.into(), f.offsets.as_ptr(), f.offsets.len(), f.deltas.as_ptr(), f.deltas.len(),
+                    0, 4096, self.end - 1, numbers.as_mut_ptr(), numbers.len(), ends.as_mut_ptr(), ends.len(),
+                )
+            };
+            assert_eq!(walked.refusal, 0);
+        });
+        [rust, port]
+    }
+}
+
+/// A cover of so many links, stored and read back.
+fn cover(count: usize) -> [[f64; 2]; 2] {
+    let links: Vec<ChainLink> =
+        (0..count as u32).map(|at| ChainLink { from_chain: at / 4, from_seq: at % 4, to_chain: at, to_seq: 1 }).collect();
+    let column = |part: fn(&ChainLink) -> u32| links.iter().map(part).collect::<Vec<u32>>();
+    let given = [column(|l| l.from_chain), column(|l| l.from_seq), column(|l| l.to_chain), column(|l| l.to_seq)];
+    let mut out: [Vec<u32>; 4] = std::array::from_fn(|_| vec![0; 1024]);
+    let whole = ChainCover { chains: Vec::new(), links };
+    let [a, b, c, d] = &given;
+    let store = [
+        best(|| drop(black_box(encode_cover(&whole)))),
+        best(|| {
+            let [w, x, y, z] = &mut out;
+            let answer = unsafe {
+                ridgeoven_cover_store(
+                    a.as_ptr(), a.len(), b.as_ptr(), b.len(), c.as_ptr(), c.len(), d.as_ptr(), d.len(),
+                    w.as_mut_ptr(), w.len(), x.as_mut_ptr(), x.len(), y.as_mut_ptr(), y.len(), z.as_mut_ptr(), z.len(),
+                )
+            };
+            assert_eq!(answer.refusal, 0);
+        }),
+    ];
+    let bytes = encode_cover(&whole);
+    let stored: [Vec<u32>; 4] = out.each_ref().map(|column| column[..count].to_vec());
+    let [a, b, c, d] = &stored;
+    let read = [
+        best(|| drop(black_box(decode_cover(&bytes).expect("a sound cover")))),
+        best(|| {
+            let [w, x, y, z] = &mut out;
+            let answer = unsafe {
+                ridgeoven_cover_read(
+                    [].as_ptr(), 0, [].as_ptr(), 0, [].as_ptr(), 0,
+                    a.as_ptr(), a.len(), b.as_ptr(), b.len(), c.as_ptr(), c.len(), d.as_ptr(), d.len(),
+                    w.as_mut_ptr(), w.len(), x.as_mut_ptr(), x.len(), y.as_mut_ptr(), y.len(), z.as_mut_ptr(), z.len(),
+                )
+            };
+            assert_eq!(answer.refusal, 0);
+        }),
+    ];
+    [store, read]
+}
+
+fn line(name: &str, shape: &str, times: &[[f64; 2]]) {
+    let cells: String = times.iter().map(|[rust, port]| format!(" {rust:.1} / {port:.1} = {:.1} |", rust / port)).collect();
+    let grows = |side: usize| format!("{:.1}", times[2][side] / times[0][side]);
+    println!("| {name} | {shape} |{cells} {} / {} |", grows(0), grows(1));
+}
+
+pub fn table() {
+    println!("Microseconds, best of {CALLS} calls: the original / the port = how many times the port is faster. Lent slices are not cleared.\n");
+    println!("| call | edges | 64 rows | 256 rows | 1,024 rows | 64 to 1,024 grows by |\n|---|---|---|---|---|---|");
+    for (shape, each) in [("one a row", 1), ("two a slot", 2)] {
+        let sizes = [64, 256, 1024].map(|rows| inputs(rows, each));
+        line("read a granule", shape, &sizes.each_ref().map(Inputs::read));
+        line("parents", shape, &sizes.each_ref().map(Inputs::parents));
+        line("children", shape, &sizes.each_ref().map(Inputs::children));
+        line("walk", shape, &sizes.each_ref().map(Inputs::walk));
+    }
+    let covers = [64, 256, 1024].map(cover);
+    line("store links", "as many links", &covers.map(|[store, _]| store));
+    line("read a cover", "as many links", &covers.map(|[_, read]| read));
+}
