@@ -11,25 +11,21 @@ use borrow.Author.Tests.{le-leb, lt-leb, eq-eqb, ne-eqb}
 use Rattle.archive.specs.Bytes.{be}
 use Rattle.archive.specs.Reader.{Parsed, broken, got, _>>=_, table, whole}
 use Rattle.archive.specs.Parse
-use Rattle.archive_bodies.specs.View.{linksPlace, coverIn}
+use Rattle.archive_bodies.specs.View.{linksPlace, coverEnd, coverIn}
 
 module _ (b : List ℕ) (rows : ℕ) where
-  -- what m ranges and k links end at
-  abbrev coverEnd : ℕ → ℕ → ℕ
-  coverEnd m k = linksPlace rows m + 4 + k * 4 + k * 4 + k * 4 + k * 4
-
   module _ {m k : ℕ} (d : m ≡ be 4 b (rows * 4 + rows * 4)) (e : k ≡ be 4 b (linksPlace rows m)) where
-    other-length : (length b ≡ coverEnd m k → ⊥) → broken ≡ whole (Parse.cover rows) b
+    other-length : (length b ≡ coverEnd rows m k → ⊥) → broken ≡ whole (Parse.cover rows) b
     unfolding whole Parse.cover Parse.links _>>=_ table
     other-length h =
         go (leb (rows * 4) (length b)) (leb (rows * 4 + rows * 4) (length b)) (leb (linksPlace rows m) (length b)) (leb (q + k * 4) (length b))
-        (leb (q + k * 4 + k * 4) (length b)) (leb (q + k * 4 + k * 4 + k * 4) (length b)) (leb (coverEnd m k) (length b)) refl refl refl refl refl refl refl
+        (leb (q + k * 4 + k * 4) (length b)) (leb (q + k * 4 + k * 4 + k * 4) (length b)) (leb (coverEnd rows m k) (length b)) refl refl refl refl refl refl refl
       where
         q : ℕ
         q = linksPlace rows m + 4
 
         go : (t1 t2 t3 t4 t5 t6 t7 : Bool) → leb (rows * 4) (length b) ≡ t1 → leb (rows * 4 + rows * 4) (length b) ≡ t2 → leb (linksPlace rows m) (length b) ≡ t3
-            → leb (linksPlace rows m + 4 + k * 4) (length b) ≡ t4 → leb (linksPlace rows m + 4 + k * 4 + k * 4) (length b) ≡ t5 → leb (linksPlace rows m + 4 + k * 4 + k * 4 + k * 4) (length b) ≡ t6 → leb (coverEnd m k) (length b) ≡ t7
+            → leb (linksPlace rows m + 4 + k * 4) (length b) ≡ t4 → leb (linksPlace rows m + 4 + k * 4 + k * 4) (length b) ≡ t5 → leb (linksPlace rows m + 4 + k * 4 + k * 4 + k * 4) (length b) ≡ t6 → leb (coverEnd rows m k) (length b) ≡ t7
             → broken ≡ whole (Parse.cover rows) b
         go false t2 t3 t4 t5 t6 t7 e1 e2 e3 e4 e5 e6 e7 = rw (zero-add (rows * 4), e1)
         go true false t3 t4 t5 t6 t7 e1 e2 e3 e4 e5 e6 e7 = rw (zero-add (rows * 4), e1, e2)
@@ -38,9 +34,9 @@ module _ (b : List ℕ) (rows : ℕ) where
         go true true true true false t6 t7 e1 e2 e3 e4 e5 e6 e7 = rw (zero-add (rows * 4), e1, e2, ← d, e3, ← e, e4, e5)
         go true true true true true false t7 e1 e2 e3 e4 e5 e6 e7 = rw (zero-add (rows * 4), e1, e2, ← d, e3, ← e, e4, e5, e6)
         go true true true true true true false e1 e2 e3 e4 e5 e6 e7 = rw (zero-add (rows * 4), e1, e2, ← d, e3, ← e, e4, e5, e6, e7)
-        go true true true true true true true e1 e2 e3 e4 e5 e6 e7 = rw (zero-add (rows * 4), e1, e2, ← d, e3, ← e, e4, e5, e6, e7, ne-eqb (length b) (coverEnd m k) h)
+        go true true true true true true true e1 e2 e3 e4 e5 e6 e7 = rw (zero-add (rows * 4), e1, e2, ← d, e3, ← e, e4, e5, e6, e7, ne-eqb (length b) (coverEnd rows m k) h)
 
-    this-length : length b ≡ coverEnd m k → got (coverIn b rows (record { ranges = m; links = k })) (length b) ≡ whole (Parse.cover rows) b
+    this-length : length b ≡ coverEnd rows m k → got (coverIn b rows (record { ranges = m; links = k })) (length b) ≡ whole (Parse.cover rows) b
     unfolding whole Parse.cover Parse.links _>>=_ table coverIn
     this-length h = rw (
       zero-add (rows * 4),
@@ -52,8 +48,8 @@ module _ (b : List ℕ) (rows : ℕ) where
       le-leb (linksPlace rows m + 4 + k * 4) (length b) (omega arith),
       le-leb (linksPlace rows m + 4 + k * 4 + k * 4) (length b) (omega arith),
       le-leb (linksPlace rows m + 4 + k * 4 + k * 4 + k * 4) (length b) (omega arith),
-      le-leb (coverEnd m k) (length b) (omega arith),
-      eq-eqb (length b) (coverEnd m k) h,
+      le-leb (coverEnd rows m k) (length b) (omega arith),
+      eq-eqb (length b) (coverEnd rows m k) h,
       h,
     )
 

@@ -37,12 +37,12 @@ module _ (b : List ℕ) (rows p : ℕ) where
     unfolding edgeSet _>>=_ table setIn
     is-set h = rw (← d, ← e, le-leb (p + 4 + (2 * rows + 1) * 8) (length b) (omega arith), le-leb (p + 4 + (2 * rows + 1) * 8 + n * 8) (length b) h)
 
-module _ (b : List ℕ) (p : ℕ) (x : SetRead) {n e : ℕ} (i : SetInside b p x) (d : x ≡ SetIs n e) where
+module _ (b : List ℕ) (rows p : ℕ) (x : SetRead) {n e : ℕ} (i : SetInside b rows p x) (d : x ≡ SetIs n e) where
   pub ends-inside : e ≤ length b
   ends-inside = (rw d at i) .1
 
-  pub few-deltas : n ≤ length b
-  few-deltas = let u = (rw d at i) .0 in let v = (rw d at i) .1 in omega arith
+  pub set-inside : setEnd rows p n ≤ length b
+  set-inside = let u = (rw d at i) .0 in let v = (rw d at i) .1 in omega arith
 
 -- ── the three sets ───────────────────────────────────────────────────────────────────────────
 

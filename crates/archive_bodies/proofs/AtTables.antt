@@ -17,7 +17,7 @@ use Rattle.archive.specs.Reader.{Parsed, broken, got, _>>=_, table, whole, coun
 use Rattle.archive.specs.File.{Row, Unresolved, Root}
 use Rattle.archive.specs.Parse
 use Rattle.archive.specs.Parse.{rowAt, unresolvedAt, rootAt}
-use Rattle.archive_bodies.specs.View.{rowsOf, RowsSmall}
+use Rattle.archive_bodies.specs.View.{rowsOf, RowsInside}
 
 -- ── 3 rows ───────────────────────────────────────────────────────────────────────────────────
 
@@ -67,9 +67,9 @@ module _ (b : List ℕ) (n : ℕ) where
       go true e = rw (k, k, ← e, eq-eqb (length b) (0 + n * 9) (sym z), z)
       go false e = rw (k, k, ← e)
 
-  pub rows-small : (r : Bool) → length b ≡ n * 9 → RowsSmall b n r
-  rows-small true h = omega arith
-  rows-small false h = tt
+  pub rows-inside : (r : Bool) → length b ≡ n * 9 → RowsInside b n r
+  rows-inside true h = omega arith
+  rows-inside false h = tt
 
 -- ── a count and as many things ───────────────────────────────────────────────────────────────
 

@@ -54,6 +54,11 @@ abbrev pub headOf : List ℕ → HeadRead → Parsed Head
 headOf b NoHead = broken
 headOf b (HeadIs h) = got (headIn b h) (length b)
 
+-- the subject is there
+abbrev pub HeadInside : List ℕ → HeadRead → Type 0
+HeadInside b NoHead = Unit {0}
+HeadInside b (HeadIs h) = 14 + h .subject ≤ length b
+
 -- 2: a set of n deltas that starts at place p
 abbrev pub setEnd : ℕ → ℕ → ℕ → ℕ
 setEnd rows p n = p + 4 + (kinds * rows + 1) * 8 + n * 8
@@ -65,9 +70,9 @@ abbrev pub setOf : List ℕ → ℕ → ℕ → SetRead → Parsed EdgeSet
 setOf b rows p NoSet = broken
 setOf b rows p (SetIs n e) = got (setIn b rows p n) e
 
-abbrev pub SetInside : List ℕ → ℕ → SetRead → Type 0
-SetInside b p NoSet = Unit {0}
-SetInside b p (SetIs n e) = (p + n ≤ e) × (e ≤ length b)
+abbrev pub SetInside : List ℕ → ℕ → ℕ → SetRead → Type 0
+SetInside b rows p NoSet = Unit {0}
+SetInside b rows p (SetIs n e) = (setEnd rows p n ≤ e) × (e ≤ length b)
 
 unfoldable pub setsIn : List ℕ → ℕ → EdgesAt → Sets
 setsIn b rows s = record { forward = setIn b rows 0 (s .forwards); reverse = setIn b rows (s .reverse) (s .reverses); inbound = setIn b rows (s .inbound) (s .inbounds) }
@@ -76,18 +81,19 @@ abbrev pub edgesOf : List ℕ → ℕ → EdgesRead → Parsed Sets
 edgesOf b rows NoEdges = broken
 edgesOf b rows (EdgesIs s) = got (setsIn b rows s) (length b)
 
--- no set has more deltas than the body has bytes
-abbrev pub EdgesSmall : List ℕ → EdgesRead → Type 0
-EdgesSmall b NoEdges = Unit {0}
-EdgesSmall b (EdgesIs s) = (s .forwards ≤ length b) × (s .reverses ≤ length b) × (s .inbounds ≤ length b)
+-- every set ends inside the body
+abbrev pub EdgesInside : List ℕ → ℕ → EdgesRead → Type 0
+EdgesInside b rows NoEdges = Unit {0}
+EdgesInside b rows (EdgesIs s) =
+    (setEnd rows 0 (s .forwards) ≤ length b) × (setEnd rows (s .reverse) (s .reverses) ≤ length b) × (setEnd rows (s .inbound) (s .inbounds) ≤ length b)
 
 -- 3
 abbrev pub rowsOf : List ℕ → ℕ → Bool → Parsed (List Row)
 rowsOf b n r = cond r (got (several 9 rowAt n b) (length b)) broken
 
-abbrev pub RowsSmall : List ℕ → ℕ → Bool → Type 0
-RowsSmall b n false = Unit {0}
-RowsSmall b n true = n ≤ length b
+abbrev pub RowsInside : List ℕ → ℕ → Bool → Type 0
+RowsInside b n false = Unit {0}
+RowsInside b n true = n * 9 ≤ length b
 
 -- 4, 5: a count and as many things
 abbrev pub unresolvedOf : List ℕ → Counted → Parsed (List Unresolved)
@@ -98,13 +104,18 @@ abbrev pub rootsOf : List ℕ → Counted → Parsed (List Root)
 rootsOf b NoCount = broken
 rootsOf b (CountIs n) = got (several 16 rootAt n (drop 4 b)) (length b)
 
-abbrev pub CountSmall : List ℕ → Counted → Type 0
-CountSmall b NoCount = Unit {0}
-CountSmall b (CountIs n) = n ≤ length b
+-- so many things of w bytes each
+abbrev pub ListInside : ℕ → List ℕ → Counted → Type 0
+ListInside w b NoCount = Unit {0}
+ListInside w b (CountIs n) = (n ≤ length b) × (4 + n * w ≤ length b)
 
 -- 6: the place of the number of links
 abbrev pub linksPlace : ℕ → ℕ → ℕ
 linksPlace rows m = rows * 4 + rows * 4 + 4 + m * 12
+
+-- the place after m ranges and k links
+abbrev pub coverEnd : ℕ → ℕ → ℕ → ℕ
+coverEnd rows m k = linksPlace rows m + 4 + k * 4 + k * 4 + k * 4 + k * 4
 
 unfoldable pub coverIn : List ℕ → ℕ → CoverAt → CoverColumns
 coverIn b rows c = record {
@@ -122,6 +133,6 @@ abbrev pub coverOf : List ℕ → ℕ → CoverRead → Parsed CoverColumns
 coverOf b rows NoCover = broken
 coverOf b rows (CoverIs c) = got (coverIn b rows c) (length b)
 
-abbrev pub CoverSmall : List ℕ → CoverRead → Type 0
-CoverSmall b NoCover = Unit {0}
-CoverSmall b (CoverIs c) = (c .ranges ≤ length b) × (c .links ≤ length b)
+abbrev pub CoverInside : List ℕ → ℕ → CoverRead → Type 0
+CoverInside b rows NoCover = Unit {0}
+CoverInside b rows (CoverIs c) = coverEnd rows (c .ranges) (c .links) ≤ length b

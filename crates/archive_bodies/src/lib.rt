@@ -9,7 +9,7 @@ ghost use Rattle.lists.specs.Order.{rising, notFalling};
 ghost use Rattle.archive.specs.Bytes.{be, several};
 ghost use Rattle.archive.specs.Reader.{whole, body};
 ghost use Rattle.archive.specs.Parse.{head, depthFlagOk, edgeSet, sets, rows, unresolvedAt, rootAt, unresolved, roots, cover};
-ghost use Rattle.archive_bodies.specs.View.{bodyOf, Inside, headOf, setOf, SetInside, edgesOf, EdgesSmall, rowsOf, RowsSmall, unresolvedOf, rootsOf, CountSmall, coverOf, CoverSmall};
+ghost use Rattle.archive_bodies.specs.View.{bodyOf, Inside, headOf, HeadInside, setOf, SetInside, edgesOf, EdgesInside, rowsOf, RowsInside, unresolvedOf, rootsOf, ListInside, coverOf, CoverInside};
 
 // A record's body, from one place up to another; or no record of the kind at that place.
 pub enum Body {
@@ -128,6 +128,7 @@ fn depth_ok(flag: u8, least: u64, greatest: u64) -> bool
 
 pub fn head_body(b: &[u8]) -> HeadRead
     ensures { λ r. ⌜ headOf (now (b .entry)) r ≡ whole head (now (b .entry)) ⌝ }
+    ensures { λ r. ⌜ HeadInside (now (b .entry)) r ⌝ }
 {
     if b.len() < 31 {
         return HeadRead::NoHead;
@@ -158,7 +159,7 @@ pub fn head_body(b: &[u8]) -> HeadRead
 fn set_at(b: &[u8], rows: usize, p: usize) -> SetRead
     requires { ⌜ (rows < 2 ^ 32) × (p ≤ length (now b)) ⌝ }
     ensures { λ r. ⌜ setOf (now (b .entry)) rows p r ≡ edgeSet rows (now (b .entry)) p ⌝ }
-    ensures { λ r. ⌜ SetInside (now (b .entry)) p r ⌝ }
+    ensures { λ r. ⌜ SetInside (now (b .entry)) rows p r ⌝ }
 {
     if b.len() - p < 4 {
         return SetRead::NoSet;
@@ -173,7 +174,7 @@ fn set_at(b: &[u8], rows: usize, p: usize) -> SetRead
 
 pub fn edges_body(b: &[u8], rows: u32) -> EdgesRead
     ensures { λ r. ⌜ edgesOf (now (b .entry)) rows r ≡ whole (sets rows) (now (b .entry)) ⌝ }
-    ensures { λ r. ⌜ EdgesSmall (now (b .entry)) r ⌝ }
+    ensures { λ r. ⌜ EdgesInside (now (b .entry)) rows r ⌝ }
 {
     let n = rows as usize;
     let x = set_at(b, n, 0);
@@ -219,7 +220,7 @@ fn flags_ok(b: &[u8], n: usize) -> bool
 // Whether the body is that many rows, each with a flag of 0 or 1.
 pub fn rows_body(b: &[u8], n: u32) -> bool
     ensures { λ r. ⌜ rowsOf (now (b .entry)) n r ≡ whole (rows n) (now (b .entry)) ⌝ }
-    ensures { λ r. ⌜ RowsSmall (now (b .entry)) n r ⌝ }
+    ensures { λ r. ⌜ RowsInside (now (b .entry)) n r ⌝ }
 {
     let m = n as usize;
     if b.len() != m * 9 {
@@ -249,7 +250,7 @@ fn children_ok(b: &[u8], n: usize) -> bool
 
 pub fn unresolved_body(b: &[u8]) -> Counted
     ensures { λ r. ⌜ unresolvedOf (now (b .entry)) r ≡ whole unresolved (now (b .entry)) ⌝ }
-    ensures { λ r. ⌜ CountSmall (now (b .entry)) r ⌝ }
+    ensures { λ r. ⌜ ListInside 13 (now (b .entry)) r ⌝ }
 {
     if b.len() < 4 {
         return Counted::NoCount;
@@ -295,7 +296,7 @@ fn rows_rise(b: &[u8], n: usize) -> bool
 
 pub fn roots_body(b: &[u8]) -> Counted
     ensures { λ r. ⌜ rootsOf (now (b .entry)) r ≡ whole roots (now (b .entry)) ⌝ }
-    ensures { λ r. ⌜ CountSmall (now (b .entry)) r ⌝ }
+    ensures { λ r. ⌜ ListInside 16 (now (b .entry)) r ⌝ }
 {
     if b.len() < 4 {
         return Counted::NoCount;
@@ -312,7 +313,7 @@ pub fn roots_body(b: &[u8]) -> Counted
 
 pub fn cover_body(b: &[u8], rows: u32) -> CoverRead
     ensures { λ r. ⌜ coverOf (now (b .entry)) rows r ≡ whole (cover rows) (now (b .entry)) ⌝ }
-    ensures { λ r. ⌜ CoverSmall (now (b .entry)) r ⌝ }
+    ensures { λ r. ⌜ CoverInside (now (b .entry)) rows r ⌝ }
 {
     let n = rows as usize;
     let p = n * 4 + n * 4;

@@ -12,7 +12,7 @@ use Rattle.archive.specs.Reader.{Parsed, broken, got, andThen, _>>=_}
 use Rattle.archive.specs.File.{CoverColumns, File}
 use Rattle.archive.specs.Parse.{file, files, parse}
 use Rattle.archive_bodies.specs.View.{setIn, setsIn, headIn, coverIn}
-use Rattle.archive_reader.specs.Layout.{partIn, frontIn, middleIn, tailIn, Uncovers, fileFrom, fileIn, fileOf, Counts, AfterFile}
+use Rattle.archive_reader.specs.Layout.{partIn, frontIn, middleIn, tailIn, Uncovers, fileFrom, fileIn, fileOf, Counts, HoldsFile, AfterFile}
 use Rattle.archive_reader.specs.Sums.{rangesIn, linksIn, totals, totalsOf, withFile, Below, plus}
 use Rattle.archive_bodies.specs.declared.CoverAt.{CoverAt}
 use Rattle.archive_reader.specs.declared.records.FileAt.{FileAt}
@@ -38,7 +38,7 @@ links-of true x c e v = e
 links-of false x c e v = omega (arith, v .1)
 
 module _ (l : List ℕ) (f : FileAt) where
-  rows-counted : length (fileIn l f .rows) ≡ f .front .head .rows
+  pub rows-counted : length (fileIn l f .rows) ≡ f .front .head .rows
   unfolding fileIn fileFrom middleIn
   rows-counted = length-several _ _ _ _
 
@@ -50,24 +50,24 @@ module _ (l : List ℕ) (f : FileAt) where
   unfolding fileIn fileFrom tailIn
   roots-counted = length-several _ _ _ _
 
-  forward-counted : length (fileIn l f .forward .deltas) ≡ f .front .edges .forwards
+  pub forward-counted : length (fileIn l f .forward .deltas) ≡ f .front .edges .forwards
   unfolding fileIn fileFrom frontIn setsIn
   forward-counted = set-counted (partIn l (f .front .sets)) (f .front .head .rows) 0 (f .front .edges .forwards)
 
-  reverse-counted : length (fileIn l f .reverse .deltas) ≡ f .front .edges .reverses
+  pub reverse-counted : length (fileIn l f .reverse .deltas) ≡ f .front .edges .reverses
   unfolding fileIn fileFrom frontIn setsIn
   reverse-counted = set-counted (partIn l (f .front .sets)) (f .front .head .rows) (f .front .edges .reverse) (f .front .edges .reverses)
 
-  inbound-counted : length (fileIn l f .inbound .deltas) ≡ f .front .edges .inbounds
+  pub inbound-counted : length (fileIn l f .inbound .deltas) ≡ f .front .edges .inbounds
   unfolding fileIn fileFrom frontIn setsIn
   inbound-counted = set-counted (partIn l (f .front .sets)) (f .front .head .rows) (f .front .edges .inbound) (f .front .edges .inbounds)
 
   module _ (u : Uncovers (f .tail .covered) (f .tail .cover)) where
-    ranges-counted : rangesIn (fileIn l f .cover) ≡ f .tail .cover .ranges
+    pub ranges-counted : rangesIn (fileIn l f .cover) ≡ f .tail .cover .ranges
     unfolding fileIn fileFrom tailIn coverIn
     ranges-counted = ranges-of (f .tail .covered) (coverIn (partIn l (f .tail .body)) (f .front .head .rows) (f .tail .cover)) (f .tail .cover) (length-several _ _ _ _) u
 
-    links-counted : linksIn (fileIn l f .cover) ≡ f .tail .cover .links
+    pub links-counted : linksIn (fileIn l f .cover) ≡ f .tail .cover .links
     unfolding fileIn fileFrom tailIn coverIn
     links-counted = links-of (f .tail .covered) (coverIn (partIn l (f .tail .body)) (f .front .head .rows) (f .tail .cover)) (f .tail .cover) (length-several _ _ _ _) u
 
@@ -145,6 +145,9 @@ module _ (l : List ℕ) (p : ℕ) (x : FileRead) {f : FileAt} (a : AfterFile l p
 
   pub file-counts : Counts p f
   file-counts = (rw e at a) .2
+
+  pub file-holds : HoldsFile l f
+  file-holds = (rw e at a) .3
 
   pub still-below : {t u : Totals} → Below t p → u ≡ withFile t f → Below u (f .tail .end)
   unfolding withFile

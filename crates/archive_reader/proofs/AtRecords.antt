@@ -3,7 +3,7 @@ use mathlib.Core.Path.{_≡_, refl, sym, _∙_, ap}
 use mathlib.Core.Bool.{Bool, true, false, not, cond}
 use mathlib.Core.List.{List, [], _∷_}
 use mathlib.Core.Option.{Option, none, some}
-use Prim.Native.Nat.{ℕ, zero, suc, _≤_, _<_, _+_, _-_}
+use Prim.Native.Nat.{ℕ, zero, suc, _≤_, _<_, _+_, _-_, _*_}
 use native.Mathlib.Omega.{arith}
 use lib.Dec.{eqb}
 use lib.ListN.{length, getD, take, drop, length-take, length-drop}
@@ -13,8 +13,8 @@ use Rattle.archive.specs.Bytes.{several}
 use Rattle.archive.specs.Reader.{Parsed, broken, got, andThen, _>>=_, whole, body, recordOf, optionally}
 use Rattle.archive.specs.Parse
 use Rattle.archive.specs.Parse.{rowAt, unresolvedAt, rootAt, file}
-use Rattle.archive_bodies.specs.View.{bodyIn, bodyOf, Inside, headIn, headOf, setsIn, edgesOf, EdgesSmall, rowsOf, RowsSmall, unresolvedOf, rootsOf, CountSmall, coverIn, coverOf, CoverSmall}
-use Rattle.archive_reader.specs.Layout.{partIn, Ends, firstOf, AfterFirst, secondOf, AfterSecond, FewDeltas, thirdOf, AfterThird, fourthOf, fifthOf, AfterList, sixthOf, AfterSixth, FewOf, optionalOf, AfterOptional, Front, front, frontIn, frontOf, AfterFront, Middle, middle, middleIn, middleOf, AfterMiddle, Tail, tail, tailIn, tailOf, tailWith, Uncovers, AfterTail, Rest, rest, restOf, AfterRest, fileFrom, fileIn, fileOf, Counts, AfterFile}
+use Rattle.archive_bodies.specs.View.{bodyIn, bodyOf, Inside, headIn, headOf, HeadInside, setEnd, setsIn, edgesOf, EdgesInside, rowsOf, RowsInside, unresolvedOf, rootsOf, ListInside, coverEnd, coverIn, coverOf, CoverInside}
+use Rattle.archive_reader.specs.Layout.{partIn, Ends, Holds, HoldsHead, HoldsSets, HoldsCover, HoldsMiddle, HoldsTail, firstOf, AfterFirst, secondOf, AfterSecond, FewDeltas, thirdOf, AfterThird, fourthOf, fifthOf, AfterList, sixthOf, AfterSixth, FewOf, optionalOf, AfterOptional, Front, front, frontIn, frontOf, AfterFront, Middle, middle, middleIn, middleOf, AfterMiddle, Tail, tail, tailIn, tailOf, tailWith, Uncovers, AfterTail, Rest, rest, restOf, AfterRest, fileFrom, fileIn, fileOf, Counts, AfterFile}
 use Rattle.archive_bodies.specs.declared.Body.{Body}
 use Rattle.archive_bodies.specs.declared.Body.the-variants.{BodyAt, NoBody}
 use Rattle.archive_bodies.specs.declared.HeadAt.{HeadAt}
@@ -74,6 +74,9 @@ module _ (l : List ℕ) (p : ℕ) (x : Body) {a e : ℕ} (i : Inside l p x) (d :
   -- a count that is no more than the body's bytes
   pub few : (n : ℕ) → n ≤ length (bodyIn l a e) → p + n ≤ e
   few n h = let z = body-length in let u = (rw d at i) .0 in let v = (rw d at i) .1 in omega arith
+
+  pub holds : (n : ℕ) → n ≤ length (bodyIn l a e) → Holds l (record { at = a; end = e }) n
+  holds n h = record { starts = starts-before; ends = body-fits; long = h }
 
 -- ── one record ───────────────────────────────────────────────────────────────────────────────
 
@@ -161,19 +164,46 @@ module _ (l : List ℕ) (p n : ℕ) (x : Body) (d : bodyOf l x ≡ body 3 l p) w
     unfolding recordOf _>>=_
     is-third k = rw (← d, e, ← g, not-false r k)
 
--- counts against the bytes of their record
+-- counts against the bytes of their record, and what of it is there
 module _ (l : List ℕ) (p : ℕ) (x : Body) {a q : ℕ} (i : Inside l p x) (d : x ≡ BodyAt a q) where
-  pub few-deltas : (y : EdgesRead) {s : EdgesAt} → EdgesSmall (bodyIn l a q) y → y ≡ EdgesIs s → FewDeltas p s q
-  few-deltas y {s} h e = let u = rw e at h in (few l p x i d (s .forwards) (u .0), few l p x i d (s .reverses) (u .1), few l p x i d (s .inbounds) (u .2))
+  pub holds-head : (y : HeadRead) {h : HeadAt} → HeadInside (bodyIn l a q) y → y ≡ HeadIs h → HoldsHead l h (record { at = a; end = q })
+  holds-head y {h} k e = holds l p x i d (14 + h .subject) (rw e at k)
 
-  pub few-rows : (n : ℕ) (r : Bool) → RowsSmall (bodyIn l a q) n r → not r ≡ false → p + n ≤ q
-  few-rows n r h e = few l p x i d n (rw (not-false r e) at h)
+  pub few-deltas : (n : ℕ) (y : EdgesRead) {s : EdgesAt} → EdgesInside (bodyIn l a q) n y → y ≡ EdgesIs s → FewDeltas p s q
+  few-deltas n y {s} h e =
+      let u = rw e at h in
+      (few l p x i d (s .forwards) (omega (arith, u .0)), few l p x i d (s .reverses) (omega (arith, u .1)), few l p x i d (s .inbounds) (omega (arith, u .2)))
 
-  pub few-listed : (y : Counted) {n : ℕ} → CountSmall (bodyIn l a q) y → y ≡ CountIs n → p + n ≤ q
-  few-listed y {n} h e = few l p x i d n (rw e at h)
+  pub holds-sets : (n : ℕ) (y : EdgesRead) {s : EdgesAt} → EdgesInside (bodyIn l a q) n y → y ≡ EdgesIs s → HoldsSets l n s (record { at = a; end = q })
+  holds-sets n y {s} h e =
+      let u = rw e at h in
+      record {
+        forward = holds l p x i d (setEnd n 0 (s .forwards)) (u .0);
+        reverse = holds l p x i d (setEnd n (s .reverse) (s .reverses)) (u .1);
+        inbound = holds l p x i d (setEnd n (s .inbound) (s .inbounds)) (u .2);
+      }
 
-  pub few-of-cover : (y : CoverRead) {c : CoverAt} → CoverSmall (bodyIn l a q) y → y ≡ CoverIs c → FewOf p c q
-  few-of-cover y {c} h e = let u = rw e at h in (few l p x i d (c .ranges) (u .0), few l p x i d (c .links) (u .1))
+  module _ (n : ℕ) (r : Bool) (h : RowsInside (bodyIn l a q) n r) (e : not r ≡ false) where
+    pub few-rows : p + n ≤ q
+    few-rows = let u : n * 9 ≤ length (bodyIn l a q) = rw (not-false r e) at h in few l p x i d n (omega arith)
+
+    pub holds-rows : Holds l (record { at = a; end = q }) (n * 9)
+    holds-rows = holds l p x i d (n * 9) (rw (not-false r e) at h)
+
+  module _ (w : ℕ) (y : Counted) {n : ℕ} (h : ListInside w (bodyIn l a q) y) (e : y ≡ CountIs n) where
+    pub few-listed : p + n ≤ q
+    few-listed = few l p x i d n ((rw e at h) .0)
+
+    pub holds-list : Holds l (record { at = a; end = q }) (4 + n * w)
+    holds-list = holds l p x i d (4 + n * w) ((rw e at h) .1)
+
+  pub few-of-cover : (n : ℕ) (y : CoverRead) {c : CoverAt} → CoverInside (bodyIn l a q) n y → y ≡ CoverIs c → FewOf p c q
+  few-of-cover n y {c} h e =
+      let u = rw e at h in
+      (few l p x i d (c .ranges) (omega arith), few l p x i d (c .links) (omega arith))
+
+  pub holds-cover : (n : ℕ) (y : CoverRead) {c : CoverAt} → CoverInside (bodyIn l a q) n y → y ≡ CoverIs c → HoldsCover l n c (record { at = a; end = q })
+  holds-cover n y {c} h e = holds l p x i d (coverEnd n (c .ranges) (c .links)) (rw e at h)
 
 -- ── 6, if it is there ────────────────────────────────────────────────────────────────────────
 
@@ -199,8 +229,8 @@ module _ (l : List ℕ) (p n : ℕ) {k : ℕ} (d : k ≡ getD l (p + 5) 0) where
     unfolding optionally
     has-cover f = rw (← d, eq-eqb k 6 h, ← e, f)
 
-pub cover-after : (l : List ℕ) (p : ℕ) (x : Sixth) {c : CoverAt} {a : Part} → AfterSixth l p x → x ≡ SixthIs c a → AfterOptional l p (Covered c a)
-cover-after l p x i e = rw e at i
+pub cover-after : (l : List ℕ) (p n : ℕ) (x : Sixth) {c : CoverAt} {a : Part} → AfterSixth l p n x → x ≡ SixthIs c a → AfterOptional l p n (Covered c a)
+cover-after l p n x i e = rw e at i
 
 -- ── records in pairs ─────────────────────────────────────────────────────────────────────────
 
@@ -219,11 +249,11 @@ module _ (l : List ℕ) (p : ℕ) (x : First) (d : firstOf l x ≡ recordOf 1 Pa
     is-front k = rw (← d, e, ← f, k)
 
 pub front-after : (l : List ℕ) (p : ℕ) (x : First) {h : HeadAt} {a : Part} → AfterFirst l p x → x ≡ FirstIs h a
-    → (y : Second) {s : EdgesAt} {b : Part} → AfterSecond l (a .end) y → y ≡ SecondIs s b → AfterFront l p (FrontIs (record { head = h; file = a; edges = s; sets = b }))
+    → (y : Second) {s : EdgesAt} {b : Part} → AfterSecond l (a .end) (h .rows) y → y ≡ SecondIs s b → AfterFront l p (FrontIs (record { head = h; file = a; edges = s; sets = b }))
 front-after l p x i e y j f =
     let u = rw e at i in
     let v = rw f at j in
-    ((omega (arith, u .0, v .0 .0), v .0 .1), (omega (arith, u .0, v .1 .0), omega (arith, u .0, v .1 .1), omega (arith, u .0, v .1 .2)))
+    ((omega (arith, u .0, v .0 .0), v .0 .1), (omega (arith, u .0, v .1 .0), omega (arith, u .0, v .1 .1), omega (arith, u .0, v .1 .2)), u .2, v .2)
 
 module _ (l : List ℕ) (p n : ℕ) (x : Third) (d : thirdOf l n x ≡ recordOf 3 (Parse.rows n) l p) where
   pub no-middle1 : x ≡ NoThird → broken ≡ middle n l p
@@ -240,11 +270,11 @@ module _ (l : List ℕ) (p n : ℕ) (x : Third) (d : thirdOf l n x ≡ recordOf 
     is-middle k = rw (← d, e, ← f, k)
 
 pub middle-after : (l : List ℕ) (p n : ℕ) (x : Third) {a : Part} → AfterThird l p n x → x ≡ ThirdIs a
-    → (y : Listed) {m : ℕ} {b : Part} → AfterList l (a .end) y → y ≡ ListIs m b → AfterMiddle l p n (MiddleIs (record { rows = a; count = m; unresolved = b }))
+    → (y : Listed) {m : ℕ} {b : Part} → AfterList 13 l (a .end) y → y ≡ ListIs m b → AfterMiddle l p n (MiddleIs (record { rows = a; count = m; unresolved = b }))
 middle-after l p n x i e y j f =
     let u = rw e at i in
     let v = rw f at j in
-    ((omega (arith, u .0 .0, v .0 .0), v .0 .1), omega (arith, u .1, v .0 .0), omega (arith, u .0 .0, v .1))
+    ((omega (arith, u .0 .0, v .0 .0), v .0 .1), omega (arith, u .1, v .0 .0), omega (arith, u .0 .0, v .1), record { rows = u .2; unresolved = v .2 })
 
 module _ (l : List ℕ) (p n : ℕ) (x : Listed) (d : fifthOf l x ≡ recordOf 5 Parse.roots l p) where
   pub no-tail : x ≡ NoList → broken ≡ tail n l p
@@ -261,22 +291,23 @@ module _ (l : List ℕ) (p n : ℕ) (x : Listed) (d : fifthOf l x ≡ recordOf 5
       go Uncovered = refl
       go (Covered c b) = refl
 
-pub tail-starts : (l : List ℕ) (p : ℕ) (x : Listed) {m : ℕ} {a : Part} → AfterList l p x → x ≡ ListIs m a → a .end ≤ length l
+pub tail-starts : (l : List ℕ) (p : ℕ) (x : Listed) {m : ℕ} {a : Part} → AfterList 16 l p x → x ≡ ListIs m a → a .end ≤ length l
 tail-starts l p x i e = (rw e at i) .0 .1
 
-pub tail-after : (l : List ℕ) (p : ℕ) (x : Listed) {m : ℕ} {a : Part} → AfterList l p x → x ≡ ListIs m a
-    → (y : Optional) {r : TailRead} → AfterOptional l (a .end) y → r ≡ tailWith m a y → AfterTail l p r
+pub tail-after : (l : List ℕ) (p n : ℕ) (x : Listed) {m : ℕ} {a : Part} → AfterList 16 l p x → x ≡ ListIs m a
+    → (y : Optional) {r : TailRead} → AfterOptional l (a .end) n y → r ≡ tailWith m a y → AfterTail l p n r
 unfolding tailWith
-tail-after l p x {m} {a} i e y j g = rw g (go y j)
+tail-after l p n x {m} {a} i e y j g = rw g (go y j)
   where
-    u : Ends l p a × (p + m ≤ a .end)
+    u : Ends l p a × (p + m ≤ a .end) × Holds l a (4 + m * 16)
     u = rw e at i
 
-    go : (y : Optional) → AfterOptional l (a .end) y → AfterTail l p (tailWith m a y)
+    go : (y : Optional) → AfterOptional l (a .end) n y → AfterTail l p n (tailWith m a y)
     go BadCover j = tt
-    go Uncovered j = let w = u in (w .0 .0, w .0 .1, w .1, (omega (arith, w .0 .0), omega (arith, w .0 .0)), (omega arith, omega arith))
+    go Uncovered j = let w = u in
+        (w .0 .0, w .0 .1, w .1, (omega (arith, w .0 .0), omega (arith, w .0 .0)), (omega arith, omega arith), record { roots = w .2; cover = tt })
     go (Covered c b) j = let w = u in
-        (omega (arith, w .0 .0, j .0 .0), j .0 .1, omega (arith, w .1, j .0 .0), (omega (arith, w .0 .0, j .1 .0), omega (arith, w .0 .0, j .1 .1)), tt)
+        (omega (arith, w .0 .0, j .0 .0), j .0 .1, omega (arith, w .1, j .0 .0), (omega (arith, w .0 .0, j .1 .0), omega (arith, w .0 .0, j .1 .1)), tt, record { roots = w .2; cover = j .2 })
 
 module _ (l : List ℕ) (p n : ℕ) (x : MiddleRead) (d : middleOf l n x ≡ middle n l p) where
   pub no-rest1 : x ≡ NoMiddle → broken ≡ rest n l p
@@ -293,11 +324,11 @@ module _ (l : List ℕ) (p n : ℕ) (x : MiddleRead) (d : middleOf l n x ≡ mid
     is-rest k = rw (← d, e, ← f, k)
 
 pub rest-after : (l : List ℕ) (p n : ℕ) (x : MiddleRead) {m : MiddleAt} → AfterMiddle l p n x → x ≡ MiddleIs m
-    → (y : TailRead) {t : TailAt} → AfterTail l (m .unresolved .end) y → y ≡ TailIs t → AfterRest l p n (RestIs m t)
+    → (y : TailRead) {t : TailAt} → AfterTail l (m .unresolved .end) n y → y ≡ TailIs t → AfterRest l p n (RestIs m t)
 rest-after l p n x i e y j f =
     let u = rw e at i in
     let v = rw f at j in
-    (omega (arith, u .0 .0, v .0), v .1, omega (arith, u .1, v .0), omega (arith, u .2, v .0), omega (arith, u .0 .0, v .2), (omega (arith, u .0 .0, v .3 .0), omega (arith, u .0 .0, v .3 .1)), v .4)
+    (omega (arith, u .0 .0, v .0), v .1, omega (arith, u .1, v .0), omega (arith, u .2, v .0), omega (arith, u .0 .0, v .2), (omega (arith, u .0 .0, v .3 .0), omega (arith, u .0 .0, v .3 .1)), v .4, u .3, v .5)
 
 -- ── a file ───────────────────────────────────────────────────────────────────────────────────
 
@@ -337,4 +368,5 @@ file-after l p x i e y j g =
         (omega (arith, u .1 .0, v .0), omega (arith, u .1 .1, v .0), omega (arith, u .1 .2, v .0)),
         v .6,
       ),
+      record { head = u .2; sets = u .3; middle = v .7; tail = v .8 },
     )

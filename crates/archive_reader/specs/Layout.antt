@@ -2,14 +2,15 @@
 use mathlib.Core.Bool.{Bool, true, false, cond}
 use mathlib.Core.List.{List}
 use mathlib.Core.Option.{Option, none, some}
-use Prim.Native.Nat.{ℕ, _+_, _≤_, _<_}
+use Prim.Native.Nat.{ℕ, _+_, _*_, _≤_, _<_}
 use lib.ListN.{length, drop}
 use Rattle.archive.specs.Bytes.{several}
 use Rattle.archive.specs.Reader.{Parsed, broken, got, Reader, _>>=_, return, recordOf, optionally}
 use Rattle.archive.specs.File.{Row, Unresolved, Root, CoverColumns, File}
 use Rattle.archive.specs.Parse
 use Rattle.archive.specs.Parse.{Head, Sets, rowAt, unresolvedAt, rootAt}
-use Rattle.archive_bodies.specs.View.{bodyIn, headIn, setsIn, coverIn}
+use Rattle.archive_bodies.specs.View.{bodyIn, headIn, setEnd, setsIn, coverEnd, coverIn}
+use Rattle.archive_bodies.specs.declared.HeadAt.{HeadAt}
 use Rattle.archive_bodies.specs.declared.EdgesAt.{EdgesAt}
 use Rattle.archive_bodies.specs.declared.CoverAt.{CoverAt}
 use Rattle.archive_reader.specs.declared.records.Part.{Part}
@@ -53,9 +54,19 @@ firstOf l (FirstIs h a) = got (headIn (partIn l a) h) (a .end)
 abbrev pub Ends : List ℕ → ℕ → Part → Type 0
 Ends l p a = (p < a .end) × (a .end ≤ length l)
 
+-- a part lies inside the bytes, and n bytes of it are there
+pub record Holds (l : List ℕ) (a : Part) (n : ℕ) : Type 0 where
+  pub starts : a .at ≤ a .end
+  pub ends : a .end ≤ length l
+  pub long : n ≤ length (partIn l a)
+
+-- the subject is there
+abbrev pub HoldsHead : List ℕ → HeadAt → Part → Type 0
+HoldsHead l h a = Holds l a (14 + h .subject)
+
 abbrev pub AfterFirst : List ℕ → ℕ → First → Type 0
 AfterFirst l p NoFirst = Unit {0}
-AfterFirst l p (FirstIs h a) = Ends l p a
+AfterFirst l p (FirstIs h a) = (p < a .end) × (a .end ≤ length l) × HoldsHead l h a
 
 abbrev pub secondOf : List ℕ → ℕ → Second → Parsed Sets
 secondOf l rows NoSecond = broken
@@ -65,9 +76,15 @@ secondOf l rows (SecondIs s a) = got (setsIn (partIn l a) rows s) (a .end)
 abbrev pub FewDeltas : ℕ → EdgesAt → ℕ → Type 0
 FewDeltas p s q = (p + s .forwards ≤ q) × (p + s .reverses ≤ q) × (p + s .inbounds ≤ q)
 
-abbrev pub AfterSecond : List ℕ → ℕ → Second → Type 0
-AfterSecond l p NoSecond = Unit {0}
-AfterSecond l p (SecondIs s a) = Ends l p a × FewDeltas p s (a .end)
+-- the columns of every set are there
+pub record HoldsSets (l : List ℕ) (rows : ℕ) (s : EdgesAt) (a : Part) : Type 0 where
+  pub forward : Holds l a (setEnd rows 0 (s .forwards))
+  pub reverse : Holds l a (setEnd rows (s .reverse) (s .reverses))
+  pub inbound : Holds l a (setEnd rows (s .inbound) (s .inbounds))
+
+abbrev pub AfterSecond : List ℕ → ℕ → ℕ → Second → Type 0
+AfterSecond l p rows NoSecond = Unit {0}
+AfterSecond l p rows (SecondIs s a) = Ends l p a × FewDeltas p s (a .end) × HoldsSets l rows s a
 
 abbrev pub thirdOf : List ℕ → ℕ → Third → Parsed (List Row)
 thirdOf l n NoThird = broken
@@ -75,7 +92,7 @@ thirdOf l n (ThirdIs a) = got (several 9 rowAt n (partIn l a)) (a .end)
 
 abbrev pub AfterThird : List ℕ → ℕ → ℕ → Third → Type 0
 AfterThird l p n NoThird = Unit {0}
-AfterThird l p n (ThirdIs a) = Ends l p a × (p + n ≤ a .end)
+AfterThird l p n (ThirdIs a) = Ends l p a × (p + n ≤ a .end) × Holds l a (n * 9)
 
 abbrev pub fourthOf : List ℕ → Listed → Parsed (List Unresolved)
 fourthOf l NoList = broken
@@ -85,9 +102,10 @@ abbrev pub fifthOf : List ℕ → Listed → Parsed (List Root)
 fifthOf l NoList = broken
 fifthOf l (ListIs n a) = got (several 16 rootAt n (drop 4 (partIn l a))) (a .end)
 
-abbrev pub AfterList : List ℕ → ℕ → Listed → Type 0
-AfterList l p NoList = Unit {0}
-AfterList l p (ListIs n a) = Ends l p a × (p + n ≤ a .end)
+-- a list of things of w bytes each
+abbrev pub AfterList : ℕ → List ℕ → ℕ → Listed → Type 0
+AfterList w l p NoList = Unit {0}
+AfterList w l p (ListIs n a) = Ends l p a × (p + n ≤ a .end) × Holds l a (4 + n * w)
 
 abbrev pub sixthOf : List ℕ → ℕ → Sixth → Parsed CoverColumns
 sixthOf l rows NoSixth = broken
@@ -96,19 +114,23 @@ sixthOf l rows (SixthIs c a) = got (coverIn (partIn l a) rows c) (a .end)
 abbrev pub FewOf : ℕ → CoverAt → ℕ → Type 0
 FewOf p c q = (p + c .ranges ≤ q) × (p + c .links ≤ q)
 
-abbrev pub AfterSixth : List ℕ → ℕ → Sixth → Type 0
-AfterSixth l p NoSixth = Unit {0}
-AfterSixth l p (SixthIs c a) = Ends l p a × FewOf p c (a .end)
+-- the columns of a cover are there
+abbrev pub HoldsCover : List ℕ → ℕ → CoverAt → Part → Type 0
+HoldsCover l rows c a = Holds l a (coverEnd rows (c .ranges) (c .links))
+
+abbrev pub AfterSixth : List ℕ → ℕ → ℕ → Sixth → Type 0
+AfterSixth l p rows NoSixth = Unit {0}
+AfterSixth l p rows (SixthIs c a) = Ends l p a × FewOf p c (a .end) × HoldsCover l rows c a
 
 abbrev pub optionalOf : List ℕ → ℕ → ℕ → Optional → Parsed (Option CoverColumns)
 optionalOf l rows p BadCover = broken
 optionalOf l rows p Uncovered = got none p
 optionalOf l rows p (Covered c a) = got (some (coverIn (partIn l a) rows c)) (a .end)
 
-abbrev pub AfterOptional : List ℕ → ℕ → Optional → Type 0
-AfterOptional l p BadCover = Unit {0}
-AfterOptional l p Uncovered = Unit {0}
-AfterOptional l p (Covered c a) = Ends l p a × FewOf p c (a .end)
+abbrev pub AfterOptional : List ℕ → ℕ → ℕ → Optional → Type 0
+AfterOptional l p rows BadCover = Unit {0}
+AfterOptional l p rows Uncovered = Unit {0}
+AfterOptional l p rows (Covered c a) = Ends l p a × FewOf p c (a .end) × HoldsCover l rows c a
 
 -- ── records in pairs ─────────────────────────────────────────────────────────────────────────
 
@@ -131,7 +153,7 @@ frontOf l (FrontIs f) = got (frontIn l f) (f .sets .end)
 
 abbrev pub AfterFront : List ℕ → ℕ → FrontRead → Type 0
 AfterFront l p NoFront = Unit {0}
-AfterFront l p (FrontIs f) = Ends l p (f .sets) × FewDeltas p (f .edges) (f .sets .end)
+AfterFront l p (FrontIs f) = Ends l p (f .sets) × FewDeltas p (f .edges) (f .sets .end) × HoldsHead l (f .head) (f .file) × HoldsSets l (f .head .rows) (f .edges) (f .sets)
 
 pub record Middle : Type 0 where
   pub rows : List Row
@@ -150,9 +172,14 @@ abbrev pub middleOf : List ℕ → ℕ → MiddleRead → Parsed Middle
 middleOf l n NoMiddle = broken
 middleOf l n (MiddleIs m) = got (middleIn l n m) (m .unresolved .end)
 
+-- the rows and the unresolved references are there
+pub record HoldsMiddle (l : List ℕ) (n : ℕ) (m : MiddleAt) : Type 0 where
+  pub rows : Holds l (m .rows) (n * 9)
+  pub unresolved : Holds l (m .unresolved) (4 + m .count * 13)
+
 abbrev pub AfterMiddle : List ℕ → ℕ → ℕ → MiddleRead → Type 0
 AfterMiddle l p n NoMiddle = Unit {0}
-AfterMiddle l p n (MiddleIs m) = Ends l p (m .unresolved) × (p + n ≤ m .unresolved .end) × (p + m .count ≤ m .unresolved .end)
+AfterMiddle l p n (MiddleIs m) = Ends l p (m .unresolved) × (p + n ≤ m .unresolved .end) × (p + m .count ≤ m .unresolved .end) × HoldsMiddle l n m
 
 pub record Tail : Type 0 where
   pub roots : List Root
@@ -185,9 +212,19 @@ abbrev pub Uncovers : Bool → CoverAt → Type 0
 Uncovers true c = Unit {0}
 Uncovers false c = (c .ranges ≤ 0) × (c .links ≤ 0)
 
-abbrev pub AfterTail : List ℕ → ℕ → TailRead → Type 0
-AfterTail l p NoTail = Unit {0}
-AfterTail l p (TailIs t) = (p < t .end) × (t .end ≤ length l) × (p + t .count ≤ t .end) × FewOf p (t .cover) (t .end) × Uncovers (t .covered) (t .cover)
+-- the columns of a cover are there where there is one
+abbrev pub MayCover : Bool → List ℕ → ℕ → CoverAt → Part → Type 0
+MayCover true l rows c a = HoldsCover l rows c a
+MayCover false l rows c a = Unit {0}
+
+-- the roots are there, and the cover where there is one
+pub record HoldsTail (l : List ℕ) (rows : ℕ) (t : TailAt) : Type 0 where
+  pub roots : Holds l (t .roots) (4 + t .count * 16)
+  pub cover : MayCover (t .covered) l rows (t .cover) (t .body)
+
+abbrev pub AfterTail : List ℕ → ℕ → ℕ → TailRead → Type 0
+AfterTail l p n NoTail = Unit {0}
+AfterTail l p n (TailIs t) = (p < t .end) × (t .end ≤ length l) × (p + t .count ≤ t .end) × FewOf p (t .cover) (t .end) × Uncovers (t .covered) (t .cover) × HoldsTail l n t
 
 pub record Rest : Type 0 where
   pub middle : Middle
@@ -207,6 +244,7 @@ abbrev pub AfterRest : List ℕ → ℕ → ℕ → RestRead → Type 0
 AfterRest l p n NoRest = Unit {0}
 AfterRest l p n (RestIs m t) =
     (p < t .end) × (t .end ≤ length l) × (p + n ≤ t .end) × (p + m .count ≤ t .end) × (p + t .count ≤ t .end) × FewOf p (t .cover) (t .end) × Uncovers (t .covered) (t .cover)
+    × HoldsMiddle l n m × HoldsTail l n t
 
 -- ── a file ───────────────────────────────────────────────────────────────────────────────────
 
@@ -239,6 +277,13 @@ Counts p f =
     (p + f .front .head .rows ≤ f .tail .end) × (p + f .middle .count ≤ f .tail .end) × (p + f .tail .count ≤ f .tail .end)
     × FewOf p (f .tail .cover) (f .tail .end) × FewDeltas p (f .front .edges) (f .tail .end) × Uncovers (f .tail .covered) (f .tail .cover)
 
+-- every part of a file is there
+pub record HoldsFile (l : List ℕ) (f : FileAt) : Type 0 where
+  pub head : HoldsHead l (f .front .head) (f .front .file)
+  pub sets : HoldsSets l (f .front .head .rows) (f .front .edges) (f .front .sets)
+  pub middle : HoldsMiddle l (f .front .head .rows) (f .middle)
+  pub tail : HoldsTail l (f .front .head .rows) (f .tail)
+
 abbrev pub AfterFile : List ℕ → ℕ → FileRead → Type 0
 AfterFile l p NoFile = Unit {0}
-AfterFile l p (FileIs f) = (p < f .tail .end) × (f .tail .end ≤ length l) × Counts p f
+AfterFile l p (FileIs f) = (p < f .tail .end) × (f .tail .end ≤ length l) × Counts p f × HoldsFile l f

@@ -135,7 +135,7 @@ fn first_record(bytes: &[u8], p: usize) -> First
 
 fn second_record(bytes: &[u8], p: usize, n: u32) -> Second
     ensures { λ r. ⌜ secondOf (now (bytes .entry)) n r ≡ recordOf 2 (sets n) (now (bytes .entry)) p ⌝ }
-    ensures { λ r. ⌜ AfterSecond (now (bytes .entry)) p r ⌝ }
+    ensures { λ r. ⌜ AfterSecond (now (bytes .entry)) p n r ⌝ }
 {
     let x = find_body(bytes, p, 2);
     let Body::BodyAt { at, end } = x else {
@@ -167,7 +167,7 @@ fn third_record(bytes: &[u8], p: usize, n: u32) -> Third
 
 fn fourth_record(bytes: &[u8], p: usize) -> Listed
     ensures { λ r. ⌜ fourthOf (now (bytes .entry)) r ≡ recordOf 4 unresolved (now (bytes .entry)) p ⌝ }
-    ensures { λ r. ⌜ AfterList (now (bytes .entry)) p r ⌝ }
+    ensures { λ r. ⌜ AfterList 13 (now (bytes .entry)) p r ⌝ }
 {
     let x = find_body(bytes, p, 4);
     let Body::BodyAt { at, end } = x else {
@@ -185,7 +185,7 @@ fn fourth_record(bytes: &[u8], p: usize) -> Listed
 
 fn fifth_record(bytes: &[u8], p: usize) -> Listed
     ensures { λ r. ⌜ fifthOf (now (bytes .entry)) r ≡ recordOf 5 roots (now (bytes .entry)) p ⌝ }
-    ensures { λ r. ⌜ AfterList (now (bytes .entry)) p r ⌝ }
+    ensures { λ r. ⌜ AfterList 16 (now (bytes .entry)) p r ⌝ }
 {
     let x = find_body(bytes, p, 5);
     let Body::BodyAt { at, end } = x else {
@@ -203,7 +203,7 @@ fn fifth_record(bytes: &[u8], p: usize) -> Listed
 
 fn sixth_record(bytes: &[u8], p: usize, n: u32) -> Sixth
     ensures { λ r. ⌜ sixthOf (now (bytes .entry)) n r ≡ recordOf 6 (cover n) (now (bytes .entry)) p ⌝ }
-    ensures { λ r. ⌜ AfterSixth (now (bytes .entry)) p r ⌝ }
+    ensures { λ r. ⌜ AfterSixth (now (bytes .entry)) p n r ⌝ }
 {
     let x = find_body(bytes, p, 6);
     let Body::BodyAt { at, end } = x else {
@@ -233,7 +233,7 @@ fn kind_at(bytes: &[u8], p: usize) -> u8
 fn optional_record(bytes: &[u8], p: usize, n: u32) -> Optional
     requires { ⌜ p ≤ length (now bytes) ⌝ }
     ensures { λ r. ⌜ optionalOf (now (bytes .entry)) n p r ≡ optionally 6 (cover n) (now (bytes .entry)) p ⌝ }
-    ensures { λ r. ⌜ AfterOptional (now (bytes .entry)) p r ⌝ }
+    ensures { λ r. ⌜ AfterOptional (now (bytes .entry)) p n r ⌝ }
 {
     if kind_at(bytes, p) != 6 {
         return Optional::Uncovered;
@@ -332,7 +332,7 @@ fn tail_of(count: usize, part: Part, c: Optional) -> TailRead
 
 fn read_tail(bytes: &[u8], p: usize, n: u32) -> TailRead
     ensures { λ r. ⌜ tailOf (now (bytes .entry)) n r ≡ tail n (now (bytes .entry)) p ⌝ }
-    ensures { λ r. ⌜ AfterTail (now (bytes .entry)) p r ⌝ }
+    ensures { λ r. ⌜ AfterTail (now (bytes .entry)) p n r ⌝ }
 {
     let x = fifth_record(bytes, p);
     let Listed::ListIs { count, part } = x else {

@@ -1,5 +1,5 @@
 -- `archive_bodies::edges_body` meets its contract.
-use Rattle.archive_bodies.proofs.AtSets.{none1, none2, none3, inexact, all3, ends-inside, few-deltas}
+use Rattle.archive_bodies.proofs.AtSets.{none1, none2, none3, inexact, all3, ends-inside, set-inside}
 use borrow.Author.Needs.{needs}
 use Rattle.archive_bodies.proofs.edges_body.Statement.{statement}
 use Rattle.archive_bodies.proofs.edges_body.Tie as tie
@@ -47,7 +47,7 @@ returns-4 : tie.Need-returns-4
 returns-4 c = (search inexact, tt)
 
 returns-5 : tie.Need-returns-5
-returns-5 c = (search all3, (search few-deltas, search few-deltas, search few-deltas))
+returns-5 c = (search all3, (search set-inside, search set-inside, search set-inside))
 
 pub edges-body-spec : {M : Type 1} → statement M
 edges-body-spec =

@@ -11,7 +11,7 @@ use Rattle.bigend.proofs.load_u32.Reads as load-u32-reads
 use Rattle.bigend.proofs.load_u64.Reads as load-u64-reads
 
 returns : tie.Need-returns
-returns c = search too-short
+returns c = (search too-short, tt)
 
 shared-slice-read-size : tie.Need-shared-slice-read-size
 shared-slice-read-size c = search needs
@@ -32,7 +32,7 @@ add-if2-3 : tie.Need-add-if2-3
 add-if2-3 c = search needs
 
 returns-2 : tie.Need-returns-2
-returns-2 c = search (needs, not-exact)
+returns-2 c = (search (needs, not-exact), tt)
 
 shared-slice-read-flag : tie.Need-shared-slice-read-flag
 shared-slice-read-flag c = search needs
@@ -56,7 +56,7 @@ depth-ok-requires : tie.Need-depth-ok-requires
 depth-ok-requires c κs = search needs
 
 returns-3 : tie.Need-returns-3
-returns-3 c = search (needs, bad-depth)
+returns-3 c = (search (needs, bad-depth), tt)
 
 load-u64-requires-3 : tie.Need-load-u64-requires-3
 load-u64-requires-3 c κs = search needs
@@ -71,7 +71,7 @@ shared-slice-read-t10 : tie.Need-shared-slice-read-t10
 shared-slice-read-t10 c = search needs
 
 returns-4 : tie.Need-returns-4
-returns-4 c = search (needs, is-head)
+returns-4 c = (search (needs, is-head), search needs)
 
 pub head-body-spec : {M : Type 1} → statement M
 head-body-spec =

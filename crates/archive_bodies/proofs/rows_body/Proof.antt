@@ -1,6 +1,6 @@
 -- `archive_bodies::rows_body` meets its contract.
 use native.Mathlib.Omega.{arith}
-use Rattle.archive_bodies.proofs.AtTables.{rows-length, rows-flags, rows-small}
+use Rattle.archive_bodies.proofs.AtTables.{rows-length, rows-flags, rows-inside}
 use borrow.Author.Needs.{needs}
 use Rattle.archive_bodies.proofs.rows_body.Statement.{statement}
 use Rattle.archive_bodies.proofs.rows_body.Tie as tie
@@ -18,7 +18,7 @@ flags-ok-requires : tie.Need-flags-ok-requires
 flags-ok-requires c κs = search needs
 
 returns-2 : tie.Need-returns-2
-returns-2 c = (search rows-flags, search rows-small)
+returns-2 c = (search rows-flags, search rows-inside)
 
 pub rows-body-spec : {M : Type 1} → statement M
 rows-body-spec = tie.close (tie.spec mul-if1 returns flags-ok-requires returns-2)

@@ -1,6 +1,6 @@
 -- `archive_reader::records::fifth_record` meets its contract.
 use native.Mathlib.Omega.{arith}
-use Rattle.archive_reader.proofs.AtRecords.{starts-before, body-past, body-fits, none-fifth, bad-fifth, is-fifth, few-listed}
+use Rattle.archive_reader.proofs.AtRecords.{starts-before, body-past, body-fits, none-fifth, bad-fifth, is-fifth, few-listed, holds-list}
 use borrow.Author.Needs.{needs}
 use Rattle.archive_reader.proofs.records.fifth_record.Statement.{statement}
 use Rattle.archive_reader.proofs.records.fifth_record.Tie as tie
@@ -52,7 +52,7 @@ returns-2 : tie.Need-returns-2
 returns-2 c = (search bad-fifth, tt)
 
 returns-3 : tie.Need-returns-3
-returns-3 c = (search is-fifth, ((search body-past, search body-fits), search few-listed))
+returns-3 c = (search is-fifth, ((search body-past, search body-fits), search few-listed, search holds-list))
 
 pub fifth-record-spec : {M : Type 1} → statement M
 fifth-record-spec = tie.close (tie.spec find-body-requires enum-known-x enum-told returns sub-roots-body part-roots-body-start part-roots-body-end roots-body-requires enum-known-y enum-told-2 returns-2 returns-3)

@@ -1,6 +1,6 @@
 -- `archive_reader::records::first_record` meets its contract.
 use native.Mathlib.Omega.{arith}
-use Rattle.archive_reader.proofs.AtRecords.{starts-before, body-past, body-fits, none-first, bad-first, is-first}
+use Rattle.archive_reader.proofs.AtRecords.{starts-before, body-past, body-fits, none-first, bad-first, is-first, holds-head}
 use borrow.Author.Needs.{needs}
 use Rattle.archive_reader.proofs.records.first_record.Statement.{statement}
 use Rattle.archive_reader.proofs.records.first_record.Tie as tie
@@ -52,7 +52,7 @@ returns-2 : tie.Need-returns-2
 returns-2 c = (search bad-first, tt)
 
 returns-3 : tie.Need-returns-3
-returns-3 c = (search is-first, (search body-past, search body-fits))
+returns-3 c = (search is-first, (search body-past, search body-fits, search holds-head))
 
 pub first-record-spec : {M : Type 1} → statement M
 first-record-spec = tie.close (tie.spec find-body-requires enum-known-x enum-told returns sub-head-body part-head-body-start part-head-body-end head-body-requires enum-known-y enum-told-2 returns-2 returns-3)

@@ -1,6 +1,6 @@
 -- `archive_reader::records::fourth_record` meets its contract.
 use native.Mathlib.Omega.{arith}
-use Rattle.archive_reader.proofs.AtRecords.{starts-before, body-past, body-fits, none-fourth, bad-fourth, is-fourth, few-listed}
+use Rattle.archive_reader.proofs.AtRecords.{starts-before, body-past, body-fits, none-fourth, bad-fourth, is-fourth, few-listed, holds-list}
 use borrow.Author.Needs.{needs}
 use Rattle.archive_reader.proofs.records.fourth_record.Statement.{statement}
 use Rattle.archive_reader.proofs.records.fourth_record.Tie as tie
@@ -52,7 +52,7 @@ returns-2 : tie.Need-returns-2
 returns-2 c = (search bad-fourth, tt)
 
 returns-3 : tie.Need-returns-3
-returns-3 c = (search is-fourth, ((search body-past, search body-fits), search few-listed))
+returns-3 c = (search is-fourth, ((search body-past, search body-fits), search few-listed, search holds-list))
 
 pub fourth-record-spec : {M : Type 1} → statement M
 fourth-record-spec = tie.close (tie.spec find-body-requires enum-known-x enum-told returns sub-unresolved-body part-unresolved-body-start part-unresolved-body-end unresolved-body-requires enum-known-y enum-told-2 returns-2 returns-3)

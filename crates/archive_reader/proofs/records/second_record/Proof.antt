@@ -1,6 +1,6 @@
 -- `archive_reader::records::second_record` meets its contract.
 use native.Mathlib.Omega.{arith}
-use Rattle.archive_reader.proofs.AtRecords.{starts-before, body-past, body-fits, none-second, bad-second, is-second, few-deltas}
+use Rattle.archive_reader.proofs.AtRecords.{starts-before, body-past, body-fits, none-second, bad-second, is-second, few-deltas, holds-sets}
 use borrow.Author.Needs.{needs}
 use Rattle.archive_reader.proofs.records.second_record.Statement.{statement}
 use Rattle.archive_reader.proofs.records.second_record.Tie as tie
@@ -52,7 +52,7 @@ returns-2 : tie.Need-returns-2
 returns-2 c = (search bad-second, tt)
 
 returns-3 : tie.Need-returns-3
-returns-3 c = (search is-second, ((search body-past, search body-fits), search few-deltas))
+returns-3 c = (search is-second, ((search body-past, search body-fits), search few-deltas, search holds-sets))
 
 pub second-record-spec : {M : Type 1} → statement M
 second-record-spec = tie.close (tie.spec find-body-requires enum-known-x enum-told returns sub-edges-body part-edges-body-start part-edges-body-end edges-body-requires enum-known-y enum-told-2 returns-2 returns-3)

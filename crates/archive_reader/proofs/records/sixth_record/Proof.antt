@@ -1,6 +1,6 @@
 -- `archive_reader::records::sixth_record` meets its contract.
 use native.Mathlib.Omega.{arith}
-use Rattle.archive_reader.proofs.AtRecords.{starts-before, body-past, body-fits, none-sixth, bad-sixth, is-sixth, few-of-cover}
+use Rattle.archive_reader.proofs.AtRecords.{starts-before, body-past, body-fits, none-sixth, bad-sixth, is-sixth, few-of-cover, holds-cover}
 use borrow.Author.Needs.{needs}
 use Rattle.archive_reader.proofs.records.sixth_record.Statement.{statement}
 use Rattle.archive_reader.proofs.records.sixth_record.Tie as tie
@@ -52,7 +52,7 @@ returns-2 : tie.Need-returns-2
 returns-2 c = (search bad-sixth, tt)
 
 returns-3 : tie.Need-returns-3
-returns-3 c = (search is-sixth, ((search body-past, search body-fits), search few-of-cover))
+returns-3 c = (search is-sixth, ((search body-past, search body-fits), search few-of-cover, search holds-cover))
 
 pub sixth-record-spec : {M : Type 1} → statement M
 sixth-record-spec = tie.close (tie.spec find-body-requires enum-known-x enum-told returns sub-cover-body part-cover-body-start part-cover-body-end cover-body-requires enum-known-y enum-told-2 returns-2 returns-3)

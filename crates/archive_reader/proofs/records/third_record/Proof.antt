@@ -1,6 +1,6 @@
 -- `archive_reader::records::third_record` meets its contract.
 use native.Mathlib.Omega.{arith}
-use Rattle.archive_reader.proofs.AtRecords.{starts-before, body-past, body-fits, none-third, bad-third, is-third, few-rows}
+use Rattle.archive_reader.proofs.AtRecords.{starts-before, body-past, body-fits, none-third, bad-third, is-third, few-rows, holds-rows}
 use borrow.Author.Needs.{needs}
 use Rattle.archive_reader.proofs.records.third_record.Statement.{statement}
 use Rattle.archive_reader.proofs.records.third_record.Tie as tie
@@ -46,7 +46,7 @@ returns-2 : tie.Need-returns-2
 returns-2 c = (search bad-third, tt)
 
 returns-3 : tie.Need-returns-3
-returns-3 c = (search is-third, ((search body-past, search body-fits), search few-rows))
+returns-3 c = (search is-third, ((search body-past, search body-fits), search few-rows, search holds-rows))
 
 pub third-record-spec : {M : Type 1} → statement M
 third-record-spec = tie.close (tie.spec find-body-requires enum-known-x enum-told returns sub-rows-body part-rows-body-start part-rows-body-end rows-body-requires returns-2 returns-3)

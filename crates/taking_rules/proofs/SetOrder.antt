@@ -1,0 +1,76 @@
+-- The rules on sets of edges: columns loaded from bytes, and one set after another.
+use mathlib.Core.Path.{_≡_, sym}
+use mathlib.Core.List.{List, map}
+use mathlib.Core.Option.{Option}
+use Prim.Native.Nat.{ℕ, _+_, _*_, _≤_}
+use native.Mathlib.Omega.{arith}
+use lib.IntN.{ℤ}
+use lib.ListN.{length, take, drop, length-map}
+use lib.Seq.{sets, sets-eq, length-sets, length-take-le, take-append-seam}
+use Rattle.columns.specs.EdgeSet.{EdgeSet}
+use Rattle.columns.specs.Answers.{checkedOf, columnsOf}
+use Rattle.columns.specs.Reading.{setRules}
+use Rattle.columns.specs.declared.refusal.Refusal.{Refusal}
+use Rattle.columns.specs.declared.reading.Checked as checks
+use Rattle.columns.specs.declared.reading.Checked.the-variants as checked
+use Rattle.columns.proofs.Checks.{is-kept, is-broken}
+use Rattle.bigend.specs.Bytes.{column, signedOf}
+use Rattle.archive.proofs.Back.{length-several}
+use Rattle.archive_bodies.specs.View.{setIn}
+use Rattle.rules.specs.Ruled.{ruling}
+use Rattle.rules.specs.declared.slots.Ruling.{Ruling}
+use Rattle.rules.specs.declared.slots.Ruling.the-variants.{Kept, Broken}
+use Rattle.rules.proofs.Told.{stops-here, goes-on}
+use Rattle.taking_rules.specs.Back.{setsRules, laterRules}
+
+-- ── a column written to the front of an array ────────────────────────────────────────────────
+
+pub take-sets : {A : Type 0} (l vs : List A) (n : ℕ) → length vs ≡ n → n ≤ length l → take n (sets l 0 vs) ≡ vs
+take-sets l vs n d h = rw (← d, sets-eq vs l 0 (omega arith)) (take-append-seam vs (drop (0 + length vs) l))
+
+module _ (b : List ℕ) (rows p n : ℕ) (h : rows ≤ 1024) (k : n ≤ 4096) (os₀ os : List ℕ) (ds₀ ds : List ℤ) (e : os ≡ sets os₀ 0 (column 8 (2 * rows + 1) b (p + 4)))
+    (f : ds ≡ sets ds₀ 0 (map signedOf (column 8 n b (p + 4 + (2 * rows + 1) * 8)))) (u : length os₀ ≡ 2049) (v : length ds₀ ≡ 4096) where
+  pub offsets-count : 2 * rows + 1 ≡ length (take (2 * rows + 1) os)
+  offsets-count = sym (length-take-le (2 * rows + 1) os (rw (e, length-sets, u) (omega arith)))
+
+  pub deltas-count : n ≡ length (take n ds)
+  deltas-count = sym (length-take-le n ds (rw (f, length-sets, v) k))
+
+  pub set-loaded : (set first end : ℕ) {r : checks.Checked} → r ≡ checkedOf (setRules set first rows end (columnsOf n (take (2 * rows + 1) os) (take n ds)))
+      → r ≡ checkedOf (setRules set first rows end (setIn b rows p n))
+  unfolding setIn
+  set-loaded set first end g =
+      let x : take (2 * rows + 1) (sets os₀ 0 (column 8 (2 * rows + 1) b (p + 4))) ≡ column 8 (2 * rows + 1) b (p + 4)
+      = take-sets os₀ (column 8 (2 * rows + 1) b (p + 4)) (2 * rows + 1) (length-several _ _ _ _) (omega arith) in
+      let y : take n (sets ds₀ 0 (map signedOf (column 8 n b (p + 4 + (2 * rows + 1) * 8)))) ≡ map signedOf (column 8 n b (p + 4 + (2 * rows + 1) * 8))
+      = take-sets ds₀ (map signedOf (column 8 n b (p + 4 + (2 * rows + 1) * 8))) n (simp (length-map, length-several)) (omega arith) in
+      rw (← x, ← y, ← e, ← f) g
+
+-- ── what is answered of a set ────────────────────────────────────────────────────────────────
+
+module _ (o : Option Refusal) {c : checks.Checked} (e : c ≡ checkedOf o) where
+  pub checked-kept : c ≡ checked.Kept → Kept ≡ ruling o
+  unfolding ruling
+  checked-kept g = rw (is-kept c o e g)
+
+  pub checked-broken : {y : Refusal} → c ≡ checked.Broken y → Broken y ≡ ruling o
+  unfolding ruling
+  checked-broken {y} g = rw (is-broken c o y e g)
+
+module _ (first rows end : ℕ) (r i : EdgeSet) {x : Ruling} (e : x ≡ ruling (setRules 1 first rows end r)) where
+  pub reverse-bad : {y : Refusal} → x ≡ Broken y → Broken y ≡ ruling (laterRules first rows end r i)
+  unfolding laterRules
+  reverse-bad {y} g = stops-here (setRules 1 first rows end r) (setRules 2 first rows end i) e y g
+
+  pub then-inbound : {s : Ruling} → x ≡ Kept → s ≡ ruling (setRules 2 first rows end i) → s ≡ ruling (laterRules first rows end r i)
+  unfolding laterRules
+  then-inbound g k = goes-on (setRules 1 first rows end r) (setRules 2 first rows end i) e g k
+
+module _ (first rows end : ℕ) (f r i : EdgeSet) {x : Ruling} (e : x ≡ ruling (setRules 0 first rows end f)) where
+  pub forward-bad : {y : Refusal} → x ≡ Broken y → Broken y ≡ ruling (setsRules first rows end f r i)
+  unfolding setsRules
+  forward-bad {y} g = stops-here (setRules 0 first rows end f) (laterRules first rows end r i) e y g
+
+  pub then-later : {s : Ruling} → x ≡ Kept → s ≡ ruling (laterRules first rows end r i) → s ≡ ruling (setsRules first rows end f r i)
+  unfolding setsRules
+  then-later g k = goes-on (setRules 0 first rows end f) (laterRules first rows end r i) e g k

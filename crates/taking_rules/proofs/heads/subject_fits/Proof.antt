@@ -1,0 +1,15 @@
+-- `taking_rules::heads::subject_fits` meets its contract.
+use Rattle.rules.proofs.FileOrder.{no-subject, some-subject}
+use Rattle.taking_rules.proofs.heads.subject_fits.Statement.{statement}
+use Rattle.taking_rules.proofs.heads.subject_fits.Tie as tie
+use Rattle.taking_rules.proofs.heads.subject_fits.Reads as reads
+use Rattle.taking_rules.proofs.heads.subject_fits.Lts as lts
+
+returns : tie.Need-returns
+returns c = search no-subject
+
+returns-2 : tie.Need-returns-2
+returns-2 c = search some-subject
+
+pub subject-fits-spec : {M : Type 1} → statement M
+subject-fits-spec = tie.close (tie.spec returns returns-2)
