@@ -1,0 +1,5 @@
+pub mod Grows
+pub mod Records
+pub mod LinkRecords
+pub mod GroupTable
+pub mod Lists
