@@ -11,7 +11,9 @@ import sys
 HERE = os.path.dirname(os.path.dirname(os.path.abspath(__file__)))
 KEPT = os.path.join(HERE, "tests", "differential", "kept", "cases.txt")
 PROGRAMS = {
+    "replay_columns": ["read", "parents", "children", "label", "roots"],
     "replay_walk": ["walk", "next"],
+    "replay_cover": ["stored", "decode", "window"],
 }
 # the parts of a question's input: N a number, L a list
 FORMS = {"walk": "NNNNLLNNN"}
