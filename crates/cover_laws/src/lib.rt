@@ -1,0 +1,1 @@
+// Laws of the cover's calls: proofs/Calls.antt.
