@@ -1,0 +1,3 @@
+pub mod PlaceTurns
+pub mod RebaseTurns
+pub mod EdgeTurns
