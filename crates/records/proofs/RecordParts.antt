@@ -40,10 +40,6 @@ pub no-part : (p : ℕ → Bool) (l : List ℕ) (i : ℕ) → length l ≤ i →
 unfolding has
 no-part p l i h = rw (nothing-there l i h)
 
-pub a-part : (p : ℕ → Bool) (l : List ℕ) (i : ℕ) {r : Bool} → r ≡ p (getD l i 0) → i < length l → r ≡ has p (getElem? l i)
-unfolding has
-a-part p l i e h = rw (there l i h) e
-
 module _ (l : List ℕ) (i : ℕ) (h : i < length l) where
   pub kind-part : ltb (getD l i 0) 2 ≡ has (λ k. ltb k kinds) (getElem? l i)
   unfolding has

@@ -2,14 +2,12 @@
 use mathlib.Core.Path.{_≡_, refl, sym, _∙_, ap}
 use mathlib.Core.Bool.{Bool, true, false, _||_}
 use mathlib.Core.List.{List, [], _∷_, _++_}
-use Prim.Native.Nat.{ℕ, suc, _+_, _-_, _*_, _^_, _≤_, _<_}
+use Prim.Native.Nat.{ℕ, suc, _+_, _-_, _*_, _≤_, _<_}
 use native.Mathlib.Numerals.{add-one}
 use native.Mathlib.Omega.{arith}
 use lib.Dec.{eqb}
 use lib.ListN.{length, getD, take, drop, drop-of-length-le, length-take}
 use lib.Seq.{slice, slice-cons, drop-cons, take-suc, drop-append-le, length-take-le}
-use mir.Syntax.{w64}
-use mir.Val.{Fits}
 use borrow.Author.Tests.{le-leb, lt-leb, eq-eqb, ne-eqb}
 use Rattle.lists.specs.Lists.{mem}
 use Rattle.columns.specs.Refusal.{firstOf}
@@ -96,12 +94,6 @@ module _ (rows : ℕ) (offsets targets : List ℕ) (ok : offsetsForm rows (lengt
 
   pub next-in : s + 1 < length offsets
   next-in = omega (arith, table-of rows (length targets) offsets ok .long)
-
-  pub slot-fits : length offsets * 8 < 2 ^ 63 → Fits w64 (s * 8)
-  slot-fits g = record { fits = omega (arith, slot-in) }
-
-  pub next-fits : length offsets * 8 < 2 ^ 63 → Fits w64 ((s + 1) * 8)
-  next-fits g = record { fits = omega (arith, next-in) }
 
   module _ (a b : ℕ) (p : a ≡ getD offsets s 0) (q : b ≡ getD offsets (s + 1) 0) where
     pub slot-order : a ≤ b

@@ -52,9 +52,6 @@ module _ (rows count : ℕ) (l : List ℕ) where
     unfolding offsetsForm
     form-rest k e = rw (eq-eqb (length l) (2 * rows + 1) h, starts-there, eq-eqb (getD l 0 0) 0 k) e
 
-    pub form-some : 0 < length l
-    form-some = omega arith
-
 -- ── what the form says ───────────────────────────────────────────────────────────────────────
 
 climbs-bound : (high x : ℕ) (xs : List ℕ) → climbsTo high x xs ≡ true → (i : ℕ) → i ≤ length xs → getD (x ∷ xs) i 0 ≤ high
