@@ -1,4 +1,4 @@
-// The rules of an archive's files at taking, over the archive's bytes: file by file, each looking back at the one before it.
+// The rules of the parts of a file at taking, over the bytes of its records.
 pub mod covers;
 pub mod heads;
 pub mod sets;

@@ -1,0 +1,3 @@
+pub mod PartOrder
+pub mod Regrouped
+pub mod FileTurns
