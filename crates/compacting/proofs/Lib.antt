@@ -1,0 +1,2 @@
+pub mod KeepTurns
+pub mod RecordTurns

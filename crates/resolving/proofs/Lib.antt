@@ -1,0 +1,3 @@
+pub mod KeptColumns
+pub mod KeptViews
+pub mod HeldFacts

@@ -1,0 +1,2 @@
+// Resolving: from what a run holds to the sheet of its survivors.
+pub mod kept;
