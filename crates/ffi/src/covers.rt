@@ -1,4 +1,4 @@
-// The chain cover: its links stored and read, and the window question. Links and ranges are columns, one for each part.
+// The chain cover: its links stored and read, and its two questions. Links and ranges are columns, one for each part.
 use crate::answer::Answer;
 use crate::answer::records_of;
 use columns::refusal::number;
@@ -96,4 +96,30 @@ pub extern "C" fn ridgeoven_window(
     high: u32,
 ) -> Held {
     held_of(cover_ranges::window::may_hold_chain(ids, minima, maxima, chain, low, high))
+}
+
+// The links from some chains, of stored columns.
+#[no_mangle]
+pub extern "C" fn ridgeoven_chain_links(
+    differences: &[u32],
+    stored_from_seqs: &[u32],
+    stored_to_chains: &[u32],
+    stored_to_seqs: &[u32],
+    chains: &[u32],
+    from_chains: &mut [u32],
+    from_seqs: &mut [u32],
+    to_chains: &mut [u32],
+    to_seqs: &mut [u32],
+) -> Answer {
+    records_of(cover_links::chain_links(
+        differences,
+        stored_from_seqs,
+        stored_to_chains,
+        stored_to_seqs,
+        chains,
+        from_chains,
+        from_seqs,
+        to_chains,
+        to_seqs,
+    ))
 }

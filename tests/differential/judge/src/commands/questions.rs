@@ -109,6 +109,7 @@ pub fn compare(_options: &Options) -> Done {
 
 #[cfg(feature = "port")]
 pub fn compare(options: &Options) -> Done {
+    println!("questions: {} asked of the port alone", port::alone::asked()?);
     let mut counts: BTreeMap<&str, [usize; 2]> = BTreeMap::new();
     for (question, input, origin) in asked(options)? {
         let Some(compared) = port::question(question, &input) else { continue };

@@ -122,4 +122,28 @@ unsafe extern "C" {
         ids: *const u32, ids_len: usize, minima: *const u32, minima_len: usize, maxima: *const u32, maxima_len: usize,
         chain: u32, low: u32, high: u32,
     ) -> Held;
+
+    pub fn ridgeoven_chain_links(
+        differences: *const u32, differences_len: usize, from_seqs: *const u32, from_seqs_len: usize,
+        to_chains: *const u32, to_chains_len: usize, to_seqs: *const u32, to_seqs_len: usize,
+        chains: *const u32, chains_len: usize,
+        a: *mut u32, a_len: usize, b: *mut u32, b_len: usize, c: *mut u32, c_len: usize, d: *mut u32, d_len: usize,
+    ) -> Answer;
+
+    pub fn ridgeoven_build(
+        subject: *const u8, subject_len: usize, first: u64, rows: usize,
+        offsets: *const u64, offsets_len: usize, targets: *const u64, targets_len: usize,
+        unresolved_children: *const u64, unresolved_children_len: usize,
+        unresolved_kinds: *const u64, unresolved_kinds_len: usize,
+        unresolved_flags: *const u64, unresolved_flags_len: usize,
+        deep: u64, low: u64, high: u64,
+        labelled: u64, chains: *const u32, chains_len: usize, seqs: *const u32, seqs_len: usize,
+        inbound_children: *const u64, inbound_children_len: usize,
+        inbound_parents: *const u64, inbound_parents_len: usize,
+        inbound_kinds: *const u64, inbound_kinds_len: usize,
+        from: usize, n: usize,
+        forward_offsets: *mut u64, forward_offsets_len: usize, forward_deltas: *mut i64, forward_deltas_len: usize,
+        reverse_offsets: *mut u64, reverse_offsets_len: usize, reverse_deltas: *mut i64, reverse_deltas_len: usize,
+        inbound_offsets: *mut u64, inbound_offsets_len: usize, inbound_deltas: *mut i64, inbound_deltas_len: usize,
+    ) -> Granule;
 }

@@ -1,5 +1,6 @@
 //! Slices lent for an answer, filled with a pattern, so that entries that must keep their value are seen to.
 
+pub const OFFSETS: usize = 2049;
 pub const NUMBERS: usize = 4096;
 pub const RECORDS: usize = 1024;
 
@@ -12,7 +13,7 @@ macro_rules! patterns {
     ($($number:ty),*) => { $(impl Pattern for $number { const PATTERN: Self = 0x5a; })* };
 }
 
-patterns!(u32, u64);
+patterns!(u32, u64, i64);
 
 pub struct Lent<T>(Vec<T>);
 

@@ -1,5 +1,6 @@
 //! The proved library beside the original (feature `port`).
 
+pub mod alone;
 pub mod bench;
 mod boundary;
 mod lent;

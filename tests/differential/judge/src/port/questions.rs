@@ -1,10 +1,10 @@
 //! The questions over columns, asked of the proved library. Input and answer are the parts of a case.
 
 use super::boundary::{
-    self, ridgeoven_ancestor, ridgeoven_children, ridgeoven_cover_read, ridgeoven_cover_store, ridgeoven_label, ridgeoven_next,
+    self, ridgeoven_ancestor, ridgeoven_build, ridgeoven_chain_links, ridgeoven_children, ridgeoven_cover_read, ridgeoven_cover_store, ridgeoven_label, ridgeoven_next,
     ridgeoven_parents, ridgeoven_read_granule, ridgeoven_read_set, ridgeoven_roots, ridgeoven_walk, ridgeoven_window,
 };
-use super::lent::{Lent, NUMBERS, Pattern, RECORDS};
+use super::lent::{Lent, NUMBERS, OFFSETS, Pattern, RECORDS};
 use crate::cases::{Answer, Part, list, number};
 
 /// What the library answers, or what it did that no answer allows.
@@ -49,9 +49,11 @@ pub fn ask(name: &str, p: &[Part]) -> Option<Asked> {
         "label" => label(p),
         "roots" => roots(p),
         "walk" => walk(p),
+        "build" => build(p),
         "stored" => stored(p),
         "decode" => decode(p),
         "window" => window(p),
+        "links" => chain_links(p),
         _ => return None,
     })
 }
@@ -280,4 +282,48 @@ fn window(p: &[Part]) -> Asked {
         )
     };
     Ok(if held.refusal != 0 { Err(held.refusal as u8) } else { Ok(vec![number(held.holds)]) })
+}
+
+fn chain_links(p: &[Part]) -> Asked {
+    let [a, b, c, d, chains] = columns(p);
+    let mut out = four();
+    let [w, x, y, z] = &mut out;
+    let answer = unsafe {
+        ridgeoven_chain_links(
+            a.as_ptr(), a.len(), b.as_ptr(), b.len(), c.as_ptr(), c.len(), d.as_ptr(), d.len(), chains.as_ptr(), chains.len(),
+            w.at(), w.len(), x.at(), x.len(), y.at(), y.len(), z.at(), z.len(),
+        )
+    };
+    records(&answer, &out)
+}
+
+fn build(p: &[Part]) -> Asked {
+    let subject = l::<u8>(&p[0]);
+    let column = |at: usize| l::<u64>(&p[at]);
+    let (offsets, targets) = (column(3), column(4));
+    let (children, kinds, flags) = (column(5), column(6), column(7));
+    let (depth, chains, seqs) = (column(8), l::<u32>(&p[10]), l::<u32>(&p[11]));
+    let (into, parents, by) = (column(12), column(13), column(14));
+    let [low, high] = depth[..].try_into().unwrap_or_default();
+    let mut out: [(Lent<u64>, Lent<i64>); 3] = std::array::from_fn(|_| (Lent::new(OFFSETS), Lent::new(NUMBERS)));
+    let [(fo, fd), (ro, rd), (io, id)] = &mut out;
+    let built = unsafe {
+        ridgeoven_build(
+            subject.as_ptr(), subject.len(), n(&p[1]), n(&p[2]) as usize,
+            offsets.as_ptr(), offsets.len(), targets.as_ptr(), targets.len(),
+            children.as_ptr(), children.len(), kinds.as_ptr(), kinds.len(), flags.as_ptr(), flags.len(),
+            u64::from(!depth.is_empty()), low, high, n(&p[9]), chains.as_ptr(), chains.len(), seqs.as_ptr(), seqs.len(),
+            into.as_ptr(), into.len(), parents.as_ptr(), parents.len(), by.as_ptr(), by.len(), n(&p[15]) as usize, n(&p[16]) as usize,
+            fo.at(), fo.len(), fd.at(), fd.len(), ro.at(), ro.len(), rd.at(), rd.len(), io.at(), io.len(), id.at(), id.len(),
+        )
+    };
+    if built.refusal != 0 {
+        return refused(built.refusal, &out.iter().flat_map(|(offsets, deltas)| [offsets.kept(), deltas.kept()]).collect::<Vec<_>>());
+    }
+    let mut answer = Vec::new();
+    for ((offsets, deltas), count) in out.iter().zip([built.forward, built.reverse, built.inbound]) {
+        let offsets = offsets.taken(2 * n(&p[16]) as usize + 1)?;
+        answer.extend([number(count as u64), list(offsets), list(deltas.taken(count)?)]);
+    }
+    Ok(Ok(answer))
 }
