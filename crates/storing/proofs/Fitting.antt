@@ -9,7 +9,6 @@ use Rattle.columns.specs.EdgeSet.{EdgeSet, offsetsForm}
 use Rattle.archive.specs.File.{CoverColumns, File}
 use Rattle.archive.specs.Parse.{depthRead}
 use Rattle.cleaning.specs.Source.{isThere}
-use Rattle.held.specs.declared.Subject.{Subject}
 use Rattle.held.specs.declared.Rows.{Rows}
 use Rattle.held.specs.declared.Edges.{Edges}
 use Rattle.held.specs.declared.Unresolved.{Unresolved}

@@ -6,3 +6,6 @@ pub mod Lists
 pub mod RowLabels
 pub mod Fitting
 pub mod Whole
+pub mod StaysOk
+pub mod HeldOk
+pub mod Next

@@ -4,7 +4,6 @@ use mathlib.Core.List.{List, [], _∷_, _++_, map}
 use Prim.Native.Nat.{ℕ, zero, suc, _≤_, _<_, _+_}
 use native.Mathlib.Omega.{arith}
 use lib.ListN.{length, getD, length-map}
-use lib.Seq.{sets}
 use Rattle.cover.specs.Chains.{Link}
 use Rattle.cover.specs.Cover.{linksOf, sums}
 use Rattle.cleaning.specs.Sheet.{GroupLink}

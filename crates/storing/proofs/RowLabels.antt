@@ -1,13 +1,12 @@
 -- The labels of the rows that are held, and of those of a file.
 use mathlib.Core.Path.{_≡_, refl, sym, _∙_, ap}
-use mathlib.Core.Bool.{true, false, cond}
+use mathlib.Core.Bool.{false}
 use mathlib.Core.List.{List, [], _∷_, _++_, map}
 use mathlib.Core.Option.{Option, none, some}
 use Prim.Native.Nat.{ℕ, zero, suc, _≤_, _<_, _+_}
 use native.Mathlib.Nat.{zero-add}
 use native.Mathlib.Omega.{arith}
 use lib.ListN.{length, getD, getElem?}
-use lib.Seq.{sets}
 use Rattle.lists.specs.Lists.{upFrom}
 use Rattle.lists.proofs.Flat.{length-map-upFrom, getD-map-upFrom}
 use Rattle.columns.specs.Reading.{Label, labelsOf}

@@ -1,9 +1,9 @@
 -- The columns with a file more stand for what is held with a source more.
 use mathlib.Core.Path.{_≡_, refl, sym, _∙_, ap}
 use mathlib.Core.Bool.{Bool, true, false, cond}
-use mathlib.Core.List.{List, [], _∷_, _++_, map, append-nil}
+use mathlib.Core.List.{List, _++_, map, append-nil}
 use mathlib.Core.Option.{Option, none, some}
-use Prim.Native.Nat.{ℕ, zero, suc, _≤_, _<_, _+_}
+use Prim.Native.Nat.{ℕ, zero, suc, _≤_, _+_}
 use native.Mathlib.Nat.{zero-add}
 use native.Mathlib.Omega.{arith}
 use lib.Dec.{eqb}
@@ -39,7 +39,7 @@ use Rattle.storing.proofs.LinkRecords.{links-grown}
 use Rattle.storing.proofs.GroupTable.{groups-grown, covers-stay, cover-here}
 use Rattle.storing.proofs.RowLabels.{labels-grown}
 use Rattle.storing.proofs.Lists.{slots-grown}
-use Rattle.storing.proofs.Fitting.{SetFit, RowFit, LinkFit, SheetFit, HeldFit}
+use Rattle.storing.proofs.Fitting.{SetFit, LinkFit, SheetFit, HeldFit}
 
 -- ── parts that depend on the cover or on whether a group is there ────────────────────────────
 
@@ -59,7 +59,7 @@ module _ (r : Rows) (at : ℕ) where
   more-tags none = refl
   more-tags (some c) = refl
 
-there-read : (c : Option CoverColumns) → isThere (coverRead c) ≡ isThere c
+pub there-read : (c : Option CoverColumns) → isThere (coverRead c) ≡ isThere c
 there-read none = refl
 there-read (some c) = refl
 
@@ -67,7 +67,7 @@ ranges-read : (c : Option CoverColumns) → storedRanges c ≡ rangeCount (cover
 ranges-read none = refl
 ranges-read (some c) = refl
 
-empty-listed : {A : Type 0} (f : ℕ → A) (n : ℕ) → eqb n 0 ≡ isEmpty (listed f n)
+pub empty-listed : {A : Type 0} (f : ℕ → A) (n : ℕ) → eqb n 0 ≡ isEmpty (listed f n)
 unfolding isEmpty upFrom
 empty-listed f zero = refl
 empty-listed f (suc n) = ne-eqb (suc n) 0 (λ e. omega arith)
@@ -85,7 +85,7 @@ links-more l group none fit = sym (append-nil (listed (linkAt l) (l .count)))
 links-more l group (some c) fit =
     links-grown l group (c .links .fromChains) (c .links .fromSeqs) (c .links .toChains) (c .links .toSeqs) (fit .0) (fit .1) (fit .2) (fit .3)
 
-slots-more : (n rows first m : ℕ) (e : Edges) (s : EdgeSet) → SetFit n rows e s → n + rows ≤ 1024 → m ≡ n + rows
+pub slots-more : (n rows first m : ℕ) (e : Edges) (s : EdgeSet) → SetFit n rows e s → n + rows ≤ 1024 → m ≡ n + rows
     → slotsIn m (edgesWith e n first s) ≡ slotsIn n e ++ slotsOf first s
 slots-more n rows first m e s fit room z =
     ap (λ i. slotsIn i (edgesWith e n first s)) z ∙ slots-grown n rows first e s (fit .held) (fit .form) (fit .counted) (fit .few) room (fit .long) (fit .wide)
@@ -103,13 +103,13 @@ module _ (s : sheets.Sheet) (f : File) (flag least greatest : ℕ) (fit : SheetF
   abbrev n : ℕ
   n = s .rows .count
 
-  abbrev grownRows : Rows
+  abbrev pub grownRows : Rows
   grownRows = labelsMore (rowsWith (s .rows) (f .group) (f .rows)) n (f .cover)
 
   abbrev grownGroups : ℕ → Facts
   grownGroups = factsAt (groupsWith (s .groups) (f .group) flag least greatest (isThere (f .cover)))
 
-  rows-count : grownRows .count ≡ n + length (f .rows)
+  pub rows-count : grownRows .count ≡ n + length (f .rows)
   unfolding rowsWith
   rows-count = more-count (rowsWith (s .rows) (f .group) (f .rows)) n (f .cover)
 

@@ -1,9 +1,9 @@
 -- One turn of each loop that grows a column, and each of their ends.
 use mathlib.Core.Path.{_≡_, refl, sym, _∙_, ap}
-use mathlib.Core.Bool.{true, _&&_}
+use mathlib.Core.Bool.{true}
 use mathlib.Core.List.{List, [], _∷_, _++_, map, append-nil}
 use Prim.Native.Nat.{ℕ, zero, suc, _≤_, _<_, _+_, _-_, _*_, _^_}
-use native.Mathlib.Nat.{add-zero, add-suc, sub-zero, suc-mul, zero-add}
+use native.Mathlib.Nat.{add-zero, add-suc, sub-zero, suc-mul}
 use native.Mathlib.Numerals.{add-one}
 use native.Mathlib.Omega.{arith}
 use lib.Dec.{ltb, eqb}

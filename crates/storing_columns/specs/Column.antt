@@ -1,7 +1,7 @@
 -- What the functions that grow a column ask of the bytes that they read.
 use mathlib.Core.Bool.{Bool, true, false}
 use mathlib.Core.List.{List}
-use Prim.Native.Nat.{ℕ, _+_, _*_, _≤_, _<_}
+use Prim.Native.Nat.{ℕ, _+_, _*_, _≤_}
 use Rattle.lists.specs.Lists.{Each}
 use Rattle.columns.specs.Limits.{maxRecords}
 

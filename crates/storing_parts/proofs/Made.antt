@@ -1,9 +1,9 @@
 -- What the stores of each function leave is its definition.
-use mathlib.Core.Path.{_≡_, refl, sym, _∙_}
+use mathlib.Core.Path.{_≡_, sym, _∙_}
 use mathlib.Core.Bool.{Bool, true, cond}
 use mathlib.Core.List.{List, map}
 use Prim.Native.Nat.{ℕ, _≤_, _<_, _+_, _*_}
-use lib.Dec.{ltb, eqb}
+use lib.Dec.{eqb}
 use lib.IntN.{ℤ}
 use lib.ListN.{length, getD, set, take, drop, replicate, length-drop, length-map}
 use lib.Seq.{sets, sets-eq, take-at, length-take-le}
@@ -18,7 +18,6 @@ use Rattle.columns.proofs.Offsets.{form-climbs}
 use Rattle.columns.proofs.Checks.{kept-form}
 use Rattle.bigend.specs.Bytes.{be, several, column, signedOf}
 use Rattle.cover.specs.Cover.{sums}
-use Rattle.archive.specs.File
 use Rattle.archive.specs.Parse.{rowAt, unresolvedAt, rootAt}
 use Rattle.archive.proofs.Back.{length-several}
 use Rattle.storing_columns.specs.Column.{bit}

@@ -1,6 +1,6 @@
 -- A part of each thing of a record, as a column.
 use mathlib.Core.Path.{_≡_, refl, ap}
-use mathlib.Core.List.{List, [], _∷_, map}
+use mathlib.Core.List.{List, _∷_, map}
 use Prim.Native.Nat.{ℕ, zero, suc}
 use lib.ListN.{drop, replicate}
 use Rattle.bigend.specs.Bytes.{several}

@@ -1,5 +1,4 @@
 use Rattle.storing_columns.proofs.Turns.{is-flag, no-flag}
-use borrow.Author.Needs.{needs}
 use Rattle.storing_columns.proofs.flag.Statement.{statement}
 use Rattle.storing_columns.proofs.flag.Tie as tie
 use Rattle.storing_columns.proofs.flag.Reads as reads

@@ -1,12 +1,8 @@
 use Rattle.storing_columns.proofs.Turns.{offsets-start, offsets-put, offset-more, offset-fits}
-use Rattle.storing_columns.specs.Column.{Room, Small, bit}
-use Rattle.cover.specs.Cover.{sums}
-use Rattle.bigend.specs.Bytes.{be, several, column}
-use lib.Dec.{eqb}
 use mathlib.Core.List.{map}
-use Prim.Native.Nat.{_≤_, _<_, _+_, _-_, _*_, _^_}
+use Prim.Native.Nat.{_≤_, _+_, _-_}
 use lib.Seq.{sets}
-use lib.ListN.{length, getD, take, drop, replicate}
+use lib.ListN.{length, drop}
 use mathlib.Core.Path.{_≡_}
 use borrow.Author.Needs.{needs}
 use Rattle.storing_columns.proofs.put_offsets.Statement.{statement}

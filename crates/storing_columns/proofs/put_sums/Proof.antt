@@ -1,12 +1,10 @@
-use Rattle.storing_columns.proofs.Turns.{room-starts, room-here, room-next, sums-start, Fitting, fitting-starts, sum-short, sum-fits, sum-below, fitting-next, one-summed, all-summed}
-use Rattle.storing_columns.specs.Column.{Room, Small, bit}
+use Rattle.storing_columns.proofs.Turns.{room-starts, room-here, room-next, sums-start, Fitting, fitting-starts, sum-short, sum-fits, fitting-next, one-summed, all-summed}
+use Rattle.storing_columns.specs.Column.{Room}
 use Rattle.cover.specs.Cover.{sums}
-use Rattle.bigend.specs.Bytes.{be, several, column}
-use lib.Dec.{eqb}
-use mathlib.Core.List.{map}
-use Prim.Native.Nat.{_≤_, _<_, _+_, _-_, _*_, _^_}
+use Rattle.bigend.specs.Bytes.{column}
+use Prim.Native.Nat.{_≤_, _+_, _-_}
 use lib.Seq.{sets}
-use lib.ListN.{length, getD, take, drop, replicate}
+use lib.ListN.{length}
 use mathlib.Core.Path.{_≡_}
 use borrow.Author.Needs.{needs}
 use Rattle.storing_columns.proofs.put_sums.Statement.{statement}

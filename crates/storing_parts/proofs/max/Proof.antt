@@ -1,5 +1,4 @@
 use Rattle.storing_parts.proofs.Made.{second-more, first-most}
-use borrow.Author.Needs.{needs}
 use Rattle.storing_parts.proofs.max.Statement.{statement}
 use Rattle.storing_parts.proofs.max.Tie as tie
 use Rattle.storing_parts.proofs.max.Reads as reads

@@ -1,5 +1,4 @@
 use Rattle.storing_parts.proofs.Made.{second-less, first-least}
-use borrow.Author.Needs.{needs}
 use Rattle.storing_parts.proofs.min.Statement.{statement}
 use Rattle.storing_parts.proofs.min.Tie as tie
 use Rattle.storing_parts.proofs.min.Reads as reads

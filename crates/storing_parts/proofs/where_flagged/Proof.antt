@@ -1,5 +1,4 @@
 use Rattle.storing_parts.proofs.Made.{flag-is, flag-is-not}
-use borrow.Author.Needs.{needs}
 use Rattle.storing_parts.proofs.where_flagged.Statement.{statement}
 use Rattle.storing_parts.proofs.where_flagged.Tie as tie
 use Rattle.storing_parts.proofs.where_flagged.Reads as reads
