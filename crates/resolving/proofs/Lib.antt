@@ -1,3 +1,3 @@
 pub mod KeptColumns
 pub mod KeptViews
-pub mod HeldFacts
+pub mod Asking

@@ -1,2 +1,3 @@
 // Resolving: from what a run holds to the sheet of its survivors.
+pub mod asked;
 pub mod kept;
