@@ -18,6 +18,7 @@ use Rattle.columns.specs.Reading.{slotsOf}
 use Rattle.columns.specs.Building.{inFile}
 use Rattle.columns.proofs.Offsets.{cut-length, form-length}
 use Rattle.archive.specs.File.{File}
+use Rattle.cleaning.specs.Taking.{storedLinkCount}
 use Rattle.cleaning.specs.Source.{isThere}
 use Rattle.cleaning.proofs.Sides.{SlotBelow}
 use Rattle.held.specs.declared.Edges.{Edges}
@@ -30,7 +31,7 @@ use Rattle.storing.specs.Joined.{linksMore, sheetMore, heldMore}
 use Rattle.storing.proofs.Records.{column-grown}
 use Rattle.storing.proofs.Lists.{edges-grown}
 use Rattle.storing.proofs.Fitting.{SetFit, SheetFit, HeldFit}
-use Rattle.storing.proofs.StaysOk.{subject-length, groups-few, linkNumber, links-count, children-in, roots-below, parents-earlier}
+use Rattle.storing.proofs.StaysOk.{subject-length, groups-few, links-count, children-in, roots-below, parents-earlier}
 use Rattle.storing.proofs.Whole.{grownRows, rows-count, slots-more}
 
 -- what the rules of a file say of it, after the rows that are held
@@ -42,7 +43,7 @@ pub record SheetSound (s : Sheet) (f : File) : Type 0 where
   pub group : f .group < 16
   pub unresolvedFew : s .unresolved .count + length (f .unresolved) ≤ 1024
   pub rootsFew : s .roots .count + length (f .roots) ≤ 1024
-  pub linksFew : s .links .count + linkNumber (f .cover) ≤ 1024
+  pub linksFew : s .links .count + storedLinkCount (f .cover) ≤ 1024
   pub children : Each (λ u. (f .first ≤ u .child) × (u .child < f .first + length (f .rows))) (f .unresolved)
   pub roots : Each (λ r. r .row < length (f .rows)) (f .roots)
   pub below : EachFrom (SlotBelow (f .first)) 0 (slotsOf (f .first) (f .forward))

@@ -9,3 +9,4 @@ pub mod Whole
 pub mod StaysOk
 pub mod HeldOk
 pub mod Next
+pub mod Limits

@@ -16,13 +16,13 @@ use Rattle.lists.proofs.Flat.{length-map-upFrom, getD-map-upFrom}
 use Rattle.columns.specs.Limits.{maxSubject}
 use Rattle.columns.specs.Building.{subjectOk}
 use Rattle.archive.specs.File.{File}
+use Rattle.cleaning.specs.Taking.{storedLinkCount}
 use Rattle.cleaning.specs.Source.{sourceOf, isThere}
 use Rattle.cleaning.specs.Held.{sheetWith, noFacts}
 use Rattle.cleaning.proofs.Taken.{RecordIn, Sound}
 use Rattle.cleaning.proofs.HeldRows.{Ready}
 use Rattle.held.specs.declared.Held.{Held}
 use Rattle.held.specs.View.{flagged, hasCover, factsAt, sheetIn, heldIn}
-use Rattle.storing.proofs.StaysOk.{linkNumber}
 use Rattle.storing.proofs.Whole.{there-read, empty-listed}
 use Rattle.storing.proofs.HeldOk.{SheetSound}
 
@@ -31,7 +31,7 @@ pub record Few (h : Held) (f : File) : Type 0 where
   pub group : f .group < 16
   pub unresolved : h .sheet .unresolved .count + length (f .unresolved) ≤ 1024
   pub roots : h .sheet .roots .count + length (f .roots) ≤ 1024
-  pub links : h .sheet .links .count + linkNumber (f .cover) ≤ 1024
+  pub links : h .sheet .links .count + storedLinkCount (f .cover) ≤ 1024
 
 module _ (h : Held) (f : File) (flags : h .sheet .rows .count ≤ length (h .erased)) (q : Ready (heldIn h) (sourceOf f)) where
   rows-held : length (heldIn h .erased) ≡ h .sheet .rows .count

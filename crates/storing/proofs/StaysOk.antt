@@ -18,6 +18,7 @@ use Rattle.columns.specs.Limits.{kinds}
 use Rattle.columns.specs.EdgeSet.{eventOf}
 use Rattle.columns.specs.Building.{inFile}
 use Rattle.archive.specs.File.{CoverColumns}
+use Rattle.cleaning.specs.Taking.{storedLinkCount}
 use Rattle.cleaning.proofs.Sides.{SlotBelow}
 use Rattle.held.specs.declared.Subject.{Subject}
 use Rattle.held.specs.declared.Groups.{Groups}
@@ -39,12 +40,7 @@ unfolding groupsWith groupsNew groupsJoined
 groups-few g n flag least greatest covered (inl e) h = rw (eq-eqb n (g .count) e) (omega arith)
 groups-few g n flag least greatest covered (inr e) h = rw (ne-eqb n (g .count) (λ f. omega arith)) (omega arith)
 
--- how many links a cover has
-abbrev pub linkNumber : Option CoverColumns → ℕ
-linkNumber none = 0
-linkNumber (some c) = length (c .links .fromChains)
-
-pub links-count : (l : Links) (group : ℕ) (c : Option CoverColumns) → (linksMore l group c) .count ≡ l .count + linkNumber c
+pub links-count : (l : Links) (group : ℕ) (c : Option CoverColumns) → (linksMore l group c) .count ≡ l .count + storedLinkCount c
 unfolding linksMore linksWith
 links-count l group none = sym (add-zero (l .count))
 links-count l group (some c) = refl
