@@ -1,3 +1,5 @@
 pub mod KeptColumns
 pub mod KeptViews
 pub mod Asking
+pub mod KeptRecords
+pub mod MovedRecords
