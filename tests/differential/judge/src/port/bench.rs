@@ -1,14 +1,18 @@
 //! Times of the original and of the port on the same inputs, in one process: the best of many calls each.
 
 use super::boundary::{
-    ridgeoven_children, ridgeoven_cover_read, ridgeoven_cover_store, ridgeoven_parents, ridgeoven_read_granule, ridgeoven_walk,
+    ridgeoven_build, ridgeoven_children, ridgeoven_cover_read, ridgeoven_cover_store, ridgeoven_parents, ridgeoven_read_granule,
+    ridgeoven_walk,
 };
 use crate::archive::Set;
 use crate::blocks;
 use crate::questions::OneFile;
 use crate::random::Random;
+use crate::sources;
 use original::layout::api::EventGraph;
-use original::layout::graph::{ChainCover, ChainLink, EdgeKind, GranuleEdges, decode_granule_edges};
+use original::layout::graph::{
+    ChainCover, ChainLink, EdgeKind, GranuleEdges, GraphEdge, GraphInput, RowEdges, decode_granule_edges, encode_graph_blocks,
+};
 use original::layout::shown::{decode_cover, encode_cover};
 use std::hint::black_box;
 use std::time::{Duration, Instant};
@@ -27,13 +31,34 @@ fn best(mut call: impl FnMut()) -> f64 {
     best.as_secs_f64() * 1e6
 }
 
-/// Forward, reverse and inbound sets of a file: each row names `each` earlier numbers in each kind, some of them before the file.
+/// Forward, reverse and inbound sets of a file, and their lists slot by slot.
 struct Inputs {
     rows: usize,
     end: u64,
+    lists: [Vec<Vec<u64>>; 3],
     sets: [Set; 3],
 }
 
+impl Inputs {
+    fn of(rows: usize, lists: [Vec<Vec<u64>>; 3]) -> Self {
+        let sets = lists.each_ref().map(|lists| Set::of(FIRST, lists));
+        Inputs { rows, end: FIRST + rows as u64, lists, sets }
+    }
+}
+
+/// The last row names four numbers before the file for each row, in any order: one wide level.
+fn wide(rows: usize) -> Inputs {
+    let mut random = Random::new(rows as u64);
+    let mut level: Vec<u64> = (1..=4 * rows as u64).map(|step| FIRST - 5 * step).collect();
+    for at in (1..level.len()).rev() {
+        level.swap(at, random.below(at + 1));
+    }
+    let mut lists: [Vec<Vec<u64>>; 3] = std::array::from_fn(|_| vec![Vec::new(); 2 * rows]);
+    lists[0][2 * (rows - 1)] = level;
+    Inputs::of(rows, lists)
+}
+
+/// Each row names `each` earlier numbers in each kind, some of them before the file.
 fn inputs(rows: usize, each: usize) -> Inputs {
     let mut random = Random::new(rows as u64);
     let end = FIRST + rows as u64;
@@ -45,7 +70,7 @@ fn inputs(rows: usize, each: usize) -> Inputs {
             continue;
         }
         for step in 0..each as u64 {
-            let target = if step == 0 { event - 1 } else { event - 1 - random.within(0, 2 * rows as u64) };
+            let target = if step == 0 { event - 1 } else { event - 1 - random.within(1, 2 * rows as u64) };
             lists[0][slot].push(target);
             if target >= FIRST {
                 lists[1][2 * (target - FIRST) as usize + slot % 2].push(event);
@@ -53,12 +78,42 @@ fn inputs(rows: usize, each: usize) -> Inputs {
         }
         lists[2][slot].push(end + slot as u64);
     }
-    Inputs { rows, end, sets: lists.map(|lists| Set::of(FIRST, &lists)) }
+    Inputs::of(rows, lists)
 }
 
 impl Inputs {
     fn decoded(&self, block: &[u8]) -> GranuleEdges {
         decode_granule_edges(block, FIRST, self.rows as u32, self.end, false).expect("a sound granule")
+    }
+
+    /// The original is given its own rows and edges, the port columns.
+    fn build(&self) -> [f64; 2] {
+        let [forward, _, inbound] = &self.lists;
+        let rows = forward.chunks(2).map(|slots| RowEdges { prev: slots[0].clone(), auth: slots[1].clone() }).collect();
+        let kinds = [EdgeKind::Prev, EdgeKind::Auth];
+        let edges: Vec<(u64, u64, u64)> = (0..).zip(inbound).flat_map(|(slot, list)| list.iter().map(move |child| (*child, FIRST + slot / 2, slot % 2))).collect();
+        let of = |&(child, parent, kind): &(u64, u64, u64)| GraphEdge { child, kind: kinds[kind as usize], parent };
+        let graph = GraphInput { first_sn: FIRST, rows, subject: b"a".to_vec(), inbound: edges.iter().map(of).collect(), ..GraphInput::default() };
+        let granule = [sources::granule(self.rows)];
+        let rust = best(|| drop(black_box(encode_graph_blocks(&graph, self.rows as u64, &granule).expect("a sound file"))));
+        let (offsets, targets) = (&self.sets[0].offsets, forward.concat());
+        let column = |part: fn(&(u64, u64, u64)) -> u64| edges.iter().map(part).collect::<Vec<u64>>();
+        let [children, parents, by] = [column(|edge| edge.0), column(|edge| edge.1), column(|edge| edge.2)];
+        let mut out: [(Vec<u64>, Vec<i64>); 3] = std::array::from_fn(|_| (vec![0; 2049], vec![0; 4096]));
+        let port = best(|| {
+            let [(a, b), (c, d), (e, f)] = &mut out;
+            let built = unsafe {
+                ridgeoven_build(
+                    b"a".as_ptr(), 1, FIRST, self.rows, offsets.as_ptr(), offsets.len(), targets.as_ptr(), targets.len(),
+                    [].as_ptr(), 0, [].as_ptr(), 0, [].as_ptr(), 0, 0, 0, 0, 0, [].as_ptr(), 0, [].as_ptr(), 0,
+                    children.as_ptr(), children.len(), parents.as_ptr(), parents.len(), by.as_ptr(), by.len(), 0, self.rows,
+                    a.as_mut_ptr(), a.len(), b.as_mut_ptr(), b.len(), c.as_mut_ptr(), c.len(), d.as_mut_ptr(), d.len(),
+                    e.as_mut_ptr(), e.len(), f.as_mut_ptr(), f.len(),
+                )
+            };
+            assert_eq!(built.refusal, 0);
+        });
+        [rust, port]
     }
 
     fn read(&self) -> [f64; 2] {
@@ -194,11 +249,13 @@ pub fn table() {
     println!("| call | edges | 64 rows | 256 rows | 1,024 rows | 64 to 1,024 grows by |\n|---|---|---|---|---|---|");
     for (shape, each) in [("one a row", 1), ("two a slot", 2)] {
         let sizes = [64, 256, 1024].map(|rows| inputs(rows, each));
+        line("build a granule", shape, &sizes.each_ref().map(Inputs::build));
         line("read a granule", shape, &sizes.each_ref().map(Inputs::read));
         line("parents", shape, &sizes.each_ref().map(Inputs::parents));
         line("children", shape, &sizes.each_ref().map(Inputs::children));
         line("walk", shape, &sizes.each_ref().map(Inputs::walk));
     }
+    line("walk", "one wide level", &[64, 256, 1024].map(wide).each_ref().map(Inputs::walk));
     let covers = [64, 256, 1024].map(cover);
     line("store links", "as many links", &covers.map(|[store, _]| store));
     line("read a cover", "as many links", &covers.map(|[_, read]| read));
