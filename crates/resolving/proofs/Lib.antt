@@ -3,3 +3,4 @@ pub mod KeptViews
 pub mod Asking
 pub mod KeptRecords
 pub mod MovedRecords
+pub mod Renewing
