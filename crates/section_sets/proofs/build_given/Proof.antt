@@ -1,0 +1,148 @@
+-- `section_sets::build_given` meets its contract.
+use native.Mathlib.Omega.{arith}
+use Rattle.section_sets.proofs.PartGraphs.{low-in, high-in, children-long, parents-long, kinds-long, low-high-order, high-inside, part-answers}
+use borrow.Author.Needs.{needs}
+use Rattle.section_sets.proofs.build_given.Statement.{statement}
+use Rattle.section_sets.proofs.build_given.Tie as tie
+use Rattle.section_sets.proofs.build_given.Reads as reads
+use Rattle.section_sets.proofs.build_given.Lts as lts
+use Rattle.rules.proofs.slots.index.Reads as index-reads
+use Rattle.section_sets.proofs.build_columns.Reads as build-columns-reads
+use Rattle.sections.proofs.edges.edges_into.Reads as edges-into-reads
+
+edges-into-requires : tie.Need-edges-into-requires
+edges-into-requires c κs = search needs
+
+add-first : tie.Need-add-first
+add-first c = search needs
+
+mul-index : tie.Need-mul-index
+mul-index c = search needs
+
+mul-index-2 : tie.Need-mul-index-2
+mul-index-2 c = search needs
+
+shared-slice-read-index : tie.Need-shared-slice-read-index
+shared-slice-read-index c = search low-in
+
+index-requires : tie.Need-index-requires
+index-requires c κs = search needs
+
+mul-index-3 : tie.Need-mul-index-3
+mul-index-3 c = search needs
+
+mul-index-4 : tie.Need-mul-index-4
+mul-index-4 c = search needs
+
+add-index : tie.Need-add-index
+add-index c = search needs
+
+mul-index-5 : tie.Need-mul-index-5
+mul-index-5 c = search needs
+
+shared-slice-read-index-2 : tie.Need-shared-slice-read-index-2
+shared-slice-read-index-2 c = search high-in
+
+index-requires-2 : tie.Need-index-requires-2
+index-requires-2 c κs = search needs
+
+slice-aggregate-build-columns : tie.Need-slice-aggregate-build-columns
+slice-aggregate-build-columns c = search children-long
+
+slice-aggregate-build-columns-2 : tie.Need-slice-aggregate-build-columns-2
+slice-aggregate-build-columns-2 c = search parents-long
+
+slice-aggregate-build-columns-3 : tie.Need-slice-aggregate-build-columns-3
+slice-aggregate-build-columns-3 c = search kinds-long
+
+build-columns-requires : tie.Need-build-columns-requires
+build-columns-requires c κs =
+    let i2 = c .before .before .before .before .before .before .before .before .before in
+    let i1 = i2 .before .before in
+    let e = i1 .before .before in
+    let s = e .before .before .before .before .before .before .before .before .before .before .before .before .before .before .before .before in
+    let q = s .pre in
+    let within = q .0 .0 in
+    let few = q .0 .1 .0 in
+    let small = q .1 .0 .0 in
+    let form = q .1 .0 .1 in
+    let records = q .1 .1 .0 in
+    let slices = q .1 .1 .1 .0 in
+    let long = q .1 .1 .1 .1 .0 in
+    let starting = q .1 .1 .1 .1 .1 in
+    let low = i1 .index .ensures in
+    let high = i2 .index2 .ensures in
+    let most = e .edges-into .ensures .0 in
+    let laid = e .edges-into .ensures .1 in
+    let a = children-long _ _ _ _ _ laid in
+    let b = parents-long _ _ _ _ _ laid in
+    let d = kinds-long _ _ _ _ _ laid in
+    ((omega (arith, within, few), (long, (search low-high-order, search high-inside))), (omega (arith, most, a), (omega (arith, most, b), omega (arith, most, d))))
+
+same-length : tie.Need-same-length
+same-length c = search needs
+
+same-length-2 : tie.Need-same-length-2
+same-length-2 c = search needs
+
+same-length-3 : tie.Need-same-length-3
+same-length-3 c = search needs
+
+same-length-4 : tie.Need-same-length-4
+same-length-4 c = search needs
+
+same-length-5 : tie.Need-same-length-5
+same-length-5 c = search needs
+
+same-length-6 : tie.Need-same-length-6
+same-length-6 c = search needs
+
+returns : tie.Need-returns
+returns c =
+    let done = c .before .before .before .before .before .before .before .before .before .build-columns .ensures in
+    let i2 = c .before .before .before .before .before .before .before .before .before .before .before .before .before .before .before .before .before .before .before in
+    let i1 = i2 .before .before in
+    let e = i1 .before .before in
+    let s = e .before .before .before .before .before .before .before .before .before .before .before .before .before .before .before .before in
+    let q = s .pre in
+    let within = q .0 .0 in
+    let few = q .0 .1 .0 in
+    let small = q .1 .0 .0 in
+    let form = q .1 .0 .1 in
+    let records = q .1 .1 .0 in
+    let slices = q .1 .1 .1 .0 in
+    let long = q .1 .1 .1 .1 .0 in
+    let starting = q .1 .1 .1 .1 .1 in
+    let low = i1 .index .ensures in
+    let high = i2 .index2 .ensures in
+    let most = e .edges-into .ensures .0 in
+    let laid = e .edges-into .ensures .1 in
+    search part-answers
+
+pub build-given-spec : {M : Type 1} → statement M
+build-given-spec =
+    tie.close
+    (tie.spec
+    edges-into-requires
+    add-first
+    mul-index
+    mul-index-2
+    shared-slice-read-index
+    index-requires
+    mul-index-3
+    mul-index-4
+    add-index
+    mul-index-5
+    shared-slice-read-index-2
+    index-requires-2
+    slice-aggregate-build-columns
+    slice-aggregate-build-columns-2
+    slice-aggregate-build-columns-3
+    build-columns-requires
+    same-length
+    same-length-2
+    same-length-3
+    same-length-4
+    same-length-5
+    same-length-6
+    returns)

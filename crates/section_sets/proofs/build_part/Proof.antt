@@ -1,0 +1,66 @@
+-- `section_sets::build_part` meets its contract.
+use Rattle.section_sets.proofs.PartGraphs.{offs-long, offsets-given}
+use borrow.Author.Needs.{needs}
+use Rattle.section_sets.proofs.build_part.Statement.{statement}
+use Rattle.section_sets.proofs.build_part.Tie as tie
+use Rattle.section_sets.proofs.build_part.Reads as reads
+use Rattle.section_sets.proofs.build_part.Lts as lts
+use Rattle.section_sets.proofs.build_given.Reads as build-given-reads
+use Rattle.sections.proofs.offsets.rebase.Reads as rebase-reads
+
+mul-rebase : tie.Need-mul-rebase
+mul-rebase c = search needs
+
+mul-rebase-2 : tie.Need-mul-rebase-2
+mul-rebase-2 c = search needs
+
+slice-aggregate-rebase : tie.Need-slice-aggregate-rebase
+slice-aggregate-rebase c = search needs
+
+rebase-requires : tie.Need-rebase-requires
+rebase-requires c κs = ((search needs, (search needs, search needs)), search needs)
+
+slice-aggregate-build-given : tie.Need-slice-aggregate-build-given
+slice-aggregate-build-given c = search offs-long
+
+build-given-requires : tie.Need-build-given-requires
+build-given-requires c κs = (search needs, (search needs, (search needs, (search needs, (search needs, search offsets-given)))))
+
+same-length : tie.Need-same-length
+same-length c = search needs
+
+same-length-2 : tie.Need-same-length-2
+same-length-2 c = search needs
+
+same-length-3 : tie.Need-same-length-3
+same-length-3 c = search needs
+
+same-length-4 : tie.Need-same-length-4
+same-length-4 c = search needs
+
+same-length-5 : tie.Need-same-length-5
+same-length-5 c = search needs
+
+same-length-6 : tie.Need-same-length-6
+same-length-6 c = search needs
+
+returns : tie.Need-returns
+returns c = search needs
+
+pub build-part-spec : {M : Type 1} → statement M
+build-part-spec =
+    tie.close
+    (tie.spec
+    mul-rebase
+    mul-rebase-2
+    slice-aggregate-rebase
+    rebase-requires
+    slice-aggregate-build-given
+    build-given-requires
+    same-length
+    same-length-2
+    same-length-3
+    same-length-4
+    same-length-5
+    same-length-6
+    returns)

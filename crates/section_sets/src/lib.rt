@@ -1,0 +1,211 @@
+// The rules and the three sets of some of the rows of flat columns, built as a file of their own.
+use building::encode::encode_graph_blocks;
+use encoding::kept::Encoded;
+use records::groups::Depth;
+use rules::slots::index;
+use sections::edges::edges_into;
+use sections::offsets::rebase;
+ghost use mathlib.Core.Path.{_≡_};
+ghost use mathlib.Core.Bool.{true};
+ghost use Prim.Native.Nat.{_+_, _-_, _*_, _≤_, _<_};
+ghost use lib.ListN.{length, take, drop};
+ghost use Rattle.lists.specs.Lists.{starts, part};
+ghost use Rattle.columns.specs.Limits.{end64};
+ghost use Rattle.columns.specs.EdgeSet.{offsetsForm, cut};
+ghost use Rattle.columns.specs.Building.{build};
+ghost use Rattle.records.specs.Recorded.{depthOf, labelsGiven};
+ghost use Rattle.encoding.specs.Encoded.{Rooms};
+ghost use Rattle.building.specs.Lent.{graphOf, slicesOf};
+ghost use Rattle.section_sets.specs.Parted.{partGraph, Few, judged, Answers};
+
+// Builds a file of n rows from parts of columns: the first 2 * n + 1 offsets, targets[lo..hi], the first m inbound edges.
+fn build_columns(
+    subject: &[u8],
+    first: u64,
+    n: usize,
+    offs: &[u64],
+    targets: &[u64],
+    lo: usize,
+    hi: usize,
+    children: &[u64],
+    kinds: &[u64],
+    flags: &[u64],
+    depth: Depth,
+    labelled: bool,
+    chains: &[u32],
+    seqs: &[u32],
+    cs: &[u64],
+    ps: &[u64],
+    ks: &[u64],
+    m: usize,
+    fo: &mut [u64],
+    fd: &mut [i64],
+    ro: &mut [u64],
+    rd: &mut [i64],
+    io: &mut [u64],
+    id: &mut [i64],
+) -> Encoded
+    requires { ⌜ (n ≤ 1024) × ((2 * n + 1 ≤ length (now offs)) × ((lo ≤ hi) × (hi ≤ length (now targets)))) ⌝ }
+    requires { ⌜ (m ≤ length (now cs)) × ((m ≤ length (now ps)) × (m ≤ length (now ks))) ⌝ }
+    ensures { λ r. ⌜ Answers (build (graphOf (now (subject .entry)) first n (take (2 * n + 1) (now (offs .entry))) (take (hi - lo) (drop lo (now (targets .entry)))) (now (children .entry)) (now (kinds .entry)) (now (flags .entry)) depth labelled (now (chains .entry)) (now (seqs .entry)) (take m (now (cs .entry))) (take m (now (ps .entry))) (take m (now (ks .entry))) 0 n) (slicesOf (length (now (fo .entry))) (length (now (fd .entry))) (length (now (ro .entry))) (length (now (rd .entry))) (length (now (io .entry))) (length (now (id .entry))))) r (now (fo .entry)) (now (fd .entry)) (now (ro .entry)) (now (rd .entry)) (now (io .entry)) (now (id .entry)) (now (fo .exit)) (now (fd .exit)) (now (ro .exit)) (now (rd .exit)) (now (io .exit)) (now (id .exit)) ⌝ }
+{
+    let k = 2 * n + 1;
+    encode_graph_blocks(
+        subject,
+        first,
+        n,
+        &offs[..k],
+        &targets[lo..hi],
+        children,
+        kinds,
+        flags,
+        depth,
+        labelled,
+        chains,
+        seqs,
+        &cs[..m],
+        &ps[..m],
+        &ks[..m],
+        0,
+        n,
+        fo,
+        fd,
+        ro,
+        rd,
+        io,
+        id,
+    )
+}
+
+// The same of the n rows from row a on, whose offsets are given. The inbound edges are those of all other rows.
+fn build_given(
+    subject: &[u8],
+    start: u64,
+    total: usize,
+    offsets: &[u64],
+    targets: &[u64],
+    children: &[u64],
+    kinds: &[u64],
+    flags: &[u64],
+    depth: Depth,
+    labelled: bool,
+    chains: &[u32],
+    seqs: &[u32],
+    a: usize,
+    n: usize,
+    offs: &[u64],
+    fo: &mut [u64],
+    fd: &mut [i64],
+    ro: &mut [u64],
+    rd: &mut [i64],
+    io: &mut [u64],
+    id: &mut [i64],
+) -> Encoded
+    requires { ⌜ (a + n ≤ total) × ((total ≤ 1024) × (start + total < end64)) ⌝ }
+    requires { ⌜ (length (now targets) ≤ 4096) × (offsetsForm total (length (now targets)) (now offsets) ≡ true) ⌝ }
+    requires { ⌜ Few (length (now children)) (length (now kinds)) (length (now flags)) (length (now chains)) (length (now seqs)) ⌝ }
+    requires { ⌜ Rooms (length (now fo)) (length (now fd)) (length (now ro)) (length (now rd)) (length (now io)) (length (now id)) ⌝ }
+    requires { ⌜ (2 * n + 1 ≤ length (now offs)) × (take (2 * n + 1) (now offs) ≡ starts 0 (part (2 * a) (2 * n) (cut (now offsets) (now targets)))) ⌝ }
+    ensures { λ r. ⌜ Answers (judged (partGraph (now (subject .entry)) start total (cut (now (offsets .entry)) (now (targets .entry))) (record { children = now (children .entry); kindsGiven = now (kinds .entry); flags = now (flags .entry) }) (depthOf depth) (labelsGiven labelled (now (chains .entry)) (now (seqs .entry))) a n)) r (now (fo .entry)) (now (fd .entry)) (now (ro .entry)) (now (rd .entry)) (now (io .entry)) (now (id .entry)) (now (fo .exit)) (now (fd .exit)) (now (ro .exit)) (now (rd .exit)) (now (io .exit)) (now (id .exit)) ⌝ }
+{
+    let mut cs = [0u64; 4096];
+    let mut ps = [0u64; 4096];
+    let mut ks = [0u64; 4096];
+    let m = edges_into(
+        start,
+        total,
+        offsets,
+        targets,
+        a,
+        n,
+        &mut cs,
+        &mut ps,
+        &mut ks,
+    );
+    let first = start + (a as u64);
+    let lo = index(offsets[2 * a]);
+    let hi = index(offsets[2 * a + 2 * n]);
+    build_columns(
+        subject,
+        first,
+        n,
+        offs,
+        targets,
+        lo,
+        hi,
+        children,
+        kinds,
+        flags,
+        depth,
+        labelled,
+        chains,
+        seqs,
+        &cs,
+        &ps,
+        &ks,
+        m,
+        fo,
+        fd,
+        ro,
+        rd,
+        io,
+        id,
+    )
+}
+
+// Builds the n rows from row a on as a file of their own: building's rules, and the three sets where they are kept. The file's inbound edges are
+// those of all other rows into it.
+pub fn build_part(
+    subject: &[u8],
+    start: u64,
+    total: usize,
+    offsets: &[u64],
+    targets: &[u64],
+    children: &[u64],
+    kinds: &[u64],
+    flags: &[u64],
+    depth: Depth,
+    labelled: bool,
+    chains: &[u32],
+    seqs: &[u32],
+    a: usize,
+    n: usize,
+    fo: &mut [u64],
+    fd: &mut [i64],
+    ro: &mut [u64],
+    rd: &mut [i64],
+    io: &mut [u64],
+    id: &mut [i64],
+) -> Encoded
+    requires { ⌜ (a + n ≤ total) × ((total ≤ 1024) × (start + total < end64)) ⌝ }
+    requires { ⌜ (length (now targets) ≤ 4096) × (offsetsForm total (length (now targets)) (now offsets) ≡ true) ⌝ }
+    requires { ⌜ Few (length (now children)) (length (now kinds)) (length (now flags)) (length (now chains)) (length (now seqs)) ⌝ }
+    requires { ⌜ Rooms (length (now fo)) (length (now fd)) (length (now ro)) (length (now rd)) (length (now io)) (length (now id)) ⌝ }
+    ensures { λ r. ⌜ Answers (judged (partGraph (now (subject .entry)) start total (cut (now (offsets .entry)) (now (targets .entry))) (record { children = now (children .entry); kindsGiven = now (kinds .entry); flags = now (flags .entry) }) (depthOf depth) (labelsGiven labelled (now (chains .entry)) (now (seqs .entry))) a n)) r (now (fo .entry)) (now (fd .entry)) (now (ro .entry)) (now (rd .entry)) (now (io .entry)) (now (id .entry)) (now (fo .exit)) (now (fd .exit)) (now (ro .exit)) (now (rd .exit)) (now (io .exit)) (now (id .exit)) ⌝ }
+{
+    let mut offs = [0u64; 2049];
+    rebase(total, targets.len(), offsets, 2 * a, 2 * n, &mut offs);
+    build_given(
+        subject,
+        start,
+        total,
+        offsets,
+        targets,
+        children,
+        kinds,
+        flags,
+        depth,
+        labelled,
+        chains,
+        seqs,
+        a,
+        n,
+        &offs,
+        fo,
+        fd,
+        ro,
+        rd,
+        io,
+        id,
+    )
+}
