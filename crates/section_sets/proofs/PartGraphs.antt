@@ -3,10 +3,8 @@ use mathlib.Core.Path.{_≡_, refl, sym, _∙_, ap, ap₂}
 use mathlib.Core.Bool.{Bool, true, false, false≢true}
 use mathlib.Core.Logic.{inl, inr}
 use mathlib.Core.List.{List, [], _∷_, _++_, map}
-use mathlib.Core.Option.{Option, none, some}
 use Prim.Native.Nat.{ℕ, zero, suc, _+_, _-_, _*_, _≤_, _<_}
 use native.Mathlib.Omega.{arith}
-use native.Mathlib.Numerals.{add-one}
 use lib.Dec.{leb, ltb, eqb}
 use lib.IntN.{ℤ}
 use lib.ListN.{length, getD, take, drop, length-map, drop-of-length-le, length-take, length-drop, replicate, length-replicate}
@@ -17,9 +15,9 @@ use Rattle.lists.specs.Order.{climbsTo}
 use Rattle.lists.proofs.Tests.{tested, both}
 use Rattle.lists.proofs.Flat.{length-starts}
 use Rattle.columns.specs.Limits.{maxNumbers}
-use Rattle.columns.specs.Refusal.{unless, refuse, firstOf, short, limits}
-use Rattle.columns.specs.Reading.{Labels, labelLengths}
-use Rattle.columns.specs.Building.{greater, recordCount, Graph, buildRules, builtOf, graphLengths, graphRecords, build}
+use Rattle.columns.specs.Refusal.{unless, firstOf, short, limits}
+use Rattle.columns.specs.Reading.{labelLengths}
+use Rattle.columns.specs.Building.{greater, recordCount, buildRules, builtOf, graphLengths, graphRecords, build}
 use Rattle.columns.specs.EdgeSet.{fromTo, offsetsForm, cutFrom, cut}
 use Rattle.columns.proofs.Offsets.{low-high, form-climbs}
 use Rattle.rules.proofs.SlotTables.{table-of, length-cut}

@@ -5,8 +5,8 @@ use mathlib.Core.List.{List, [], _∷_, _++_, map, map-append, append-nil}
 use Prim.Native.Nat.{ℕ, zero, suc, _+_, _-_, _*_, _≤_, _<_}
 use native.Mathlib.Numerals.{add-one}
 use native.Mathlib.Omega.{arith}
-use lib.ListN.{length, getD, set, take, drop, length-append, length-map}
-use lib.Seq.{slice, sets, slice-cons, drop-cons}
+use lib.ListN.{length, getD, set, length-append, length-map}
+use lib.Seq.{slice, slice-cons, drop-cons}
 use Rattle.lists.specs.Lists.{filter, flat, upFrom, part}
 use Rattle.lists.proofs.Flat.{flat-append}
 use Rattle.columns.specs.EdgeSet.{offsetsForm, cut}
