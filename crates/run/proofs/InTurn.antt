@@ -1,0 +1,107 @@
+-- The tests of a run's turn, and what a step out of turn answers.
+use mathlib.Core.Path.{_≡_, refl, sym, ap, subst, _∙_}
+use mathlib.Core.Bool.{Bool, true, false, cond, not, _&&_, false≢true}
+use Prim.Native.Nat.{ℕ, zero, suc}
+use lib.Dec.{eqb}
+use borrow.Author.Tests.{eq-eqb, ne-eqb, not-true, not-false}
+use Rattle.lists.proofs.Tests.{both}
+use Rattle.columns.specs.declared.refusal.Refusal.the-variants.{OutOfTurn}
+use Rattle.cleaning.specs.Sheet as sheets
+use Rattle.cleaning.specs.Held as held
+use Rattle.cleaning.specs.Step.{Call, refused}
+use Rattle.cleaning.specs.Runs.{RunState, resolved, spoiled, runOutcome, runStep}
+use Rattle.held.specs.View.{sheetIn, heldIn}
+use Rattle.held.specs.declared.Sheet.{Sheet}
+use Rattle.held.specs.declared.Held.{Held}
+use Rattle.held.specs.Valid.{countsOk, sheetOk, heldOk}
+use Rattle.tidying.specs.Ordered.{ordered, filled}
+use Rattle.run.specs.declared.Run.{Run}
+use Rattle.run.specs.View.{holdable, writable, phased, view, isTaking, isResolved}
+
+module _ (h : Held) {a : Bool} (e : a ≡ heldOk h) where
+  pub not-held : not a ≡ true → false ≡ holdable h
+  unfolding holdable
+  not-held k = rw (← e, not-true a k)
+
+  module _ (k : not a ≡ false) where
+    pub held-counts : countsOk (h .sheet) ≡ true
+    unfolding heldOk sheetOk
+    held-counts = both (countsOk (h .sheet)) _ (both (sheetOk (h .sheet)) _ (sym e ∙ not-false a k) .0) .0
+
+    pub held-order : {b : Bool} → b ≡ ordered (h .sheet) → b ≡ holdable h
+    unfolding holdable
+    held-order f = rw (← e, not-false a k) f
+
+module _ (s : Sheet) (e : sheetOk s ≡ true) where
+  pub sheet-counts : countsOk s ≡ true
+  unfolding sheetOk
+  sheet-counts = both (countsOk s) _ e .0
+
+  module _ {a : Bool} (f : a ≡ ordered s) where
+    pub not-ordered : not a ≡ true → false ≡ writable s
+    unfolding writable
+    not-ordered k = rw (e, ← f, not-true a k)
+
+    pub then-filled : not a ≡ false → {b : Bool} → b ≡ filled s → b ≡ writable s
+    unfolding writable
+    then-filled k g = rw (e, ← f, not-false a k) g
+
+module _ (s : Sheet) {a : Bool} (e : a ≡ sheetOk s) where
+  pub not-sheet : not a ≡ true → false ≡ writable s
+  unfolding writable
+  not-sheet k = rw (← e, not-true a k)
+
+  pub sheet-valid : not a ≡ false → sheetOk s ≡ true
+  sheet-valid k = sym e ∙ not-false a k
+
+module _ (r : Run) where
+  pub other-phase : (r .phase ≡ 0 → ⊥) → false ≡ isTaking r
+  unfolding isTaking
+  other-phase h = rw (ne-eqb (r .phase) 0 h)
+
+  pub taking-if : r .phase ≡ 0 → {b : Bool} → b ≡ holdable (r .held) → b ≡ isTaking r
+  unfolding isTaking
+  taking-if h e = rw (eq-eqb (r .phase) 0 h) e
+
+  pub not-resolved : (r .phase ≡ 1 → ⊥) → false ≡ isResolved r
+  unfolding isResolved
+  not-resolved h = rw (ne-eqb (r .phase) 1 h)
+
+  module _ (h : r .phase ≡ 1) {a : Bool} (e : a ≡ holdable (r .held)) where
+    pub not-holdable : not a ≡ true → false ≡ isResolved r
+    unfolding isResolved
+    not-holdable k = rw (eq-eqb (r .phase) 1 h, ← e, not-true a k)
+
+    pub resolved-if : not a ≡ false → {b : Bool} → b ≡ writable (r .sheet) → b ≡ isResolved r
+    unfolding isResolved
+    resolved-if k f = rw (eq-eqb (r .phase) 1 h, ← e, not-false a k) f
+
+-- ── steps out of turn ────────────────────────────────────────────────────────────────────────
+
+-- a call that answers 40 and changes nothing
+abbrev OutOf : Call → RunState → Type 0
+OutOf c s = runStep s c ≡ runOutcome s (refused OutOfTurn)
+
+module _ (r : Run) where
+  -- what a run stands for, by its phase and its tests
+  seen : (p : ℕ) → r .phase ≡ p → (h : Bool) → holdable (r .held) ≡ h → view r ≡ cond h (phased p r) spoiled
+  unfolding view
+  seen p e h k = rw (k) (ap (λ q. cond h (phased q r) spoiled) e)
+
+  out-of : (c : Call) (s : RunState) → view r ≡ s → OutOf c s → OutOf c (view r)
+  out-of c s e o = subst (λ t. OutOf c t) (sym e) o
+
+  -- not taking: sources are neither taken nor resolved
+  module _ (n : isTaking r ≡ false) (c : Call) (spoils : OutOf c spoiled) (late : (h : held.Held) (s : sheets.Sheet) → OutOf c (resolved h s)) where
+    pub not-taking : OutOf c (view r)
+    unfolding isTaking phased
+    not-taking = go (r .phase) refl (holdable (r .held)) refl
+      where
+        by-sheet : (b : Bool) → OutOf c (cond b (resolved (heldIn (r .held)) (sheetIn (r .sheet))) spoiled)
+        by-sheet true = late (heldIn (r .held)) (sheetIn (r .sheet))
+        by-sheet false = spoils
+        go : (p : ℕ) → r .phase ≡ p → (h : Bool) → holdable (r .held) ≡ h → OutOf c (view r)
+        go p e false k = out-of c spoiled (seen p e false k) spoils
+        go zero e true k = absurd (false≢true (sym n ∙ rw (e, k)))
+        go (suc zero) e true k = out-of c (phased 1 r) (seen 1 e true k) (by-sheet (writable (r .sheet)))
+        go (suc (suc p)) e true k = out-of c spoiled (seen (suc (suc p)) e true k) spoils

@@ -1,0 +1,28 @@
+-- `run::turns::is_resolved` meets its contract.
+use Rattle.run.proofs.InTurn.{not-resolved, not-holdable, resolved-if}
+use borrow.Author.Needs.{needs}
+use Rattle.run.proofs.turns.is_resolved.Statement.{statement}
+use Rattle.run.proofs.turns.is_resolved.Tie as tie
+use Rattle.run.proofs.turns.is_resolved.Reads as reads
+use Rattle.run.proofs.turns.is_resolved.Lts as lts
+use Rattle.run.proofs.turns.is_holdable.Reads as is-holdable-reads
+use Rattle.run.proofs.turns.is_writable.Reads as is-writable-reads
+
+returns : tie.Need-returns
+returns c = search not-resolved
+
+is-holdable-requires : tie.Need-is-holdable-requires
+is-holdable-requires c κs = search needs
+
+returns-2 : tie.Need-returns-2
+returns-2 c = search not-holdable
+
+is-writable-requires : tie.Need-is-writable-requires
+is-writable-requires c κs = search needs
+
+returns-3 : tie.Need-returns-3
+returns-3 c = search resolved-if
+
+pub is-resolved-spec : {M : Type 1} → statement M
+is-resolved-spec =
+    tie.close (tie.spec returns is-holdable-requires returns-2 is-writable-requires returns-3)

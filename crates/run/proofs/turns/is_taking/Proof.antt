@@ -1,0 +1,20 @@
+-- `run::turns::is_taking` meets its contract.
+use Rattle.run.proofs.InTurn.{other-phase, taking-if}
+use borrow.Author.Needs.{needs}
+use Rattle.run.proofs.turns.is_taking.Statement.{statement}
+use Rattle.run.proofs.turns.is_taking.Tie as tie
+use Rattle.run.proofs.turns.is_taking.Reads as reads
+use Rattle.run.proofs.turns.is_taking.Lts as lts
+use Rattle.run.proofs.turns.is_holdable.Reads as is-holdable-reads
+
+returns : tie.Need-returns
+returns c = search other-phase
+
+is-holdable-requires : tie.Need-is-holdable-requires
+is-holdable-requires c κs = search needs
+
+returns-2 : tie.Need-returns-2
+returns-2 c = search taking-if
+
+pub is-taking-spec : {M : Type 1} → statement M
+is-taking-spec = tie.close (tie.spec returns is-holdable-requires returns-2)

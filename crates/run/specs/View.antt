@@ -1,0 +1,35 @@
+-- What a run stands for. A run is a value, so its fields may be any: those that no call makes stand for `spoiled`, and every call to it is 40.
+use mathlib.Core.Bool.{Bool, cond, _&&_}
+use Prim.Native.Nat.{ℕ, zero, suc}
+use lib.Dec.{eqb}
+use Rattle.cleaning.specs.Runs.{RunState, taking, resolved, spoiled}
+use Rattle.held.specs.declared.Sheet.{Sheet}
+use Rattle.held.specs.declared.Held.{Held}
+use Rattle.held.specs.View.{sheetIn, heldIn}
+use Rattle.held.specs.Valid.{sheetOk, heldOk}
+use Rattle.tidying.specs.Ordered.{ordered, filled}
+use Rattle.run.specs.declared.Run.{Run}
+
+-- columns that a run holds of its sources
+unfoldable pub holdable : Held → Bool
+holdable h = heldOk h && ordered (h .sheet)
+
+-- columns of survivors, to be written group by group
+unfoldable pub writable : Sheet → Bool
+writable s = sheetOk s && (ordered s && filled s)
+
+-- by phase: 0 takes sources, 1 is resolved
+unfoldable pub phased : ℕ → Run → RunState
+phased zero r = taking (heldIn (r .held))
+phased (suc zero) r = cond (writable (r .sheet)) (resolved (heldIn (r .held)) (sheetIn (r .sheet))) spoiled
+phased (suc (suc n)) r = spoiled
+
+unfoldable pub view : Run → RunState
+view r = cond (holdable (r .held)) (phased (r .phase) r) spoiled
+
+-- a run that takes sources, and one that is resolved
+unfoldable pub isTaking : Run → Bool
+isTaking r = eqb (r .phase) 0 && holdable (r .held)
+
+unfoldable pub isResolved : Run → Bool
+isResolved r = eqb (r .phase) 1 && (holdable (r .held) && writable (r .sheet))
