@@ -1,0 +1,49 @@
+-- `resolving_lists::keep_all` meets its contract: the table of the kept lists is in form.
+use Rattle.held.proofs.ColumnTurns.{table-count, numbers-count}
+use Rattle.resolving.proofs.KeptColumns.{front-count}
+use Rattle.resolving.proofs.Asking.{form-here}
+use Rattle.resolving_lists.proofs.KeptLists.{table-room, numbers-held, kept-edges}
+use borrow.Author.Needs.{needs}
+use Rattle.resolving_lists.proofs.keep_all.Statement.{statement}
+use Rattle.resolving_lists.proofs.keep_all.Tie as tie
+
+mul-k : tie.Need-mul-k
+mul-k c = search needs
+
+add-k : tie.Need-add-k
+add-k c = search needs
+
+slice-aggregate-put-slots : tie.Need-slice-aggregate-put-slots
+slice-aggregate-put-slots c = search (needs, front-count)
+
+slice-aggregate-put-slots-2 : tie.Need-slice-aggregate-put-slots-2
+slice-aggregate-put-slots-2 c = search (needs, table-count)
+
+slice-aggregate-put-slots-3 : tie.Need-slice-aggregate-put-slots-3
+slice-aggregate-put-slots-3 c = search (needs, numbers-count)
+
+slice-aggregate-put-slots-4 : tie.Need-slice-aggregate-put-slots-4
+slice-aggregate-put-slots-4 c = search needs
+
+slice-aggregate-put-slots-5 : tie.Need-slice-aggregate-put-slots-5
+slice-aggregate-put-slots-5 c = search needs
+
+put-slots-requires : tie.Need-put-slots-requires
+put-slots-requires c κs = (search form-here, (search table-room, search numbers-held))
+
+returns : tie.Need-returns
+returns c = search kept-edges
+
+pub keep-all-spec : {M : Type 1} → statement M
+keep-all-spec =
+    tie.close
+    (tie.spec
+    mul-k
+    add-k
+    slice-aggregate-put-slots
+    slice-aggregate-put-slots-2
+    slice-aggregate-put-slots-3
+    slice-aggregate-put-slots-4
+    slice-aggregate-put-slots-5
+    put-slots-requires
+    returns)

@@ -1,0 +1,61 @@
+-- `resolving_lists::put_all` meets its contract: the parts are in form.
+use Rattle.held.proofs.ColumnTurns.{table-count, numbers-count}
+use Rattle.resolving.proofs.KeptColumns.{front-count}
+use Rattle.resolving.proofs.Asking.{form-here}
+use Rattle.resolving_lists.proofs.KeptLists.{flags-few, numbers-fit, table-room, numbers-room, lists-counted}
+use borrow.Author.Needs.{needs}
+use Rattle.resolving_lists.proofs.put_all.Statement.{statement}
+use Rattle.resolving_lists.proofs.put_all.Tie as tie
+
+mul-k : tie.Need-mul-k
+mul-k c = search needs
+
+add-k : tie.Need-add-k
+add-k c = search needs
+
+slice-aggregate-new-numbers : tie.Need-slice-aggregate-new-numbers
+slice-aggregate-new-numbers c = search (needs, front-count)
+
+new-numbers-requires : tie.Need-new-numbers-requires
+new-numbers-requires c κs = (search flags-few, search numbers-fit)
+
+slice-aggregate-put-lists : tie.Need-slice-aggregate-put-lists
+slice-aggregate-put-lists c = search (needs, front-count)
+
+slice-aggregate-put-lists-2 : tie.Need-slice-aggregate-put-lists-2
+slice-aggregate-put-lists-2 c = search needs
+
+slice-aggregate-put-lists-3 : tie.Need-slice-aggregate-put-lists-3
+slice-aggregate-put-lists-3 c = search (needs, table-count)
+
+slice-aggregate-put-lists-4 : tie.Need-slice-aggregate-put-lists-4
+slice-aggregate-put-lists-4 c = search (needs, numbers-count)
+
+put-lists-requires : tie.Need-put-lists-requires
+put-lists-requires c κs = (search form-here, ((search table-room, search numbers-room), search needs))
+
+same-length : tie.Need-same-length
+same-length c = search needs
+
+same-length-2 : tie.Need-same-length-2
+same-length-2 c = search needs
+
+returns : tie.Need-returns
+returns c = search lists-counted
+
+pub put-all-spec : {M : Type 1} → statement M
+put-all-spec =
+    tie.close
+    (tie.spec
+    mul-k
+    add-k
+    slice-aggregate-new-numbers
+    new-numbers-requires
+    slice-aggregate-put-lists
+    slice-aggregate-put-lists-2
+    slice-aggregate-put-lists-3
+    slice-aggregate-put-lists-4
+    put-lists-requires
+    same-length
+    same-length-2
+    returns)

@@ -1,0 +1,25 @@
+-- Document 01, "Cleaning": the lists of the survivors, and refusal 43 where the new lists of all rows hold more numbers than a run has room for.
+use mathlib.Core.Path.{_≡_}
+use mathlib.Core.Bool.{true, false}
+use mathlib.Core.List.{List}
+use Prim.Native.Nat.{ℕ}
+use lib.Dec.{ltb}
+use lib.ListN.{length}
+use Rattle.lists.specs.Lists.{joined}
+use Rattle.columns.specs.Limits.{maxNumbers}
+use Rattle.cleaning.specs.Survivors.{keepSlots}
+use Rattle.held.specs.declared.Edges.{Edges}
+use Rattle.held.specs.View.{slotsIn}
+use Rattle.held.specs.Valid.{edgesOk}
+use Rattle.compacting.specs.Columns.{gone, survive}
+use Rattle.resolving_lists.specs.declared.Renewed.{Renewed}
+
+-- the lists of the rows that survive, by the flags of all rows and their lists
+pub record EdgesKept (flags : List ℕ) (lists : List (List ℕ)) (q : Edges) : Type 0 where
+  pub slots : slotsIn (survive flags) q ≡ keepSlots (gone flags) lists
+  pub form : edgesOk (survive flags) q ≡ true
+
+-- the same, unless the lists of all rows are over the limit
+pub record Renewal (flags : List ℕ) (lists : List (List ℕ)) (r : Renewed) : Type 0 where
+  pub over : r .over ≡ ltb maxNumbers (length (joined lists))
+  pub kept : r .over ≡ false → EdgesKept flags lists (r .edges)
