@@ -1,26 +1,26 @@
--- Reading what building wrote gives the lists that building was given: for every accepted granule, whatever its slices.
+-- Reading what building wrote gives the lists that building was given: for every accepted granule, whatever slices it is lent that are long enough.
 use mathlib.Core.Path.{_≡_, refl, sym, _∙_, subst}
-use mathlib.Core.Bool.{true}
+use mathlib.Core.Bool.{true, false}
 use mathlib.Core.Logic.{inl, inr}
 use mathlib.Core.List.{List, [], _∷_}
 use mathlib.Core.Option.{Option, none, some}
 use Prim.Native.Nat.{ℕ, suc, _+_, _-_, _*_, _≤_, _<_}
 use native.Mathlib.Omega.{arith}
 use lib.Dec.{ltb, leb}
-use lib.ListN.{length, getD, getElem?, drop, length-take, length-drop}
+use lib.ListN.{length, getD, getElem?, drop}
 use lib.Seq.{getD-take, getD-drop}
 use borrow.Author.Tests.{ltb-true, ltb-false, leb-true, le-ltb}
-use Rattle.lists.specs.Lists.{all, distinct, upFrom, part, Each}
+use Rattle.lists.specs.Lists.{all, any, distinct, upFrom, part, Each}
 use Rattle.lists.specs.Order.{sort}
 use Rattle.lists.proofs.Tests.{tested}
 use Rattle.lists.proofs.Each.{each-both, each-getD}
 use Rattle.lists.proofs.Flat.{length-upFrom, getD-upFrom}
 use Rattle.columns.specs.Limits.{kinds, end64}
-use Rattle.columns.specs.Refusal.{accepted, unless, firstOf, firstIn, Lent, limits}
+use Rattle.columns.specs.Refusal.{accepted, unless, firstOf, firstIn, Lent, short, limits}
 use Rattle.columns.specs.EdgeSet.{forward, reverse, inbound, offsetsForm, setOf}
-use Rattle.columns.specs.Reading.{setRules, columnLengths, granuleRules, granuleOf, readGranule}
+use Rattle.columns.specs.Reading.{Labels, labelsIn, coverRules, setRules, granuleRules, granuleOf, readGranule}
 use Rattle.columns.specs.Questions.{listOf}
-use Rattle.columns.specs.Building.{Graph, Built, endOf, slotsIn, has, greater, recordCount, numbersOk, slotRules, inboundRules, allInboundRules, childrenTo, slotTable, naming, reverseLists, inboundLists, granuleStart, forwardPart, reversePart, inboundPart, buildRules, builtOf, graphRecords, graphLengths, build}
+use Rattle.columns.specs.Building.{Graph, Built, endOf, slotsIn, has, greater, recordCount, numbersOk, slotRules, labelsRules, inboundRules, allInboundRules, childrenTo, slotTable, naming, reverseLists, inboundLists, granuleStart, forwardPart, reversePart, inboundPart, buildRules, builtOf, graphRecords, graphLengths, build}
 use Rattle.columns.specs.declared.refusal.Refusal.{Refusal}
 use Rattle.columns.specs.declared.refusal.Refusal.the-variants.{EdgeEntries, NumberRange, InboundChild, InboundTwice, GranuleRows}
 use Rattle.columns.proofs.FirstBroken.{each-none, each-none-in, not-refused, passed}
@@ -29,7 +29,8 @@ use Rattle.columns.proofs.ReadBack.{AllowedFrom, slots-set, set-rules}
 use Rattle.columns.proofs.Turned.{length-table, turned, turned-rising, inbound-edges, inbound-rising}
 use Rattle.records.proofs.RecordParts.{there}
 use Rattle.spans.proofs.GranuleTables.{part-table}
-use Rattle.built.specs.ReadsBack.{lentSets, ReadsBack}
+use Rattle.built.specs.ReadsBack.{lentColumns, ReadsBack}
+use Rattle.built.proofs.BuiltLimits.{part-full, read-limits, own-labels, labels-back}
 use Rattle.built.proofs.BuiltSides.{table-side, part-side, forward-side, reverse-side, inbound-side}
 
 unless-accepted : {A : Type 0} (o : Option Refusal) (x b : A) → unless o x ≡ accepted b → (o ≡ none) × (b ≡ x)
@@ -55,10 +56,6 @@ granule-list first from n lists k p h l u =
       place,
     )
 
-part-full : (from n rows : ℕ) (lists : List (List ℕ)) → length lists ≡ kinds * rows → from + n ≤ rows → length (part (2 * from) (2 * n) lists) ≡ kinds * n
-unfolding part
-part-full from n rows lists e h = simp (length-take, length-drop) (omega arith)
-
 -- records are no fewer than their first column has entries
 first-column : (a b : ℕ) → a ≤ greater a b
 unfolding greater
@@ -83,7 +80,7 @@ children-past first end cs ps ks e =
         rw z at (each-getD (λ j. inboundRules first end (getElem? cs j) (getElem? ps j) (getElem? ks j) ≡ none) (upFrom 0 (recordCount cs ps ks)) i 0
         (each-none-in (λ j. inboundRules first end (getElem? cs j) (getElem? ps j) (getElem? ks j)) (upFrom 0 (recordCount cs ps ks)) e) (omega (arith, length-upFrom 0 (recordCount cs ps ks))))
 
-module _ (g : Graph) (kept : buildRules g ≡ none) (wide : Each (λ c. c < end64) (g .inbound .children)) where
+module _ (g : Graph) (room : List Lent) (small : limits (graphRecords g) (graphLengths g) room ≡ none) (kept : buildRules g ≡ none) (wide : Each (λ c. c < end64) (g .inbound .children)) where
   form : offsetsForm (g .rows) (length (g .targets)) (g .offsets) ≡ true
   unfolding buildRules
   form = passed EdgeEntries _ (each-none _ kept .1 .0)
@@ -95,6 +92,10 @@ module _ (g : Graph) (kept : buildRules g ≡ none) (wide : Each (λ c. c < end6
   slots : slotRules (g .first) 0 (slotsIn g) ≡ none
   unfolding buildRules
   slots = each-none _ kept .1 .1 .1 .0
+
+  labelled : labelsRules (g .rows) (g .labels) ≡ none
+  unfolding buildRules
+  labelled = each-none _ kept .1 .1 .1 .1 .1 .1 .0
 
   edges : allInboundRules g ≡ none
   unfolding buildRules
@@ -154,12 +155,21 @@ module _ (g : Graph) (kept : buildRules g ≡ none) (wide : Each (λ c. c < end6
 
   -- ── a reader ─────────────────────────────────────────────────────────────────────────────────
 
-  read-back : (lent : List Lent) → limits (g .granuleRows ∷ []) (columnLengths (lentSets (builtOf g))) lent ≡ none
-      → readGranule (granuleStart g) (g .granuleRows) (endOf g) (lentSets (builtOf g)) lent
-      ≡ accepted (record { forward = forwardPart g; reverse = reversePart g; inbound = inboundPart g; labels = [] })
+  read-back : (labels : Option Labels) (lent : List Lent) → coverRules (g .granuleRows) labels ≡ none → any short lent ≡ false
+      → readGranule (granuleStart g) (g .granuleRows) (endOf g) (lentColumns (builtOf g) labels) lent
+      ≡ accepted (record { forward = forwardPart g; reverse = reversePart g; inbound = inboundPart g; labels = labelsIn labels })
   unfolding readGranule granuleRules granuleOf firstOf unless builtOf
-  read-back lent l =
-      rw (l, forward-kept, reverse-kept, inbound-kept, slots-set (granuleStart g) (forwardPart g), slots-set (granuleStart g) (reversePart g), slots-set (granuleStart g) (inboundPart g))
+  read-back labels lent c s =
+      rw (
+        read-limits g room small form full inside labels lent c s,
+        forward-kept,
+        reverse-kept,
+        inbound-kept,
+        c,
+        slots-set (granuleStart g) (forwardPart g),
+        slots-set (granuleStart g) (reversePart g),
+        slots-set (granuleStart g) (inboundPart g),
+      )
 
   module _ (k n : ℕ) (h : k < kinds) (l : granuleStart g ≤ n) (u : n < granuleStart g + g .granuleRows) where
     reverse-list : listOf (granuleStart g) (reversePart g) k n ≡ listOf (g .first) (reverseLists (g .first) (g .rows) (slotsIn g)) k n
@@ -180,6 +190,8 @@ module _ (g : Graph) (kept : buildRules g ≡ none) (wide : Each (λ c. c < end6
     reverse-lists = slots-set (granuleStart g) (reversePart g);
     inbound-lists = slots-set (granuleStart g) (inboundPart g);
     granule = read-back;
+    labels-kept = own-labels (g .granuleFirst) (g .granuleRows) (g .rows) (g .labels) labelled inside;
+    labels-read = labels-back (g .granuleFirst) (g .granuleRows) (g .labels);
     turned = λ k n h i e b. rw (reverse-list k n h (i .0) (i .1)) (turned (g .first) (g .rows) (slotsIn g) k n h (omega (arith, i .0)) (omega (arith, i .1, inside)) e b);
     turned-rising = λ k n h i. rw (reverse-list k n h (i .0) (i .1)) (turned-rising (g .first) (g .rows) (slotsIn g) k n);
     given = λ k n h i c. rw (inbound-list k n h (i .0) (i .1)) (inbound-edges (g .first) (g .rows) (g .inbound) k n h (omega (arith, i .0)) (omega (arith, i .1, inside)) c);
@@ -191,4 +203,4 @@ pub built-reads-back : (g : Graph) (lent : List Lent) (b : Built) → build g le
 unfolding build
 built-reads-back g lent b e wide =
     let made = unless-accepted (firstOf (limits (graphRecords g) (graphLengths g) lent ∷ buildRules g ∷ [])) (builtOf g) b e in
-    subst (ReadsBack g) (sym (made .1)) (back g (each-none _ (made .0) .1 .0) wide)
+    subst (ReadsBack g) (sym (made .1)) (back g lent (each-none _ (made .0) .0) (each-none _ (made .0) .1 .0) wide)

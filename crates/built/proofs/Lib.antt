@@ -1,2 +1,4 @@
+pub mod BuiltLengths
+pub mod BuiltLimits
 pub mod BuiltSides
 pub mod BuiltBack

@@ -1,23 +1,33 @@
 -- What it means that a reader of a built granule gets the lists that the granule was built from.
 use mathlib.Core.Path.{_≡_}
-use mathlib.Core.Bool.{true}
+use mathlib.Core.Bool.{true, false}
 use mathlib.Core.Logic.{_↔_}
-use mathlib.Core.List.{List, [], _∷_}
-use mathlib.Core.Option.{none}
+use mathlib.Core.List.{List}
+use mathlib.Core.Option.{Option, none, some}
 use Prim.Native.Nat.{ℕ, _+_, _≤_, _<_}
-use Rattle.lists.specs.Lists.{mem}
+use Rattle.lists.specs.Lists.{any, mem, part, Each}
 use Rattle.lists.specs.Order.{rising}
-use Rattle.columns.specs.Limits.{kinds}
-use Rattle.columns.specs.Refusal.{accepted, Lent, limits}
+use Rattle.columns.specs.Limits.{kinds, end32}
+use Rattle.columns.specs.Refusal.{accepted, Lent, short}
 use Rattle.columns.specs.EdgeSet.{forward, reverse, inbound}
-use Rattle.columns.specs.Reading.{GranuleColumns, setRules, slotsOf, columnLengths, readGranule}
+use Rattle.columns.specs.Reading.{GranuleColumns, Labels, labelsIn, coverRules, setRules, slotsOf, readGranule}
 use Rattle.columns.specs.Questions.{listOf}
 use Rattle.columns.specs.Building.{Graph, Built, endOf, slotsIn, granuleStart, forwardPart, reversePart, inboundPart}
 use Rattle.columns.proofs.Turned.{GivenEdge}
 
--- the built sets as a reader is lent them, without labels
-abbrev pub lentSets : Built → GranuleColumns
-lentSets b = record { forward = b .forward; reverse = b .reverse; inbound = b .inbound; labels = none }
+-- the built sets as a reader is lent them, with label columns or without
+abbrev pub lentColumns : Built → Option Labels → GranuleColumns
+lentColumns b labels = record { forward = b .forward; reverse = b .reverse; inbound = b .inbound; labels = labels }
+
+-- the label columns of the n rows from a row on
+abbrev pub labelsPart : ℕ → ℕ → Option Labels → Option Labels
+labelsPart from n none = none
+labelsPart from n (some c) = some (record { chains = part from n (c .chains); seqs = part from n (c .seqs) })
+
+-- labels of 32 bits, as lent columns hold them
+abbrev pub Labels32 : Option Labels → Type 0
+Labels32 none = Unit {0}
+Labels32 (some c) = Each (λ x. x < end32) (c .chains) × Each (λ x. x < end32) (c .seqs)
 
 -- a number of the granule
 abbrev pub InGranule : Graph → ℕ → Type 0
@@ -32,10 +42,13 @@ pub record ReadsBack (g : Graph) (b : Built) : Type 0 where
   pub forward-lists : slotsOf (granuleStart g) (b .forward) ≡ forwardPart g
   pub reverse-lists : slotsOf (granuleStart g) (b .reverse) ≡ reversePart g
   pub inbound-lists : slotsOf (granuleStart g) (b .inbound) ≡ inboundPart g
-  -- so within its limits a reader accepts them and answers those lists
-  pub granule : (lent : List Lent) → limits (g .granuleRows ∷ []) (columnLengths (lentSets b)) lent ≡ none
-      → readGranule (granuleStart g) (g .granuleRows) (endOf g) (lentSets b) lent
-      ≡ accepted (record { forward = forwardPart g; reverse = reversePart g; inbound = inboundPart g; labels = [] })
+  -- so a reader that is lent enough room accepts them, with label columns that 20 and 21 accept or without, and answers those lists
+  pub granule : (labels : Option Labels) (lent : List Lent) → coverRules (g .granuleRows) labels ≡ none → any short lent ≡ false
+      → readGranule (granuleStart g) (g .granuleRows) (endOf g) (lentColumns b labels) lent
+      ≡ accepted (record { forward = forwardPart g; reverse = reversePart g; inbound = inboundPart g; labels = labelsIn labels })
+  -- such are the columns of the granule's own labels, which give the labels that building was given for its rows
+  pub labels-kept : Labels32 (g .labels) → coverRules (g .granuleRows) (labelsPart (g .granuleFirst) (g .granuleRows) (g .labels)) ≡ none
+  pub labels-read : labelsIn (labelsPart (g .granuleFirst) (g .granuleRows) (g .labels)) ≡ part (g .granuleFirst) (g .granuleRows) (labelsIn (g .labels))
   -- a reverse list holds exactly the events of the file whose list of that kind names the number, rising
   pub turned : (k n : ℕ) → k < kinds → InGranule g n → (e : ℕ) → e < endOf g → mem e (listOf (granuleStart g) (reversePart g) k n) ≡ mem n (listOf (g .first) (slotsIn g) k e)
   pub turned-rising : (k n : ℕ) → k < kinds → InGranule g n → rising (listOf (granuleStart g) (reversePart g) k n) ≡ true
