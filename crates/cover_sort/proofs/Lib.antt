@@ -1,3 +1,4 @@
 pub mod Keeping
+pub mod Leveling
 pub mod Ordering
 pub mod Placing
