@@ -1,4 +1,4 @@
 pub mod FileNumbers
 pub mod RecordParts
-pub mod ChainTurns
+pub mod LabelOrder
 pub mod RecordOrder

@@ -2,12 +2,12 @@
 use mathlib.Core.Bool.{Bool, true, false, not}
 use mathlib.Core.List.{List, [], _∷_}
 use mathlib.Core.Option.{Option, none, some}
-use Prim.Native.Nat.{ℕ, zero, suc, _+_}
-use lib.ListN.{getD, getElem?}
+use Prim.Native.Nat.{ℕ, _+_}
+use lib.ListN.{getElem?}
 use Rattle.lists.specs.Lists.{upFrom}
 use Rattle.columns.specs.Refusal.{refuse, firstOf, firstIn}
 use Rattle.columns.specs.Building.{Depth, InboundColumns, recordCount, depthOk, labelsRules, unresolvedRules, inboundRules}
-use Rattle.columns.specs.Reading.{Label, Labels}
+use Rattle.columns.specs.Reading.{Labels}
 use Rattle.columns.specs.declared.refusal.Refusal.{Refusal}
 use Rattle.columns.specs.declared.refusal.Refusal.the-variants.{DepthOrder}
 use Rattle.records.specs.declared.groups.Depth as given
@@ -25,11 +25,6 @@ inboundFrom first end cs ps ks i n = firstIn (λ j. inboundRules first end (getE
 abbrev pub labelsGiven : Bool → List ℕ → List ℕ → Option Labels
 labelsGiven false chains seqs = none
 labelsGiven true chains seqs = some (record { chains = chains; seqs = seqs })
-
--- the labels of the first n rows, the latest first
-unfoldable pub earlierLabels : List ℕ → List ℕ → ℕ → List Label
-earlierLabels chains seqs zero = []
-earlierLabels chains seqs (suc i) = record { chain = getD chains i 0; seq = getD seqs i 0 } ∷ earlierLabels chains seqs i
 
 -- depth as given: none where it is not known
 unfoldable pub depthOf : given.Depth → Option Depth

@@ -1,11 +1,11 @@
 -- `records::chains::labels_rules` meets its contract.
-use Rattle.records.proofs.ChainTurns.{labels-none, chains-count, seqs-count, seqs-fall, labels-kept}
+use Rattle.records.proofs.LabelOrder.{labels-none, chains-count, seqs-count, seqs-fall, labels-kept}
 use borrow.Author.Needs.{needs}
 use Rattle.records.proofs.chains.labels_rules.Statement.{statement}
 use Rattle.records.proofs.chains.labels_rules.Tie as tie
 use Rattle.records.proofs.chains.labels_rules.Reads as reads
 use Rattle.records.proofs.chains.labels_rules.Lts as lts
-use Rattle.records.proofs.chains.seqs_rise.Reads as seqs-rise-reads
+use Rattle.chain_table.proofs.seqs_rise.Reads as seqs-rise-reads
 
 returns : tie.Need-returns
 returns c = search labels-none

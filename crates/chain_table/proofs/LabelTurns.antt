@@ -1,7 +1,7 @@
--- Labels in row order: one turn back over the labels before a row, one over the rows, and what the tests say of the labels' rules.
+-- Labels in row order: one turn back over the labels before a row, and one over the rows.
 use mathlib.Core.Path.{_≡_}
 use mathlib.Core.Bool.{Bool, true, false, not, _&&_}
-use mathlib.Core.List.{List, [], _∷_}
+use mathlib.Core.List.{List, _∷_}
 use mathlib.Core.Option.{Option}
 use Prim.Native.Nat.{ℕ, zero, suc, _+_, _-_, _≤_, _<_}
 use native.Mathlib.Numerals.{add-one}
@@ -10,13 +10,9 @@ use lib.Dec.{ltb}
 use lib.ListN.{length, getD, drop, drop-of-length-le}
 use lib.Seq.{drop-cons}
 use borrow.Author.Tests.{eq-eqb, ne-eqb, not-true, not-false}
-use Rattle.columns.specs.Refusal.{firstOf}
 use Rattle.columns.specs.Reading.{labelsOf}
-use Rattle.columns.specs.Building.{follows, lastSeq, seqsRise, labelsRules}
-use Rattle.rules.specs.Ruled.{ruling}
-use Rattle.records.specs.Recorded.{labelsGiven, earlierLabels}
-use Rattle.columns.specs.declared.refusal.Refusal.the-variants.{LabelCount, SeqNotRising}
-use Rattle.rules.specs.declared.slots.Ruling.the-variants.{Kept, Broken}
+use Rattle.columns.specs.Building.{follows, lastSeq, seqsRise}
+use Rattle.chain_table.specs.Buckets.{earlierLabels}
 
 -- ── back over the labels before a row ────────────────────────────────────────────────────────
 
@@ -58,29 +54,3 @@ module _ {t : Bool} (chains seqs : List ℕ) (i : ℕ) (e : t ≡ seqsRise (earl
 
     pub seqs-on : not r ≡ false → t ≡ seqsRise (earlierLabels chains seqs (i + 1)) (labelsOf (drop (i + 1) chains) (drop (i + 1) seqs))
     seqs-on q = rw (here, not-false r q, add-one)
-
--- ── the rules ────────────────────────────────────────────────────────────────────────────────
-
-module _ (rows : ℕ) (labelled : Bool) (chains seqs : List ℕ) where
-  pub labels-none : not labelled ≡ true → Kept ≡ ruling (labelsRules rows (labelsGiven labelled chains seqs))
-  unfolding ruling
-  labels-none h = rw (not-true labelled h)
-
-  module _ (h : not labelled ≡ false) where
-    pub chains-count : (length chains ≡ rows → ⊥) → Broken LabelCount ≡ ruling (labelsRules rows (labelsGiven labelled chains seqs))
-    unfolding ruling firstOf
-    chains-count k = rw (not-false labelled h, ne-eqb (length chains) rows k)
-
-    module _ (k : length chains ≡ rows) where
-      pub seqs-count : (length seqs ≡ rows → ⊥) → Broken LabelCount ≡ ruling (labelsRules rows (labelsGiven labelled chains seqs))
-      unfolding ruling firstOf
-      seqs-count l = rw (not-false labelled h, eq-eqb (length chains) rows k, ne-eqb (length seqs) rows l)
-
-      module _ (l : length seqs ≡ rows) {r : Bool} (e : r ≡ seqsRise [] (labelsOf chains seqs)) where
-        pub seqs-fall : not r ≡ true → Broken SeqNotRising ≡ ruling (labelsRules rows (labelsGiven labelled chains seqs))
-        unfolding ruling firstOf
-        seqs-fall q = rw (not-false labelled h, eq-eqb (length chains) rows k, eq-eqb (length seqs) rows l, ← e, not-true r q)
-
-        pub labels-kept : not r ≡ false → Kept ≡ ruling (labelsRules rows (labelsGiven labelled chains seqs))
-        unfolding ruling firstOf
-        labels-kept q = rw (not-false labelled h, eq-eqb (length chains) rows k, eq-eqb (length seqs) rows l, ← e, not-false r q)

@@ -1,15 +1,13 @@
--- `records::chains::follows_at` meets its contract.
+-- `chain_table::back::follows_back` meets its contract.
 use mathlib.Core.Path.{_≡_}
 use Prim.Native.Nat.{_≤_, _<_}
 use lib.ListN.{length, getD}
 use Rattle.columns.specs.Building.{lastSeq}
-use Rattle.records.specs.Recorded.{earlierLabels}
-use Rattle.records.proofs.ChainTurns.{chain-new, chain-last, chain-on}
+use Rattle.chain_table.specs.Buckets.{earlierLabels}
+use Rattle.chain_table.proofs.LabelTurns.{chain-new, chain-last, chain-on}
 use borrow.Author.Needs.{needs}
-use Rattle.records.proofs.chains.follows_at.Statement.{statement}
-use Rattle.records.proofs.chains.follows_at.Tie as tie
-use Rattle.records.proofs.chains.follows_at.Reads as reads
-use Rattle.records.proofs.chains.follows_at.Lts as lts
+use Rattle.chain_table.proofs.back.follows_back.Statement.{statement}
+use Rattle.chain_table.proofs.back.follows_back.Tie as tie
 
 abbrev Inv-loop : tie.InvT-loop
 Inv-loop chains seqs i chain seq j₀ j =
@@ -61,8 +59,8 @@ loop-again c = search (needs, chain-on)
 returns-2 : tie.Need-returns-2 Inv-loop μ-loop
 returns-2 c = search (needs, chain-new)
 
-pub follows-at-spec : {M : Type 1} → statement M
-follows-at-spec =
+pub follows-back-spec : {M : Type 1} → statement M
+follows-back-spec =
     tie.close
     (tie.spec
     Inv-loop

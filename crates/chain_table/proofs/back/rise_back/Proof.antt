@@ -1,18 +1,15 @@
--- `records::chains::seqs_rise` meets its contract.
+-- `chain_table::back::rise_back` meets its contract.
 use mathlib.Core.Path.{_≡_}
 use mathlib.Core.List.{[]}
 use Prim.Native.Nat.{_≤_, _-_}
 use lib.ListN.{length, drop}
 use Rattle.columns.specs.Reading.{labelsOf}
 use Rattle.columns.specs.Building.{seqsRise}
-use Rattle.records.specs.Recorded.{earlierLabels}
-use Rattle.records.proofs.ChainTurns.{seqs-done, seq-falls, seqs-on}
+use Rattle.chain_table.specs.Buckets.{earlierLabels}
+use Rattle.chain_table.proofs.LabelTurns.{seqs-done, seq-falls, seqs-on}
 use borrow.Author.Needs.{needs}
-use Rattle.records.proofs.chains.seqs_rise.Statement.{statement}
-use Rattle.records.proofs.chains.seqs_rise.Tie as tie
-use Rattle.records.proofs.chains.seqs_rise.Reads as reads
-use Rattle.records.proofs.chains.seqs_rise.Lts as lts
-use Rattle.records.proofs.chains.follows_at.Reads as follows-at-reads
+use Rattle.chain_table.proofs.back.rise_back.Statement.{statement}
+use Rattle.chain_table.proofs.back.rise_back.Tie as tie
 
 abbrev Inv-loop : tie.InvT-loop
 Inv-loop chains seqs i₀ i =
@@ -25,8 +22,8 @@ loop-holds : tie.Need-loop-holds Inv-loop μ-loop
 unfolding seqsRise labelsOf earlierLabels
 loop-holds c = search needs
 
-follows-at-requires : tie.Need-follows-at-requires Inv-loop μ-loop
-follows-at-requires c κs = search needs
+follows-back-requires : tie.Need-follows-back-requires Inv-loop μ-loop
+follows-back-requires c κs = search needs
 
 returns : tie.Need-returns Inv-loop μ-loop
 returns c = search (needs, seq-falls)
@@ -43,14 +40,14 @@ loop-again c = search (needs, seqs-on)
 returns-2 : tie.Need-returns-2 Inv-loop μ-loop
 returns-2 c = search (needs, seqs-done)
 
-pub seqs-rise-spec : {M : Type 1} → statement M
-seqs-rise-spec =
+pub rise-back-spec : {M : Type 1} → statement M
+rise-back-spec =
     tie.close
     (tie.spec
     Inv-loop
     μ-loop
     loop-holds
-    follows-at-requires
+    follows-back-requires
     returns
     add-i
     loop-less

@@ -1,0 +1,2 @@
+pub mod LabelTurns
+pub mod BucketRows
