@@ -3,12 +3,14 @@ use chain_table::seqs_rise;
 use columns::refusal::Refusal;
 use rules::slots::Ruling;
 ghost use mathlib.Core.Path.{_≡_};
+ghost use Prim.Native.Nat.{_≤_};
 ghost use Rattle.columns.specs.Building.{labelsRules};
 ghost use Rattle.rules.specs.Ruled.{ruling};
 ghost use Rattle.records.specs.Recorded.{labelsGiven};
 
 // The rules on labels, where there are labels.
 pub fn labels_rules(rows: usize, labelled: bool, chains: &[u32], seqs: &[u32]) -> Ruling
+    requires { ⌜ rows ≤ 1024 ⌝ }
     ensures { λ r. ⌜ r ≡ ruling (labelsRules rows (labelsGiven labelled (now (chains .entry)) (now (seqs .entry)))) ⌝ }
 {
     if !labelled {

@@ -4,6 +4,7 @@ use crate::parts::unresolved_rules;
 use columns::refusal::Refusal;
 use rules::slots::Ruling;
 ghost use mathlib.Core.Path.{_≡_};
+ghost use Prim.Native.Nat.{_≤_};
 ghost use Rattle.columns.specs.Building.{depthOk};
 ghost use Rattle.rules.specs.Ruled.{ruling};
 ghost use Rattle.records.specs.Recorded.{labelsGiven, depthOf, recordRules, depthRules};
@@ -25,6 +26,7 @@ fn depth_fits(depth: Depth) -> bool
 
 // 8 to 10: depth and labels.
 fn label_rules(rows: usize, depth: Depth, labelled: bool, chains: &[u32], seqs: &[u32]) -> Ruling
+    requires { ⌜ rows ≤ 1024 ⌝ }
     ensures { λ r. ⌜ r ≡ ruling (depthRules rows (depthOf depth) (labelsGiven labelled (now (chains .entry)) (now (seqs .entry)))) ⌝ }
 {
     if !depth_fits(depth) {
@@ -45,6 +47,7 @@ pub fn record_rules(
     chains: &[u32],
     seqs: &[u32],
 ) -> Ruling
+    requires { ⌜ rows ≤ 1024 ⌝ }
     ensures { λ r. ⌜ r ≡ ruling (recordRules first rows (now (children .entry)) (now (kinds .entry)) (now (flags .entry)) (depthOf depth)
         (labelsGiven labelled (now (chains .entry)) (now (seqs .entry)))) ⌝ }
 {

@@ -1,4 +1,4 @@
--- `chain_table::rows::rise_linked` meets its contract. The invariant: the buckets hold the rows so far, and the rest of the labels decides.
+-- `chain_table::seqs_rise` meets its contract. The invariant: the buckets hold the rows so far, and the rest of the labels decides.
 use mathlib.Core.Path.{_≡_}
 use mathlib.Core.List.{[]}
 use Prim.Native.Nat.{_-_}
@@ -9,8 +9,8 @@ use Rattle.chain_table.specs.Buckets.{earlierLabels, Linked}
 use Rattle.chain_table.proofs.LabelTurns.{seqs-done, seq-falls, seqs-on}
 use Rattle.chain_table.proofs.BucketRows.{no-rows}
 use borrow.Author.Needs.{needs}
-use Rattle.chain_table.proofs.rows.rise_linked.Statement.{statement}
-use Rattle.chain_table.proofs.rows.rise_linked.Tie as tie
+use Rattle.chain_table.proofs.seqs_rise.Statement.{statement}
+use Rattle.chain_table.proofs.seqs_rise.Tie as tie
 
 abbrev Inv-loop : tie.InvT-loop
 Inv-loop chains seqs links₀ heads₀ n₀ links heads n =
@@ -59,8 +59,8 @@ loop-again c =
 returns-2 : tie.Need-returns-2 Inv-loop μ-loop
 returns-2 c = search (needs, seqs-done)
 
-pub rise-linked-spec : {M : Type 1} → statement M
-rise-linked-spec =
+pub seqs-rise-spec : {M : Type 1} → statement M
+seqs-rise-spec =
     tie.close
     (tie.spec
     Inv-loop

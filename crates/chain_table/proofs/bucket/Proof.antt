@@ -1,8 +1,8 @@
--- `chain_table::rows::bucket` meets its contract.
+-- `chain_table::bucket` meets its contract.
 use native.Mathlib.Nat.{mod-lt}
 use borrow.Author.Needs.{needs}
-use Rattle.chain_table.proofs.rows.bucket.Statement.{statement}
-use Rattle.chain_table.proofs.rows.bucket.Tie as tie
+use Rattle.chain_table.proofs.bucket.Statement.{statement}
+use Rattle.chain_table.proofs.bucket.Tie as tie
 
 rem-result : tie.Need-rem-result
 rem-result c = search needs

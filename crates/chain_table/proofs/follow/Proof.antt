@@ -1,11 +1,11 @@
--- `chain_table::rows::follow` meets its contract. The invariant: the rest of the bucket decides.
+-- `chain_table::follow` meets its contract. The invariant: the rest of the bucket decides.
 use mathlib.Core.Path.{_≡_}
 use Prim.Native.Nat.{_≤_}
 use Rattle.chain_table.specs.Buckets.{newest}
 use Rattle.chain_table.proofs.BucketRows.{bucket-end, bucket-hit, bucket-on, falls, falls-in}
 use borrow.Author.Needs.{needs}
-use Rattle.chain_table.proofs.rows.follow.Statement.{statement}
-use Rattle.chain_table.proofs.rows.follow.Tie as tie
+use Rattle.chain_table.proofs.follow.Statement.{statement}
+use Rattle.chain_table.proofs.follow.Tie as tie
 
 abbrev Inv-loop : tie.InvT-loop
 Inv-loop chains links n top chain i₀ i =

@@ -1,8 +1,8 @@
--- `chain_table::rows::find` meets its contract.
+-- `chain_table::find` meets its contract.
 use Rattle.chain_table.proofs.BucketRows.{top-in, found, found-in}
 use borrow.Author.Needs.{needs}
-use Rattle.chain_table.proofs.rows.find.Statement.{statement}
-use Rattle.chain_table.proofs.rows.find.Tie as tie
+use Rattle.chain_table.proofs.find.Statement.{statement}
+use Rattle.chain_table.proofs.find.Tie as tie
 
 bucket-requires : tie.Need-bucket-requires
 bucket-requires c κs = search needs

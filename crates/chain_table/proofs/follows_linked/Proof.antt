@@ -1,8 +1,8 @@
--- `chain_table::rows::follows_linked` meets its contract.
+-- `chain_table::follows_linked` meets its contract.
 use Rattle.chain_table.proofs.BucketRows.{none-before, one-before}
 use borrow.Author.Needs.{needs}
-use Rattle.chain_table.proofs.rows.follows_linked.Statement.{statement}
-use Rattle.chain_table.proofs.rows.follows_linked.Tie as tie
+use Rattle.chain_table.proofs.follows_linked.Statement.{statement}
+use Rattle.chain_table.proofs.follows_linked.Tie as tie
 
 mul-find : tie.Need-mul-find
 mul-find c = search needs

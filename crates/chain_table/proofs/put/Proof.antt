@@ -1,8 +1,8 @@
--- `chain_table::rows::put` meets its contract.
+-- `chain_table::put` meets its contract.
 use Rattle.chain_table.proofs.BucketRows.{put-in}
 use borrow.Author.Needs.{needs}
-use Rattle.chain_table.proofs.rows.put.Statement.{statement}
-use Rattle.chain_table.proofs.rows.put.Tie as tie
+use Rattle.chain_table.proofs.put.Statement.{statement}
+use Rattle.chain_table.proofs.put.Tie as tie
 
 mul-bucket : tie.Need-mul-bucket
 mul-bucket c = search needs
