@@ -1,0 +1,2 @@
+pub mod LooksBack
+pub mod Fitted
