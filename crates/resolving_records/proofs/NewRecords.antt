@@ -1,0 +1,129 @@
+-- Records kept and then moved are the survivors' records: the new numbers of rows are their ranks.
+use mathlib.Core.Path.{_≡_, ap, sym, _∙_}
+use mathlib.Core.Bool.{Bool, true, false, cond, not, _&&_}
+use mathlib.Core.List.{List, [], _∷_, map}
+use Prim.Native.Nat.{ℕ, zero, suc, _+_, _-_, _≤_, _<_}
+use native.Mathlib.Nat.{not-suc-le-zero, le-of-suc-le-suc}
+use native.Mathlib.Omega.{arith}
+use lib.Dec.{eqb, leb, ltb}
+use lib.ListN.{length, getD, take, length-map}
+use lib.Seq.{getD-take, length-take-le}
+use borrow.Author.Tests.{leb-true, ltb-true}
+use Rattle.lists.specs.Lists.{all, filter, Each}
+use Rattle.lists.proofs.Tests.{both, all-each}
+use Rattle.lists.proofs.Each.{each-imp, each-getD}
+use Rattle.columns.specs.Building.{inFile}
+use Rattle.archive.specs.File
+use Rattle.renumber.specs.Numbers.{takes, numbersFrom}
+use Rattle.cleaning.specs.Survivors.{rankIn, keepUnresolved, keepRoots}
+use Rattle.cleaning.proofs.Ranks.{length-keep, each-keep}
+use Rattle.held.specs.declared.Unresolved.{Unresolved}
+use Rattle.held.specs.declared.Roots.{Roots}
+use Rattle.held.specs.View.{listed, unresolvedAt, rootAt}
+use Rattle.held.specs.Valid.{below}
+use Rattle.compacting.specs.Columns.{gone, survive, keptIn, flagsOf}
+use Rattle.resolving.specs.Kept.{UnresolvedKept, ChildrenMoved, RootsKept, RootsMoved}
+use Rattle.resolving.proofs.KeptRecords.{unresolved-survive, roots-survive}
+use Rattle.resolving.proofs.MovedRecords.{children-moved, roots-moved}
+
+-- ── numbers and ranks ────────────────────────────────────────────────────────────────────────
+
+rank-number : (n : ℕ) (fs : List ℕ) (i : ℕ) → i < length fs → getD (numbersFrom n fs) i 0 ≡ n + rankIn (gone fs) i
+unfolding numbersFrom rankIn gone filter takes
+rank-number n [] i h = absurd (not-suc-le-zero h)
+rank-number n (f ∷ fs) zero h = omega arith
+rank-number n (f ∷ fs) (suc i) h = rank-number (n + takes f) fs i (le-of-suc-le-suc h) ∙ go (eqb f 0) (filter not (take i (gone fs)))
+  where
+    go : (b : Bool) (xs : List Bool) → n + cond b 1 0 + length xs ≡ n + length (cond (not (not b)) (not b ∷ xs) xs)
+    go true xs = omega arith
+    go false xs = omega arith
+
+front-rank : (start : ℕ) (flags ns : List ℕ) → take (length flags) ns ≡ numbersFrom start flags → (i : ℕ) → i < length flags → getD ns i 0 ≡ start + rankIn (gone flags) i
+front-rank start flags ns e i h = sym (getD-take (length flags) ns i 0 h) ∙ ap (λ l. getD l i 0) e ∙ rank-number start flags i h
+
+-- ── columns that are kept ────────────────────────────────────────────────────────────────────
+
+long-of : (c : ℕ) (col : List ℕ) → length (take c col) ≡ c → c ≤ length col
+long-of zero col e = omega arith
+long-of (suc c) [] e = absurd (omega (arith, e))
+long-of (suc c) (x ∷ col) e = omega (arith, long-of c col (omega (arith, e)))
+
+filter-few : (es : List Bool) → length (filter not es) ≤ length es
+unfolding filter
+filter-few [] = omega arith
+filter-few (true ∷ es) = omega (arith, filter-few es)
+filter-few (false ∷ es) = omega (arith, filter-few es)
+
+module _ (base : ℕ) (flags xs col : List ℕ) (c : ℕ) (h : c ≡ survive (flagsOf base flags xs)) (e : take c col ≡ keptIn (flagsOf base flags xs) xs) where
+  flags-length : length (gone (flagsOf base flags xs)) ≡ length xs
+  unfolding gone flagsOf
+  flags-length = length-map (map (λ x. getD flags (x - base) 0) xs) (λ f. not (eqb f 0)) ∙ length-map xs (λ x. getD flags (x - base) 0)
+
+  kept-length : length (take c col) ≡ c
+  unfolding survive
+  kept-length = ap length e ∙ length-keep (gone (flagsOf base flags xs)) xs (sym flags-length) ∙ sym h
+
+  kept-few : c ≤ length xs
+  unfolding survive
+  kept-few = omega (arith, h, filter-few (gone (flagsOf base flags xs)), flags-length)
+
+  kept-each : (P : ℕ → Type 0) → Each P xs → (j : ℕ) → j < c → P (getD col j 0)
+  kept-each P p j l =
+      let q : Each P (take c col) = rw e (each-keep P (gone (flagsOf base flags xs)) xs p) in
+      rw (getD-take c col j 0 l) at (each-getD P (take c col) j 0 q (omega (arith, kept-length)))
+
+-- ── records ──────────────────────────────────────────────────────────────────────────────────
+
+module _ (start : ℕ) (flags ns : List ℕ) (n : take (length flags) ns ≡ numbersFrom start flags) where
+  pub children-new : (u k q : Unresolved) → u .count ≤ 1024 → length (u .children) ≡ 1024
+      → all (inFile start (start + length flags)) (take (u .count) (u .children)) ≡ true
+      → UnresolvedKept (flagsOf start flags (take (u .count) (u .children))) u k → ChildrenMoved ns start k q
+      → listed (unresolvedAt q) (q .count) ≡ keepUnresolved start (gone flags) (listed (unresolvedAt u) (u .count))
+  unfolding keepUnresolved inFile
+  children-new u k q h l o kept moved =
+      let xs = take (u .count) (u .children) in
+      let inside = each-imp (λ x. (leb start x && ltb x (start + length flags)) ≡ true) (λ x. x - start < length flags) xs
+      (λ x b. let t = both (leb start x) (ltb x (start + length flags)) b in omega (arith, leb-true start x (t .0), ltb-true x (start + length flags) (t .1)))
+      (all-each (inFile start (start + length flags)) xs o) in
+      let f : List File.Unresolved → List File.Unresolved = map (λ x. record { child = start + rankIn (gone flags) (x .child - start); kind = x .kind; handle = x .handle }) in
+      children-moved (gone flags) (length flags) start ns (front-rank start flags ns n) k q moved
+      (long-of (k .count) (k .children) (kept-length start flags xs (k .children) (k .count) (kept .count) (kept .children)))
+      (kept-each start flags xs (k .children) (k .count) (kept .count) (kept .children) (λ x. x - start < length flags) inside)
+      ∙ ap f (unresolved-survive start flags u k (omega arith) kept)
+
+  pub roots-new : (r k q : Roots) → r .count ≤ 1024 → length (r .rows) ≡ 1024 → all (below (length flags)) (take (r .count) (r .rows)) ≡ true
+      → RootsKept (flagsOf 0 flags (take (r .count) (r .rows))) r k → RootsMoved ns start k q
+      → listed (rootAt q) (q .count) ≡ keepRoots (gone flags) (listed (rootAt r) (r .count))
+  unfolding keepRoots below
+  roots-new r k q h l o kept moved =
+      let xs = take (r .count) (r .rows) in
+      let inside = each-imp (λ x. ltb x (length flags) ≡ true) (λ x. x < length flags) xs (λ x b. ltb-true x (length flags) b) (all-each (below (length flags)) xs o) in
+      let f : List File.Root → List File.Root = map (λ x. record { row = rankIn (gone flags) (x .row); handle = x .handle }) in
+      roots-moved (gone flags) (length flags) start ns (front-rank start flags ns n) k q moved
+      (long-of (k .count) (k .rows) (kept-length 0 flags xs (k .rows) (k .count) (kept .count) (kept .rows)))
+      (kept-each 0 flags xs (k .rows) (k .count) (kept .count) (kept .rows) (λ x. x < length flags) inside)
+      ∙ ap f (roots-survive flags r k (omega arith) kept)
+
+-- no more records than there were
+module _ (base : ℕ) (flags : List ℕ) where
+  module _ (u k : Unresolved) (h : u .count ≤ 1024) (l : length (u .children) ≡ 1024) (kept : UnresolvedKept (flagsOf base flags (take (u .count) (u .children))) u k) where
+    children-kept : k .count ≤ u .count
+    children-kept =
+        omega (arith, kept-few base flags (take (u .count) (u .children)) (k .children) (k .count) (kept .count) (kept .children), length-take-le (u .count) (u .children) (omega arith))
+
+    pub children-room : k .count ≤ 1024
+    children-room = omega (arith, children-kept)
+
+    pub children-few : (start : ℕ) (ns : List ℕ) (q : Unresolved) → ChildrenMoved ns start k q → q .count ≤ u .count
+    children-few start ns q moved = omega (arith, moved .count, children-kept)
+
+  module _ (r k : Roots) (h : r .count ≤ 1024) (l : length (r .rows) ≡ 1024) (kept : RootsKept (flagsOf base flags (take (r .count) (r .rows))) r k) where
+    roots-kept : k .count ≤ r .count
+    roots-kept =
+        omega (arith, kept-few base flags (take (r .count) (r .rows)) (k .rows) (k .count) (kept .count) (kept .rows), length-take-le (r .count) (r .rows) (omega arith))
+
+    pub roots-room : k .count ≤ 1024
+    roots-room = omega (arith, roots-kept)
+
+    pub roots-few : (start : ℕ) (ns : List ℕ) (q : Roots) → RootsMoved ns start k q → q .count ≤ r .count
+    roots-few start ns q moved = omega (arith, moved .count, roots-kept)
