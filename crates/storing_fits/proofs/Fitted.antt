@@ -163,15 +163,15 @@ module _ (h : Held) (l : List ℕ) (f : FileAt) (fs : List File) (long : LongHel
   unfolding sum
   inbound-room = omega (arith, left .inbound)
 
-  forward-even : length (F .forward .deltas) ≡ F .forward .count
+  pub forward-even : length (F .forward .deltas) ≡ F .forward .count
   unfolding fileIn fileFrom frontIn setsIn setIn
   forward-even = forward-counted l f
 
-  reverse-even : length (F .reverse .deltas) ≡ F .reverse .count
+  pub reverse-even : length (F .reverse .deltas) ≡ F .reverse .count
   unfolding fileIn fileFrom frontIn setsIn setIn
   reverse-even = reverse-counted l f
 
-  inbound-even : length (F .inbound .deltas) ≡ F .inbound .count
+  pub inbound-even : length (F .inbound .deltas) ≡ F .inbound .count
   unfolding fileIn fileFrom frontIn setsIn setIn
   inbound-even = inbound-counted l f
 
@@ -297,7 +297,7 @@ module _ (h : Held) (l : List ℕ) (f : FileAt) (fs : List File) (long : LongHel
           )
       go false r = tt
 
-  flags-long : n ≤ length (h .erased)
+  pub flags-long : n ≤ length (h .erased)
   flags-long = omega (arith, rows-room, long .erased)
 
   pub held-fit : HeldFit h F (f .front .head .flag) (f .front .head .least) (f .front .head .greatest)
