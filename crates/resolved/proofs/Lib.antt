@@ -1,1 +1,2 @@
 pub mod SheetParts
+pub mod SurvivorLaw
