@@ -25,7 +25,7 @@ def text_of(crate, below):
     lines += [f"use Rattle.{other}.specs.Computes.{{computes as {other}Opens}}" for other in below]
     opened = [" ".join(f"{module}.{name}" for name in names) for module, names in modules.items()]
     lines += ["", "unfoldable pub computes : Unit {0}", "unfolding"]
-    lines += ["  " + line for line in ([" ".join(f"{other}Opens" for other in below)] if below else []) + opened]
+    lines += ["    " + line for line in ([" ".join(f"{other}Opens" for other in below)] if below else []) + opened]
     return "\n".join(lines + ["computes = tt", ""])
 
 

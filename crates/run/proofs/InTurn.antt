@@ -100,6 +100,7 @@ module _ (r : Run) where
         by-sheet : (b : Bool) → OutOf c (cond b (resolved (heldIn (r .held)) (sheetIn (r .sheet))) spoiled)
         by-sheet true = late (heldIn (r .held)) (sheetIn (r .sheet))
         by-sheet false = spoils
+
         go : (p : ℕ) → r .phase ≡ p → (h : Bool) → holdable (r .held) ≡ h → OutOf c (view r)
         go p e false k = out-of c spoiled (seen p e false k) spoils
         go zero e true k = absurd (false≢true (sym n ∙ rw (e, k)))

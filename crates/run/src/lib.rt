@@ -1,5 +1,6 @@
 // A cleaning run: it takes sources, resolves once, then writes. specs/ says what a run stands for; the steps are those of cleaning.
 mod turns;
+
 use held::Held;
 use held::Sheet;
 ghost use mathlib.Core.Path.{_≡_};
