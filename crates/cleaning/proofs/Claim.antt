@@ -21,7 +21,7 @@ use Rattle.cleaning.specs.Memo.{tables}
 use Rattle.cleaning.specs.Summary.{Summary, tabled}
 use Rattle.cleaning.specs.Resolving.{resolveRules}
 use Rattle.cleaning.specs.Writing.{writeRules, bytesOf, written}
-use Rattle.cleaning.specs.Step.{Call, takes, resolves, writes, Answer, refused, wrote, State, taking, resolved, spoiled, fresh, takeMore, resolveBy, writeInto, resolve, step}
+use Rattle.cleaning.specs.Step.{Call, takes, resolves, writes, maps, counts, Answer, refused, wrote, State, taking, resolved, spoiled, fresh, takeMore, resolveBy, writeInto, resolve, step}
 use Rattle.cleaning.specs.Held.{heldOf}
 use Rattle.cleaning.specs.Runs.{RunState, freshRun, runStep}
 use Rattle.cleaning.specs.History.{Did, did, history, took, bytesWritten, archiveIn, Wrote, cleaned}
@@ -86,6 +86,8 @@ first-cleaned (taking t) (takes b) cs ss i = taking-writes-nothing (Cleaned ss (
 first-cleaned (taking t) resolves cs ss i =
     resolving-writes-nothing (Cleaned ss (history (taking t) (resolves ∷ cs))) t (tables (archiveOf t)) (resolveRules t (archiveOf t) (tables (archiveOf t)))
 first-cleaned (taking t) (writes room) cs ss i = tt
+first-cleaned (taking t) (maps p) cs ss i = tt
+first-cleaned (taking t) counts cs ss i = tt
 first-cleaned (resolved t ts) (takes b) cs ss i = tt
 first-cleaned (resolved t ts) resolves cs ss i = tt
 first-cleaned (resolved t ts) (writes room) cs ss i =
@@ -93,6 +95,8 @@ first-cleaned (resolved t ts) (writes room) cs ss i =
     let h : List Did = history (resolved t ts) (writes room ∷ cs) in
     let e : bytesOf S ≡ cleaned (archiveFrom (ss ++ flat took h)) = rw (no-more t ts (writes room ∷ cs), append-nil ss) (resolved-cleaned t ts ss i) in
     each-imp (λ w. w ≡ bytesOf S) (Cleaned ss h) (bytesWritten (did (writes room) (writeInto room (written S)))) (λ w d. d ∙ e) (bytes-of room S)
+first-cleaned (resolved t ts) (maps p) cs ss i = tt
+first-cleaned (resolved t ts) counts cs ss i = tt
 first-cleaned spoiled c cs ss i = tt
 
 all-cleaned : (s : State) (cs : List Call) (ss : List Source) → Inv s ss → Each (Cleaned ss (history s cs)) (flat bytesWritten (history s cs))

@@ -15,11 +15,12 @@ use Rattle.archive.specs.Parse.{parse}
 use Rattle.cleaning.specs.Source.{Source, sourceOf, isThere}
 use Rattle.cleaning.specs.Taking.{takeRules, takenFrom}
 use Rattle.cleaning.specs.Archive.{Taken, Archive, archiveOf}
+use Rattle.cleaning.specs.Cleaning.{mapped, reparented}
 use Rattle.cleaning.specs.Memo.{tables}
 use Rattle.cleaning.specs.Summary.{tabled}
 use Rattle.cleaning.specs.Resolving.{resolveRules}
 use Rattle.cleaning.specs.Writing.{written}
-use Rattle.cleaning.specs.Step.{Call, takes, resolves, writes, done, State, taking, resolved, spoiled, Outcome, takeMore, resolveBy, writeInto, resolve, step}
+use Rattle.cleaning.specs.Step.{Call, takes, resolves, writes, maps, counts, done, told, counted, State, taking, resolved, spoiled, Outcome, takeMore, resolveBy, writeInto, resolve, step}
 use Rattle.cleaning.specs.Sheet.{Sheet, summaryOf}
 use Rattle.cleaning.specs.Held.{Held, nothing, heldWith, heldOf, archiveHeld, holdMore}
 use Rattle.cleaning.specs.Survivors.{survivorSheet}
@@ -102,9 +103,15 @@ unfolding runStep step hold Inv
 run-step (taking t) (takes b) ss i = take-held t (parse b) (followed-of t ss (i .0) (i .1))
 run-step (taking t) resolves ss i = resolve-held t (followed-of t ss (i .0) (i .1))
 run-step (taking t) (writes room) ss i = refl
+run-step (taking t) (maps p) ss i = refl
+run-step (taking t) counts ss i = refl
 run-step (resolved t ts) (takes b) ss i = refl
 run-step (resolved t ts) resolves ss i = refl
 run-step (resolved t ts) (writes room) ss i =
     ap (λ S. runOutcome (RunState.resolved (heldOf (t .sources)) (surviving t ts)) (writeInto room (written S)))
     (ap (λ us. summaryOf (surviving t us)) (i .2) ∙ surviving-tabled t (followed-of t ss (i .0) (i .1)) ∙ ap (tabled (archiveOf t)) (sym (i .2)))
+run-step (resolved t ts) (maps p) ss i =
+    ap (λ A. runOutcome (RunState.resolved (heldOf (t .sources)) (surviving t ts)) (told (mapped A p))) (archive-held (t .sources) (followed-of t ss (i .0) (i .1)))
+run-step (resolved t ts) counts ss i =
+    ap (λ A. runOutcome (RunState.resolved (heldOf (t .sources)) (surviving t ts)) (counted (reparented A))) (archive-held (t .sources) (followed-of t ss (i .0) (i .1)))
 run-step spoiled c ss i = refl

@@ -6,6 +6,7 @@ use Prim.Native.Nat.{ℕ, suc, _+_, _-_}
 use lib.Dec.{ltb}
 use lib.ListN.{length, take}
 use Rattle.lists.specs.Lists.{any, filter, joined, once}
+use Rattle.columns.specs.Building.{inFile}
 use Rattle.cleaning.specs.Archive.{Event, Archive, at}
 use Rattle.cleaning.specs.Routes.{passes, ends}
 
@@ -38,6 +39,10 @@ survivors A = survivorsFrom (A .start) (A .events)
 -- the old-to-new map of an event's number: nothing where it is erased
 unfoldable pub newNumber : Archive → ℕ → Option ℕ
 newNumber A p = cond ((at A p) .erased) none (some (renumber A p))
+
+-- the same map of any number: nothing where no event has it
+unfoldable pub mapped : Archive → ℕ → Option ℕ
+mapped A p = cond (inFile (A .start) (A .start + length (A .events)) p) (newNumber A p) none
 
 -- a survivor is reparented when it names an erased parent in any of its lists
 unfoldable pub isReparented : Archive → ℕ → Bool

@@ -20,7 +20,7 @@ unfoldable pub computes : Unit {0}
 unfolding
     archiveOpens
     Archive.isErased Archive.rootIn Archive.referencesIn Archive.bodyOf Archive.eventsFrom Archive.joinAt Archive.addSource Archive.groupsOf Archive.archiveOf Archive.at Archive.parentsOf
-    Cleaning.count Cleaning.rank Cleaning.renumber Cleaning.newParents Cleaning.survivorsFrom Cleaning.survivors Cleaning.newNumber Cleaning.isReparented Cleaning.reparented
+    Cleaning.count Cleaning.rank Cleaning.renumber Cleaning.newParents Cleaning.survivorsFrom Cleaning.survivors Cleaning.newNumber Cleaning.mapped Cleaning.isReparented Cleaning.reparented
     Held.nothing Held.factsAt Held.shifted Held.sheetWith Held.heldWith Held.heldOf Held.eventAt Held.archiveHeld Held.recordsOver Held.numbersOver Held.ending Held.lookBack Held.holdRules
     Memo.addParent Memo.memo Memo.tables
     Resolving.entries Resolving.survivesIn Resolving.groupsSurvive Resolving.resolveRules

@@ -9,7 +9,7 @@ use Rattle.cleaning.specs.Source.{Source, sourceOf}
 use Rattle.cleaning.specs.Archive.{Archive, archiveOf}
 use Rattle.cleaning.specs.Summary.{summary}
 use Rattle.cleaning.specs.Writing.{bytesOf}
-use Rattle.cleaning.specs.Step.{Call, takes, resolves, writes, Answer, refused, done, wrote, State, step}
+use Rattle.cleaning.specs.Step.{Call, takes, resolves, writes, maps, counts, Answer, refused, done, wrote, told, counted, State, step}
 
 -- a call with its answer
 pub data Did : Type 0 where
@@ -29,14 +29,20 @@ abbrev pub took : Did → List Source
 took (did (takes b) done) = map sourceOf (filesIn (parse b))
 took (did (takes b) (refused r)) = []
 took (did (takes b) (wrote w)) = []
+took (did (takes b) (told n)) = []
+took (did (takes b) (counted n)) = []
 took (did resolves a) = []
 took (did (writes room) a) = []
+took (did (maps p) a) = []
+took (did counts a) = []
 
 -- the bytes of an accepted write, up to its length
 abbrev pub bytesWritten : Did → List (List ℕ)
 bytesWritten (did c (refused r)) = []
 bytesWritten (did c done) = []
 bytesWritten (did c (wrote w)) = w ∷ []
+bytesWritten (did c (told n)) = []
+bytesWritten (did c (counted n)) = []
 
 -- the archive of a list: the files of its accepted takings, in order, in however many calls
 unfoldable pub archiveIn : List Did → Archive

@@ -20,7 +20,7 @@ use Rattle.cleaning.specs.Cleaning.{newNumber, reparented}
 use Rattle.cleaning.specs.Summary.{tabled}
 use Rattle.cleaning.specs.Writing.{outputs, written}
 use Rattle.cleaning.specs.Computes.{computes}
-use Rattle.cleaning.specs.Step.{takes, resolves, Answer, refused, done, wrote, State, taking, resolved, spoiled, fresh, step}
+use Rattle.cleaning.specs.Step.{takes, resolves, Answer, refused, done, wrote, told, counted, State, taking, resolved, spoiled, fresh, step}
 
 -- ── text as bytes ────────────────────────────────────────────────────────────────────────────
 
@@ -76,6 +76,8 @@ abbrev pub afterwards : (Refusal → List ℕ) → Answer → List ℕ → List 
 afterwards onRefusal (refused r) more = onRefusal r
 afterwards onRefusal done more = more
 afterwards onRefusal (wrote w) more = more
+afterwards onRefusal (told n) more = more
+afterwards onRefusal (counted n) more = more
 
 abbrev pub writing : (Refusal → List ℕ) → (List ℕ → List ℕ) → Verdict (List ℕ) → List ℕ
 writing onRefusal onWrite (Refusal.refused r) = onRefusal r

@@ -14,10 +14,11 @@ use Rattle.columns.specs.declared.refusal.Refusal.{Refusal}
 use Rattle.columns.specs.declared.refusal.Refusal.the-variants.{OutOfTurn, GroupOrder, OverNumbers, NoSurvivor}
 use Rattle.archive.specs.Parse.{parse}
 use Rattle.cleaning.specs.Archive.{Archive}
+use Rattle.cleaning.specs.Cleaning.{mapped, reparented}
 use Rattle.cleaning.specs.Memo.{tables}
 use Rattle.cleaning.specs.Resolving.{entries, groupsSurvive}
 use Rattle.cleaning.specs.Writing.{written}
-use Rattle.cleaning.specs.Step.{Call, takes, resolves, writes, Answer, refused, done, wrote, writeInto}
+use Rattle.cleaning.specs.Step.{Call, takes, resolves, writes, maps, counts, Answer, refused, done, wrote, told, counted, writeInto}
 use Rattle.cleaning.specs.Sheet.{Sheet, summaryOf}
 use Rattle.cleaning.specs.Held.{Held, nothing, archiveHeld, holdMore}
 use Rattle.cleaning.specs.Survivors.{survivorSheet}
@@ -73,7 +74,11 @@ unfoldable pub runStep : RunState → Call → RunOutcome
 runStep (taking h) (takes b) = takeInto h (holdMore h (parse b))
 runStep (taking h) resolves = resolveHeld h
 runStep (taking h) (writes room) = runOutcome (taking h) (refused OutOfTurn)
+runStep (taking h) (maps p) = runOutcome (taking h) (refused OutOfTurn)
+runStep (taking h) counts = runOutcome (taking h) (refused OutOfTurn)
 runStep (resolved h s) (takes b) = runOutcome (resolved h s) (refused OutOfTurn)
 runStep (resolved h s) resolves = runOutcome (resolved h s) (refused OutOfTurn)
 runStep (resolved h s) (writes room) = runOutcome (resolved h s) (writeInto room (written (summaryOf s)))
+runStep (resolved h s) (maps p) = runOutcome (resolved h s) (told (mapped (archiveHeld h) p))
+runStep (resolved h s) counts = runOutcome (resolved h s) (counted (reparented (archiveHeld h)))
 runStep spoiled c = runOutcome spoiled (refused OutOfTurn)

@@ -1,5 +1,5 @@
 -- Document 01, "Refused for the state" and demand 1: a run's calls, one by one. A run takes sources, in one call or several, then resolves once,
--- then writes, again if wanted; a step out of turn is 40. A refused call leaves the run as it is.
+-- then writes, again if wanted, and is asked for new numbers and for the reparented; a step out of turn is 40. A refused call leaves the run as it is.
 use mathlib.Core.Bool.{cond}
 use mathlib.Core.List.{List, [], _++_}
 use mathlib.Core.Option.{Option, none, some}
@@ -14,21 +14,27 @@ use Rattle.archive.specs.Parse.{parse}
 use Rattle.cleaning.specs.Source.{Source}
 use Rattle.cleaning.specs.Taking.{takenFrom}
 use Rattle.cleaning.specs.Archive.{Taken, archiveOf}
+use Rattle.cleaning.specs.Cleaning.{mapped, reparented}
 use Rattle.cleaning.specs.Memo.{tables}
 use Rattle.cleaning.specs.Summary.{tabled}
 use Rattle.cleaning.specs.Resolving.{resolveRules}
 use Rattle.cleaning.specs.Writing.{written}
 
--- taking an archive's bytes; resolving; writing into a slice of so many bytes
+-- taking an archive's bytes; resolving; writing into a slice of so many bytes; asking for the new number of an old one, and how many survivors
+-- are reparented
 pub data Call : Type 0 where
   takes : List ℕ → Call
   resolves : Call
   writes : ℕ → Call
+  maps : ℕ → Call
+  counts : Call
 
 pub data Answer : Type 0 where
   refused : Refusal → Answer
   done : Answer
   wrote : List ℕ → Answer
+  told : Option ℕ → Answer
+  counted : ℕ → Answer
 
 -- a run by phase: taking sources; resolved, with every event's new lists, kind by kind; and `spoiled`, which is no run that calls make
 pub data State : Type 0 where
@@ -68,7 +74,11 @@ unfoldable pub step : State → Call → Outcome
 step (taking t) (takes b) = takeMore t (takenFrom (t .sources) (parse b))
 step (taking t) resolves = resolve t
 step (taking t) (writes room) = outcome (taking t) (refused OutOfTurn)
+step (taking t) (maps p) = outcome (taking t) (refused OutOfTurn)
+step (taking t) counts = outcome (taking t) (refused OutOfTurn)
 step (resolved t ts) (takes b) = outcome (resolved t ts) (refused OutOfTurn)
 step (resolved t ts) resolves = outcome (resolved t ts) (refused OutOfTurn)
 step (resolved t ts) (writes room) = outcome (resolved t ts) (writeInto room (written (tabled (archiveOf t) ts)))
+step (resolved t ts) (maps p) = outcome (resolved t ts) (told (mapped (archiveOf t) p))
+step (resolved t ts) counts = outcome (resolved t ts) (counted (reparented (archiveOf t)))
 step spoiled c = outcome spoiled (refused OutOfTurn)
