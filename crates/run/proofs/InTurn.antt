@@ -3,13 +3,13 @@ use mathlib.Core.Path.{_≡_, refl, sym, ap, subst, _∙_}
 use mathlib.Core.Bool.{Bool, true, false, cond, not, _&&_, false≢true}
 use Prim.Native.Nat.{ℕ, zero, suc}
 use lib.Dec.{eqb}
-use borrow.Author.Tests.{eq-eqb, ne-eqb, not-true, not-false}
+use borrow.Author.Tests.{eq-eqb, ne-eqb, eqb-true, not-true, not-false}
 use Rattle.lists.proofs.Tests.{both}
 use Rattle.columns.specs.declared.refusal.Refusal.the-variants.{OutOfTurn}
 use Rattle.cleaning.specs.Sheet as sheets
 use Rattle.cleaning.specs.Held as held
 use Rattle.cleaning.specs.Step.{Call, refused}
-use Rattle.cleaning.specs.Runs.{RunState, resolved, spoiled, runOutcome, runStep}
+use Rattle.cleaning.specs.Runs.{RunState, taking, resolved, spoiled, runOutcome, runStep}
 use Rattle.held.specs.View.{sheetIn, heldIn}
 use Rattle.held.specs.declared.Sheet.{Sheet}
 use Rattle.held.specs.declared.Held.{Held}
@@ -79,7 +79,7 @@ module _ (r : Run) where
 -- ── steps out of turn ────────────────────────────────────────────────────────────────────────
 
 -- a call that answers 40 and changes nothing
-abbrev OutOf : Call → RunState → Type 0
+abbrev pub OutOf : Call → RunState → Type 0
 OutOf c s = runStep s c ≡ runOutcome s (refused OutOfTurn)
 
 module _ (r : Run) where
@@ -106,3 +106,68 @@ module _ (r : Run) where
         go zero e true k = absurd (false≢true (sym n ∙ rw (e, k)))
         go (suc zero) e true k = out-of c (phased 1 r) (seen 1 e true k) (by-sheet (writable (r .sheet)))
         go (suc (suc p)) e true k = out-of c spoiled (seen (suc (suc p)) e true k) spoils
+
+  -- not resolved: nothing is written, and nothing is asked
+  module _ (n : isResolved r ≡ false) (c : Call) (spoils : OutOf c spoiled) (early : (h : held.Held) → OutOf c (taking h)) where
+    pub not-resolved-yet : OutOf c (view r)
+    unfolding isResolved phased
+    not-resolved-yet = go (r .phase) refl (holdable (r .held)) refl
+      where
+        by-sheet : (b : Bool) → writable (r .sheet) ≡ b → r .phase ≡ 1 → holdable (r .held) ≡ true → OutOf c (cond b (resolved (heldIn (r .held)) (sheetIn (r .sheet))) spoiled)
+        by-sheet true w e k = absurd (false≢true (sym n ∙ rw (e, k, w)))
+        by-sheet false w e k = spoils
+
+        go : (p : ℕ) → r .phase ≡ p → (h : Bool) → holdable (r .held) ≡ h → OutOf c (view r)
+        go p e false k = out-of c spoiled (seen p e false k) spoils
+        go zero e true k = out-of c (taking (heldIn (r .held))) (seen 0 e true k) (early (heldIn (r .held)))
+        go (suc zero) e true k = out-of c (phased 1 r) (seen 1 e true k) (by-sheet (writable (r .sheet)) refl e k)
+        go (suc (suc p)) e true k = out-of c spoiled (seen (suc (suc p)) e true k) spoils
+
+  -- ── steps in turn ────────────────────────────────────────────────────────────────────────────
+
+  module _ (t : isTaking r ≡ true) where
+    takes-now : (eqb (r .phase) 0 ≡ true) × (holdable (r .held) ≡ true)
+    unfolding isTaking
+    takes-now = both (eqb (r .phase) 0) _ t
+
+    pub seen-taking : view r ≡ taking (heldIn (r .held))
+    unfolding phased
+    seen-taking = seen 0 (eqb-true (r .phase) 0 (takes-now .0)) true (takes-now .1)
+
+    pub taking-valid : heldOk (r .held) ≡ true
+    unfolding holdable
+    taking-valid = both (heldOk (r .held)) _ (takes-now .1) .0
+
+    pub taking-order : ordered (r .held .sheet) ≡ true
+    unfolding holdable
+    taking-order = both (heldOk (r .held)) _ (takes-now .1) .1
+
+  module _ (t : isResolved r ≡ true) where
+    was-resolved : (eqb (r .phase) 1 ≡ true) × ((holdable (r .held) ≡ true) × (writable (r .sheet) ≡ true))
+    unfolding isResolved
+    was-resolved = let a = both (eqb (r .phase) 1) _ t in (a .0, both (holdable (r .held)) _ (a .1))
+
+    pub seen-resolved : view r ≡ resolved (heldIn (r .held)) (sheetIn (r .sheet))
+    unfolding phased
+    seen-resolved = seen 1 (eqb-true (r .phase) 1 (was-resolved .0)) true (was-resolved .1 .0) ∙ rw (was-resolved .1 .1)
+
+    pub resolved-valid : heldOk (r .held) ≡ true
+    unfolding holdable
+    resolved-valid = both (heldOk (r .held)) _ (was-resolved .1 .0) .0
+
+    pub resolved-order : ordered (r .held .sheet) ≡ true
+    unfolding holdable
+    resolved-order = both (heldOk (r .held)) _ (was-resolved .1 .0) .1
+
+    sheet-tests : (sheetOk (r .sheet) ≡ true) × ((ordered (r .sheet) ≡ true) × (filled (r .sheet) ≡ true))
+    unfolding writable
+    sheet-tests = let a = both (sheetOk (r .sheet)) _ (was-resolved .1 .1) in (a .0, both (ordered (r .sheet)) _ (a .1))
+
+    pub survivors-valid : sheetOk (r .sheet) ≡ true
+    survivors-valid = sheet-tests .0
+
+    pub survivors-order : ordered (r .sheet) ≡ true
+    survivors-order = sheet-tests .1 .0
+
+    pub survivors-filled : filled (r .sheet) ≡ true
+    survivors-filled = sheet-tests .1 .1

@@ -1,2 +1,4 @@
 pub mod Views
 pub mod InTurn
+pub mod RunClaim
+pub mod Calls

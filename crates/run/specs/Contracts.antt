@@ -1,0 +1,59 @@
+-- Demand 1 and 3: what each of a run's functions says of the run that it is given, the run and the answer that it gives back, and the bytes that
+-- it is lent. Every one is the step of that call (cleaning/specs/Runs) on what the run stands for.
+use mathlib.Core.Path.{_≡_}
+use mathlib.Core.List.{List}
+use mathlib.Core.Option.{none, some}
+use Prim.Native.Nat.{ℕ}
+use lib.ListN.{length, drop}
+use Rattle.cleaning.specs.Step.{Call, writes, maps, counts, Answer, refused, done, told, counted}
+use Rattle.cleaning.specs.Runs.{runOutcome, runStep}
+use Rattle.writing.specs.Answers.{lengthOf, answerOf}
+use Rattle.writing.specs.declared.Writing.{Writing}
+use Rattle.run.specs.View.{view}
+use Rattle.run.specs.declared.Run.{Run}
+use Rattle.run.specs.declared.Reply.{Reply}
+use Rattle.run.specs.declared.Reply.the-variants.{Done, Refused}
+use Rattle.run.specs.declared.Number.{Number}
+use Rattle.run.specs.declared.Number.the-variants as number
+use Rattle.run.specs.declared.Count.{Count}
+use Rattle.run.specs.declared.Count.the-variants as count
+
+-- ── answers ──────────────────────────────────────────────────────────────────────────────────
+
+abbrev pub replied : Reply → Answer
+replied Done = done
+replied (Refused x) = refused x
+
+abbrev pub numbered : Number → Answer
+numbered (number.To n) = told (some n)
+numbered number.Nothing = told none
+numbered (number.Refused x) = refused x
+
+abbrev pub countedAs : Count → Answer
+countedAs (count.Of n) = counted n
+countedAs (count.Refused x) = refused x
+
+-- ── contracts ────────────────────────────────────────────────────────────────────────────────
+
+-- a refused call gives back the run that it was given
+abbrev pub Kept : Reply → Run → Run → Type 0
+Kept Done before after = Unit {0}
+Kept (Refused x) before after = after ≡ before
+
+-- taking and resolving: the run and the answer are those of the step
+pub record Steps (c : Call) (before after : Run) (r : Reply) : Type 0 where
+  pub state : view after ≡ (runStep (view before) c) .state
+  pub answer : replied r ≡ (runStep (view before) c) .answer
+  pub kept : Kept r before after
+
+-- writing: the run stays as it is; the bytes are those of the step's answer, and past them all is as it was
+pub record Writes (run : Run) (was is : List ℕ) (r : Writing) : Type 0 where
+  pub step : runStep (view run) (writes (length was)) ≡ runOutcome (view run) (answerOf r is)
+  pub rest : drop (lengthOf r) is ≡ drop (lengthOf r) was
+
+-- asking for the new number of an old one, and for the reparented: the run stays as it is
+abbrev pub Maps : Run → ℕ → Number → Type 0
+Maps run old r = runStep (view run) (maps old) ≡ runOutcome (view run) (numbered r)
+
+abbrev pub Counts : Run → Count → Type 0
+Counts run r = runStep (view run) counts ≡ runOutcome (view run) (countedAs r)

@@ -1,0 +1,40 @@
+-- Demand 3 over a run's functions: a trace is a list of their calls from a run on, each link literally what the function's contract says of the
+-- run before and after, the bytes taken, and the bytes lent and written.
+use mathlib.Core.Path.{_≡_}
+use mathlib.Core.List.{List, [], _∷_}
+use Prim.Native.Nat.{ℕ}
+use lib.ListN.{length}
+use Rattle.cleaning.specs.Step.{takes, resolves, writes, maps, counts}
+use Rattle.cleaning.specs.Runs.{freshRun}
+use Rattle.cleaning.specs.History.{Did, did, archiveIn, Wrote, cleaned}
+use Rattle.cleaning.specs.Alike.{Alike}
+use Rattle.writing.specs.Answers.{answerOf}
+use Rattle.writing.specs.declared.Writing.{Writing}
+use Rattle.run.specs.View.{view}
+use Rattle.run.specs.Contracts.{replied, numbered, countedAs, Steps, Writes, Maps, Counts}
+use Rattle.run.specs.declared.Run.{Run}
+use Rattle.run.specs.declared.Stepped.{Stepped}
+use Rattle.run.specs.declared.Number.{Number}
+use Rattle.run.specs.declared.Count.{Count}
+
+-- one call: the run before it, the run after it, the call with its answer
+pub data Link : Run → Run → Did → Type 0 where
+  took : {run : Run} (bytes : List ℕ) (r : Stepped) → Steps (takes bytes) run (r .run) (r .reply) → Link run (r .run) (did (takes bytes) (replied (r .reply)))
+  resolved : {run : Run} (r : Stepped) → Steps resolves run (r .run) (r .reply) → Link run (r .run) (did resolves (replied (r .reply)))
+  wrote : {run : Run} (was is : List ℕ) (r : Writing) → Writes run was is r → Link run run (did (writes (length was)) (answerOf r is))
+  mapped : {run : Run} (old : ℕ) (r : Number) → Maps run old r → Link run run (did (maps old) (numbered r))
+  counted : {run : Run} (r : Count) → Counts run r → Link run run (did counts (countedAs r))
+
+pub data Trace : Run → List Did → Type 0 where
+  ended : {run : Run} → Trace run []
+  linked : {before : Run} (after : Run) {d : Did} {h : List Did} → Link before after d → Trace after h → Trace before (d ∷ h)
+
+-- a fresh run, as `new` gives it
+abbrev pub Fresh : Run → Type 0
+Fresh run = view run ≡ freshRun
+
+-- the claim, over two traces from fresh runs: where their archives are alike, every accepted write of either is the cleaned archive, and the two
+-- are the same bytes
+abbrev pub ClaimOfRuns : Type 0
+ClaimOfRuns = (r s : Run) → Fresh r → Fresh s → (h g : List Did) → Trace r h → Trace s g → Alike (archiveIn h) (archiveIn g)
+    → (w v : List ℕ) → Wrote h w → Wrote g v → (w ≡ cleaned (archiveIn h)) × (v ≡ cleaned (archiveIn g)) × (w ≡ v)
