@@ -1,0 +1,3 @@
+pub mod LastGroup
+pub mod Rulings
+pub mod Answers

@@ -1,0 +1,32 @@
+-- `taking::archive_rules` meets its contract.
+use Rattle.taking.proofs.Rulings.{not-archive, sums-known, then-held}
+use borrow.Author.Needs.{needs}
+use Rattle.taking.proofs.archive_rules.Statement.{statement}
+use Rattle.taking.proofs.archive_rules.Tie as tie
+use Rattle.taking.proofs.archive_rules.Reads as reads
+use Rattle.taking.proofs.archive_rules.Lts as lts
+use Rattle.archive_reader.proofs.files.sum_up.Reads as sum-up-reads
+use Rattle.taking.proofs.hold_rules.Reads as hold-rules-reads
+
+sum-up-requires : tie.Need-sum-up-requires
+sum-up-requires c κs = search needs
+
+enum-known-x : tie.Need-enum-known-x
+enum-known-x c = search needs
+
+enum-told : tie.Need-enum-told
+enum-told c = search needs
+
+returns : tie.Need-returns
+returns c = search not-archive
+
+hold-rules-requires : tie.Need-hold-rules-requires
+hold-rules-requires c κs = (search needs, search sums-known)
+
+returns-2 : tie.Need-returns-2
+returns-2 c = search then-held
+
+pub archive-rules-spec : {M : Type 1} → statement M
+archive-rules-spec =
+    tie.close
+    (tie.spec sum-up-requires enum-known-x enum-told returns hold-rules-requires returns-2)

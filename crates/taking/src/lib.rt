@@ -1,0 +1,130 @@
+// A taking, whole: 23 over the archive's bytes, 42 and 43 over the run and the archive, the rules of the archive's files, and the files stored.
+use archive_groups::groups_over;
+use archive_reader::files::Summed;
+use archive_reader::files::Totals;
+use archive_reader::files::sum_up;
+use columns::refusal::Refusal;
+use held::Held;
+use held::Sheet;
+use rules::slots::Ruling;
+use storing_files::store;
+use taking_files::all::files_rules;
+use taking_limits::limit_rules;
+use taking_rules::heads::Back;
+use tidying::long::held_long;
+use tidying::long::sheet_long;
+ghost use mathlib.Core.Path.{_≡_};
+ghost use mathlib.Core.Bool.{true};
+ghost use lib.ListN.{take};
+ghost use Rattle.rules.specs.Ruled.{ruling};
+ghost use Rattle.archive.specs.Parse.{parse};
+ghost use Rattle.archive_reader.specs.Sums.{totalsOf};
+ghost use Rattle.archive_reader.specs.declared.files.Summed.the-variants.{Sums};
+ghost use Rattle.cleaning.specs.Taking.{filesRules};
+ghost use Rattle.cleaning.specs.Held.{lookBack, holdRules, holdMore};
+ghost use Rattle.cleaning.specs.History.{filesIn};
+ghost use Rattle.held.specs.View.{sheetIn, heldIn};
+ghost use Rattle.held.specs.Valid.{sheetOk, heldOk};
+ghost use Rattle.tidying.specs.Ordered.{ordered};
+ghost use Rattle.taking_rules.specs.Back.{backOf};
+ghost use Rattle.taking_files.specs.Archive.{Within};
+ghost use Rattle.taking.specs.Took.{limitsOver, archiveRules, TookBy};
+
+// What is held after a taking, and the first rule that is broken, if one is.
+pub struct Taken {
+    pub held: Held,
+    pub ruling: Ruling,
+}
+
+// What the first file looks back at, besides the subject.
+fn look_back(s: Sheet) -> Back
+    requires { ⌜ sheetOk s ≡ true ⌝ }
+    ensures { λ r. ⌜ backOf r (take (s .subject .length) (s .subject .bytes)) ≡ lookBack (sheetIn s) ⌝ }
+{
+    sheet_long(s);
+    let g = s.groups;
+    let n = g.count;
+    if n == 0 {
+        return Back {
+            known: false,
+            group: 0,
+            end: 0,
+            covered: false,
+        };
+    }
+    let covered = g.covered;
+    let last = n - 1;
+    Back {
+        known: true,
+        group: last as u64,
+        end: s.start + (s.rows.count as u64),
+        covered: covered[last] != 0,
+    }
+}
+
+// The rules of an archive's files, the first of which looks back at the rows of a sheet.
+fn sheet_rules(s: Sheet, bytes: &[u8]) -> Ruling
+    requires { ⌜ (sheetOk s ≡ true) × Within (totalsOf (parse (now bytes))) ⌝ }
+    ensures { λ r. ⌜ r ≡ ruling (filesRules (lookBack (sheetIn s)) (filesIn (parse (now (bytes .entry))))) ⌝ }
+{
+    let subject = s.subject;
+    let n = subject.length;
+    let name = subject.bytes;
+    let back = look_back(s);
+    files_rules(bytes, back, &name[..n])
+}
+
+// 42, then 43: what a run holds and an archive of those sums together.
+fn limits(h: Held, bytes: &[u8], t: Totals) -> Ruling
+    requires { ⌜ (heldOk h ≡ true) × (totalsOf (parse (now bytes)) ≡ Sums t) ⌝ }
+    ensures { λ r. ⌜ r ≡ ruling (limitsOver (heldIn h) (filesIn (parse (now (bytes .entry))))) ⌝ }
+{
+    held_long(h);
+    let many = groups_over(bytes, h.sheet.groups.count);
+    limit_rules(h, t, many)
+}
+
+// 42, 43, then file by file.
+fn hold_rules(h: Held, bytes: &[u8], t: Totals) -> Ruling
+    requires { ⌜ (heldOk h ≡ true) × (totalsOf (parse (now bytes)) ≡ Sums t) ⌝ }
+    ensures { λ r. ⌜ r ≡ ruling (holdRules (heldIn h) (filesIn (parse (now (bytes .entry))))) ⌝ }
+{
+    let r = limits(h, bytes, t);
+    match r {
+        Ruling::Broken(x) => Ruling::Broken(x),
+        Ruling::Kept => sheet_rules(h.sheet, bytes),
+    }
+}
+
+// 23, then the others.
+fn archive_rules(h: Held, bytes: &[u8]) -> Ruling
+    requires { ⌜ heldOk h ≡ true ⌝ }
+    ensures { λ r. ⌜ r ≡ ruling (archiveRules (heldIn h) (parse (now (bytes .entry)))) ⌝ }
+{
+    let x = sum_up(bytes);
+    let Summed::Sums(t) = x else {
+        return Ruling::Broken(Refusal::RecordBroken);
+    };
+    hold_rules(h, bytes, t)
+}
+
+// What a run holds with an archive more; a refused archive leaves it as it was.
+pub fn take(h: Held, bytes: &[u8]) -> Taken
+    requires { ⌜ (heldOk h ≡ true) × (ordered (h .sheet) ≡ true) ⌝ }
+    ensures { λ r. ⌜ TookBy (holdMore (heldIn h) (parse (now (bytes .entry)))) h r ⌝ }
+{
+    let r = archive_rules(h, bytes);
+    match r {
+        Ruling::Broken(x) => Taken {
+            held: h,
+            ruling: Ruling::Broken(x),
+        },
+        Ruling::Kept => {
+            let q = store(h, bytes);
+            Taken {
+                held: q,
+                ruling: Ruling::Kept,
+            }
+        }
+    }
+}
