@@ -1,5 +1,5 @@
 -- What the first file of an archive looks back at: the last group of a sheet.
-use mathlib.Core.Path.{_≡_, sym}
+use mathlib.Core.Path.{_≡_, refl, sym}
 use mathlib.Core.Bool.{true, false}
 use mathlib.Core.List.{List}
 use Prim.Native.Nat.{ℕ, _+_, _-_, _≤_, _<_}
@@ -7,11 +7,11 @@ use native.Mathlib.Omega.{arith}
 use lib.Dec.{leb}
 use lib.ListN.{length, take}
 use lib.Seq.{length-take-le}
-use borrow.Author.Tests.{leb-true, ltb-true}
+use borrow.Author.Tests.{leb-true}
 use Rattle.lists.specs.Lists.{isEmpty, upFrom}
 use Rattle.lists.proofs.Tests.{both}
 use Rattle.lists.proofs.Flat.{length-map-upFrom, getD-map-upFrom}
-use Rattle.columns.specs.Limits.{maxSubject, maxGroups, maxRecords, end64}
+use Rattle.columns.specs.Limits.{maxSubject, maxGroups, end64}
 use Rattle.rules.specs.Ruled.{ruling}
 use Rattle.rules.specs.declared.slots.Ruling.{Ruling}
 use Rattle.archive.specs.File.{File}
@@ -23,6 +23,7 @@ use Rattle.cleaning.proofs.HeldRows.{not-empty}
 use Rattle.held.specs.declared.Sheet.{Sheet}
 use Rattle.held.specs.View.{hasCover, listed, factsAt, sheetIn}
 use Rattle.held.specs.Valid.{countsOk, sheetOk}
+use Rattle.held.proofs.Verdicts.{numbers-kept}
 use Rattle.tidying.specs.Long.{LongSheet}
 use Rattle.tidying.proofs.TidySheets.{tags-length}
 use Rattle.taking_rules.specs.Back.{backOf}
@@ -32,22 +33,22 @@ use Rattle.taking_files.specs.Archive.{rulesOf}
 -- ── within the limits ────────────────────────────────────────────────────────────────────────
 
 module _ (s : Sheet) (k : sheetOk s ≡ true) where
-  few : (s .subject .length ≤ 255) × (s .groups .count ≤ 16) × (s .start + s .rows .count < end64)
-  unfolding sheetOk countsOk
+  counts-ok : countsOk s ≡ true
+  unfolding sheetOk
+  counts-ok = both (countsOk s) _ k .0
+
+  few : (s .subject .length ≤ 255) × (s .groups .count ≤ 16)
+  unfolding countsOk
   few =
-      let a = both (leb (s .subject .length) maxSubject) _ (both (countsOk s) _ k .0) in
+      let a = both (leb (s .subject .length) maxSubject) _ counts-ok in
       let b = both (leb (s .groups .count) maxGroups) _ (a .1) in
-      let c = both (leb (s .rows .count) maxRecords) _ (b .1) in
-      let d = both (leb (s .unresolved .count) maxRecords) _ (c .1) in
-      let e = both (leb (s .roots .count) maxRecords) _ (d .1) in
-      let f = both (leb (s .links .count) maxRecords) _ (e .1) in
-      (leb-true (s .subject .length) maxSubject (a .0), leb-true (s .groups .count) maxGroups (b .0), ltb-true (s .start + s .rows .count) end64 (f .1))
+      (leb-true (s .subject .length) maxSubject (a .0), leb-true (s .groups .count) maxGroups (b .0))
 
   pub last-there : (s .groups .count ≡ 0 → ⊥) → s .groups .count - 1 < 16
   last-there e = omega (arith, few .1)
 
   pub end-fits : s .start + s .rows .count < end64
-  end-fits = few .2
+  end-fits = numbers-kept s {a = true} (sym counts-ok) refl
 
   module _ (e : length (s .subject .bytes) ≡ 255) where
     pub name-there : s .subject .length ≤ length (s .subject .bytes)
