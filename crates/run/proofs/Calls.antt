@@ -3,19 +3,28 @@ use mathlib.Core.Path.{_≡_, refl, sym, ap, subst, _∙_}
 use mathlib.Core.Bool.{Bool, true, false, not}
 use mathlib.Core.List.{List}
 use Prim.Native.Nat.{ℕ}
+use native.Mathlib.Omega.{arith}
 use lib.ListN.{length}
 use borrow.Author.Tests.{not-true, not-false}
+use Rattle.columns.specs.Refusal as verdict
+use Rattle.columns.specs.Refusal.{Verdict}
 use Rattle.columns.specs.declared.refusal.Refusal.{Refusal}
 use Rattle.columns.specs.declared.refusal.Refusal.the-variants.{OutOfTurn}
-use Rattle.cleaning.specs.Step.{Call, takes, resolves, writes, maps, counts}
-use Rattle.cleaning.specs.Runs.{RunState, resolved, runOutcome, runStep}
+use Rattle.cleaning.specs.Step.{Call, takes, resolves, writes, maps, counts, refused, done}
+use Rattle.cleaning.specs.Runs.{RunState, taking, resolved, runOutcome, runStep}
+use Rattle.cleaning.specs.Held as held
+use Rattle.cleaning.specs.Held.{holdMore}
+use Rattle.archive.specs.Parse.{parse}
+use Rattle.rules.specs.declared.slots.Ruling.the-variants.{Kept, Broken}
 use Rattle.held.specs.View.{sheetIn, heldIn}
 use Rattle.held.specs.Valid.{sheetOk, heldOk}
 use Rattle.tidying.specs.Ordered.{ordered, filled}
+use Rattle.taking.specs.Took.{TookBy}
+use Rattle.taking.specs.declared.Taken.{Taken}
 use Rattle.writing.specs.Answers.{answerOf, Wrote}
 use Rattle.writing.specs.declared.Writing.{Writing}
 use Rattle.writing.specs.declared.Writing.the-variants as writing
-use Rattle.run.specs.View.{view, isTaking, isResolved}
+use Rattle.run.specs.View.{view, phased, holdable, isTaking, isResolved}
 use Rattle.run.specs.Contracts.{Steps, Writes, Maps, Counts}
 use Rattle.run.specs.declared.Run.{Run}
 use Rattle.run.specs.declared.Reply.the-variants.{Done, Refused}
@@ -80,3 +89,53 @@ module _ (r : Run) {b : Bool} (e : b ≡ isResolved r) (k : not b ≡ false) whe
   unfolding runStep
   write-now {is} {a} was w =
       record { step = by-state (writes (length was)) _ (seen-resolved r is-resolved) refl ∙ ap (runOutcome (view r)) (sym (w .answer)); rest = w .rest }
+
+-- ── what a run stands for after a step ───────────────────────────────────────────────────────
+
+-- columns that are valid and in order are taken up by a run that takes sources
+now-taking : (r : Run) (h : held.Held) → r .phase ≡ 0 → heldIn (r .held) ≡ h → heldOk (r .held) ≡ true → ordered (r .held .sheet) ≡ true → view r ≡ taking h
+unfolding view phased holdable
+now-taking r h p e k o = rw (k, o, p, e)
+
+-- ── taking ───────────────────────────────────────────────────────────────────────────────────
+
+module _ (r : Run) {b : Bool} (e : b ≡ isTaking r) (k : not b ≡ false) where
+  is-taking : isTaking r ≡ true
+  is-taking = sym e ∙ not-false b k
+
+  pub sources-valid : heldOk (r .held) ≡ true
+  sources-valid = taking-valid r is-taking
+
+  pub sources-order : ordered (r .held .sheet) ≡ true
+  sources-order = taking-order r is-taking
+
+  -- a refused step of a run that takes sources leaves it as it is
+  stays : (c : Call) (x : Refusal) → runStep (taking (heldIn (r .held))) c ≡ runOutcome (taking (heldIn (r .held))) (refused x) → Steps c r r (Refused x)
+  stays c x o =
+      let z : runStep (view r) c ≡ runOutcome (view r) (refused x) =
+      subst (λ s. runStep s c ≡ runOutcome s (refused x)) (sym (seen-taking r is-taking)) o in
+      record { state = sym (ap (λ s. s .state) z); answer = sym (ap (λ s. s .answer) z); kept = refl }
+
+  -- an accepted one goes on to another run
+  goes : (c : Call) (after : Run) → runStep (taking (heldIn (r .held))) c ≡ runOutcome (view after) done → Steps c r after Done
+  goes c after o =
+      let z : runStep (view r) c ≡ runOutcome (view after) done = ap (λ s. runStep s c) (seen-taking r is-taking) ∙ o in
+      record { state = sym (ap (λ s. s .state) z); answer = sym (ap (λ s. s .answer) z); kept = tt }
+
+  module _ (t : Taken) (bytes : List ℕ) (m : TookBy (holdMore (heldIn (r .held)) (parse bytes)) (r .held) t) where
+    pub take-refused : (x : Refusal) → t .ruling ≡ Broken x → Steps (takes bytes) r r (Refused x)
+    unfolding runStep
+    take-refused x d = go (holdMore (heldIn (r .held)) (parse bytes)) refl m
+      where
+        go : (v : Verdict held.Held) → holdMore (heldIn (r .held)) (parse bytes) ≡ v → TookBy v (r .held) t → Steps (takes bytes) r r (Refused x)
+        go (verdict.refused y) f n = let z : y ≡ x = cc in stays (takes bytes) x (rw (f, z))
+        go (verdict.accepted h) f n = let z : _≡_ {A = ℕ} 0 1 = cc in absurd (omega arith)
+
+    pub take-done : t .ruling ≡ Kept → Steps (takes bytes) r (record { phase = 0; held = t .held; sheet = r .sheet }) Done
+    unfolding runStep
+    take-done d = go (holdMore (heldIn (r .held)) (parse bytes)) refl m
+      where
+        go : (v : Verdict held.Held) → holdMore (heldIn (r .held)) (parse bytes) ≡ v → TookBy v (r .held) t
+            → Steps (takes bytes) r (record { phase = 0; held = t .held; sheet = r .sheet }) Done
+        go (verdict.refused y) f n = let z : _≡_ {A = ℕ} 0 1 = cc in absurd (omega arith)
+        go (verdict.accepted h) f n = goes (takes bytes) _ (rw f (ap (λ s. runOutcome s done) (sym (now-taking _ h refl (n .1) (n .2) (n .3)))))

@@ -4,9 +4,12 @@ mod turns;
 use columns::refusal::Refusal;
 use held::Held;
 use held::Sheet;
+use rules::slots::Ruling;
 ghost use mathlib.Core.Path.{_≡_};
+ghost use Rattle.cleaning.specs.Step.{takes};
 ghost use Rattle.cleaning.specs.Runs.{freshRun};
 ghost use Rattle.run.specs.View.{view};
+ghost use Rattle.run.specs.Contracts.{Steps};
 
 // The sources taken, and once resolved the survivors.
 pub struct Run {
@@ -51,5 +54,37 @@ pub fn new() -> Run
         phase: 0,
         held: h,
         sheet: s,
+    }
+}
+
+// Takes the files of an archive, after those taken before.
+pub fn take(run: Run, bytes: &[u8]) -> Stepped
+    ensures { λ r. ⌜ Steps (takes (now (bytes .entry))) run (r .run) (r .reply) ⌝ }
+{
+    if !turns::is_taking(run) {
+        return Stepped {
+            run: run,
+            reply: Reply::Refused(Refusal::OutOfTurn),
+        };
+    }
+    let t = taking::take(run.held, bytes);
+    let v = t.ruling;
+    match v {
+        Ruling::Broken(x) => Stepped {
+            run: run,
+            reply: Reply::Refused(x),
+        },
+        Ruling::Kept => {
+            let h = t.held;
+            let s = run.sheet;
+            Stepped {
+                run: Run {
+                    phase: 0,
+                    held: h,
+                    sheet: s,
+                },
+                reply: Reply::Done,
+            }
+        }
     }
 }
