@@ -1,0 +1,4 @@
+pub mod SlotOrder
+pub mod SurvivorColumns
+pub mod Answered
+pub mod OldNumbers
