@@ -2,6 +2,7 @@
 use mathlib.Core.Path.{_≡_, refl, sym, ap, subst, _∙_}
 use mathlib.Core.Bool.{Bool, true, false, not}
 use mathlib.Core.List.{List}
+use mathlib.Core.Option.{Option, none, some}
 use Prim.Native.Nat.{ℕ}
 use native.Mathlib.Omega.{arith}
 use lib.ListN.{length}
@@ -10,10 +11,11 @@ use Rattle.columns.specs.Refusal as verdict
 use Rattle.columns.specs.Refusal.{Verdict}
 use Rattle.columns.specs.declared.refusal.Refusal.{Refusal}
 use Rattle.columns.specs.declared.refusal.Refusal.the-variants.{OutOfTurn}
-use Rattle.cleaning.specs.Step.{Call, takes, resolves, writes, maps, counts, refused, done}
-use Rattle.cleaning.specs.Runs.{RunState, taking, resolved, runOutcome, runStep}
+use Rattle.cleaning.specs.Step.{Call, takes, resolves, writes, maps, counts, refused, done, told, counted}
+use Rattle.cleaning.specs.Runs.{RunState, taking, resolved, runOutcome, runStep, resolveHeld}
 use Rattle.cleaning.specs.Held as held
-use Rattle.cleaning.specs.Held.{holdMore}
+use Rattle.cleaning.specs.Held.{holdMore, archiveHeld}
+use Rattle.cleaning.specs.Cleaning.{mapped, reparented}
 use Rattle.archive.specs.Parse.{parse}
 use Rattle.rules.specs.declared.slots.Ruling.the-variants.{Kept, Broken}
 use Rattle.held.specs.View.{sheetIn, heldIn}
@@ -21,10 +23,16 @@ use Rattle.held.specs.Valid.{sheetOk, heldOk}
 use Rattle.tidying.specs.Ordered.{ordered, filled}
 use Rattle.taking.specs.Took.{TookBy}
 use Rattle.taking.specs.declared.Taken.{Taken}
+use Rattle.resolution.specs.Outcome.{rulesIn, newIn, ResolvedBy}
+use Rattle.resolution.specs.Map.{mappedOf}
+use Rattle.resolution.specs.declared.Resolution.{Resolution}
+use Rattle.resolution.specs.declared.asked.Mapped.{Mapped}
+use Rattle.resolution.specs.declared.asked.Mapped.the-variants.{To, Nothing}
+use Rattle.writing.proofs.Rest.{kept-none, broken-some}
 use Rattle.writing.specs.Answers.{answerOf, Wrote}
 use Rattle.writing.specs.declared.Writing.{Writing}
 use Rattle.writing.specs.declared.Writing.the-variants as writing
-use Rattle.run.specs.View.{view, phased, holdable, isTaking, isResolved}
+use Rattle.run.specs.View.{view, phased, holdable, writable, isTaking, isResolved}
 use Rattle.run.specs.Contracts.{Steps, Writes, Maps, Counts}
 use Rattle.run.specs.declared.Run.{Run}
 use Rattle.run.specs.declared.Reply.the-variants.{Done, Refused}
@@ -60,6 +68,18 @@ module _ (r : Run) {b : Bool} where
     unfolding runStep
     count-early = not-resolved-yet r (sym e ∙ not-true b k) counts refl (λ h. refl)
 
+-- ── answers as options ───────────────────────────────────────────────────────────────────────
+
+to-some : (o : Option ℕ) (n : ℕ) → mappedOf o ≡ To n → o ≡ some n
+unfolding mappedOf
+to-some none n e = let z : _≡_ {A = ℕ} 0 1 = cc in absurd (omega arith)
+to-some (some m) n e = cc
+
+to-none : (o : Option ℕ) → mappedOf o ≡ Nothing → o ≡ none
+unfolding mappedOf
+to-none none e = refl
+to-none (some m) e = let z : _≡_ {A = ℕ} 0 1 = cc in absurd (omega arith)
+
 -- ── a resolved run ───────────────────────────────────────────────────────────────────────────
 
 module _ (r : Run) {b : Bool} (e : b ≡ isResolved r) (k : not b ≡ false) where
@@ -85,6 +105,18 @@ module _ (r : Run) {b : Bool} (e : b ≡ isResolved r) (k : not b ≡ false) whe
   by-state : (c : Call) (s : RunState) → view r ≡ s → runStep s c ≡ runOutcome s ((runStep s c) .answer) → runStep (view r) c ≡ runOutcome (view r) ((runStep s c) .answer)
   by-state c s v o = subst (λ x. runStep x c ≡ runOutcome x ((runStep s c) .answer)) (sym v) o
 
+  pub map-to : {a : Mapped} (old n : ℕ) → a ≡ mappedOf (mapped (archiveHeld (heldIn (r .held))) old) → a ≡ To n → Maps r old (number.To n)
+  unfolding runStep mappedOf
+  map-to old n m f = by-state (maps old) _ (seen-resolved r is-resolved) refl ∙ ap (λ o. runOutcome (view r) (told o)) (to-some (mapped (archiveHeld (heldIn (r .held))) old) n (sym m ∙ f))
+
+  pub map-nothing : {a : Mapped} (old : ℕ) → a ≡ mappedOf (mapped (archiveHeld (heldIn (r .held))) old) → a ≡ Nothing → Maps r old number.Nothing
+  unfolding runStep mappedOf
+  map-nothing old m f = by-state (maps old) _ (seen-resolved r is-resolved) refl ∙ ap (λ o. runOutcome (view r) (told o)) (to-none (mapped (archiveHeld (heldIn (r .held))) old) (sym m ∙ f))
+
+  pub count-now : {n : ℕ} → n ≡ reparented (archiveHeld (heldIn (r .held))) → Counts r (count.Of n)
+  unfolding runStep
+  count-now f = by-state counts _ (seen-resolved r is-resolved) refl ∙ ap (λ k. runOutcome (view r) (counted k)) (sym f)
+
   pub write-now : {is : List ℕ} {a : Writing} (was : List ℕ) → Wrote (sheetIn (r .sheet)) was is a → Writes r was is a
   unfolding runStep
   write-now {is} {a} was w =
@@ -96,6 +128,12 @@ module _ (r : Run) {b : Bool} (e : b ≡ isResolved r) (k : not b ≡ false) whe
 now-taking : (r : Run) (h : held.Held) → r .phase ≡ 0 → heldIn (r .held) ≡ h → heldOk (r .held) ≡ true → ordered (r .held .sheet) ≡ true → view r ≡ taking h
 unfolding view phased holdable
 now-taking r h p e k o = rw (k, o, p, e)
+
+-- with the survivors' columns it is resolved
+now-resolved : (r : Run) → r .phase ≡ 1 → heldOk (r .held) ≡ true → ordered (r .held .sheet) ≡ true → sheetOk (r .sheet) ≡ true → ordered (r .sheet) ≡ true
+    → filled (r .sheet) ≡ true → view r ≡ resolved (heldIn (r .held)) (sheetIn (r .sheet))
+unfolding view phased holdable writable
+now-resolved r p k o l q f = rw (k, o, p, l, q, f)
 
 -- ── taking ───────────────────────────────────────────────────────────────────────────────────
 
@@ -139,3 +177,19 @@ module _ (r : Run) {b : Bool} (e : b ≡ isTaking r) (k : not b ≡ false) where
             → Steps (takes bytes) r (record { phase = 0; held = t .held; sheet = r .sheet }) Done
         go (verdict.refused y) f n = let z : _≡_ {A = ℕ} 0 1 = cc in absurd (omega arith)
         go (verdict.accepted h) f n = goes (takes bytes) _ (rw f (ap (λ s. runOutcome s done) (sym (now-taking _ h refl (n .1) (n .2) (n .3)))))
+
+-- ── resolving ────────────────────────────────────────────────────────────────────────────────
+
+module _ (r : Run) {b : Bool} (e : b ≡ isTaking r) (k : not b ≡ false) (q : Resolution) (m : ResolvedBy (r .held) q) where
+  pub resolve-refused : (x : Refusal) → q .ruling ≡ Broken x → Steps resolves r r (Refused x)
+  unfolding runStep resolveHeld rulesIn
+  resolve-refused x d = stays r e k resolves x (rw (broken-some (rulesIn (r .held)) x (sym (m .ruled) ∙ d)))
+
+  pub resolve-done : q .ruling ≡ Kept → Steps resolves r (record { phase = 1; held = r .held; sheet = q .sheet }) Done
+  unfolding runStep resolveHeld rulesIn newIn
+  resolve-done d =
+      goes r e k resolves _
+      (rw (kept-none (rulesIn (r .held)) (sym (m .ruled) ∙ d))
+      (ap (λ s. runOutcome s done)
+      (ap (resolved (heldIn (r .held))) (sym (m .view d))
+      ∙ sym (now-resolved _ refl (sources-valid r e k) (sources-order r e k) (m .valid d) (m .inOrder d) (m .whole d)))))

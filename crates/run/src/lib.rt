@@ -4,12 +4,13 @@ mod turns;
 use columns::refusal::Refusal;
 use held::Held;
 use held::Sheet;
+use resolution::asked::Mapped;
 use rules::slots::Ruling;
 ghost use mathlib.Core.Path.{_≡_};
-ghost use Rattle.cleaning.specs.Step.{takes};
+ghost use Rattle.cleaning.specs.Step.{takes, resolves};
 ghost use Rattle.cleaning.specs.Runs.{freshRun};
 ghost use Rattle.run.specs.View.{view};
-ghost use Rattle.run.specs.Contracts.{Steps};
+ghost use Rattle.run.specs.Contracts.{Steps, Maps, Counts};
 
 // The sources taken, and once resolved the survivors.
 pub struct Run {
@@ -87,4 +88,60 @@ pub fn take(run: Run, bytes: &[u8]) -> Stepped
             }
         }
     }
+}
+
+// Ends the taking of sources: the survivors get their new numbers and parents.
+pub fn resolve(run: Run) -> Stepped
+    ensures { λ r. ⌜ Steps resolves run (r .run) (r .reply) ⌝ }
+{
+    if !turns::is_taking(run) {
+        return Stepped {
+            run: run,
+            reply: Reply::Refused(Refusal::OutOfTurn),
+        };
+    }
+    let q = resolution::resolve(run.held);
+    let v = q.ruling;
+    match v {
+        Ruling::Broken(x) => Stepped {
+            run: run,
+            reply: Reply::Refused(x),
+        },
+        Ruling::Kept => {
+            let h = run.held;
+            let s = q.sheet;
+            Stepped {
+                run: Run {
+                    phase: 1,
+                    held: h,
+                    sheet: s,
+                },
+                reply: Reply::Done,
+            }
+        }
+    }
+}
+
+// The new number of an old one, in a resolved run.
+pub fn new_number(run: Run, old: u64) -> Number
+    ensures { λ r. ⌜ Maps run old r ⌝ }
+{
+    if !turns::is_resolved(run) {
+        return Number::Refused(Refusal::OutOfTurn);
+    }
+    let m = resolution::asked::new_number(run.held, old);
+    match m {
+        Mapped::To(n) => Number::To(n),
+        Mapped::Nothing => Number::Nothing,
+    }
+}
+
+// How many survivors name an erased parent, in a resolved run.
+pub fn reparented(run: Run) -> Count
+    ensures { λ r. ⌜ Counts run r ⌝ }
+{
+    if !turns::is_resolved(run) {
+        return Count::Refused(Refusal::OutOfTurn);
+    }
+    Count::Of(resolving::asked::reparented(run.held))
 }
