@@ -1,0 +1,2 @@
+pub mod SetSizes
+pub mod GroupGraphs

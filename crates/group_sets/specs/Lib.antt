@@ -1,0 +1,2 @@
+pub mod ByVerdict
+pub mod ColumnGraphs
