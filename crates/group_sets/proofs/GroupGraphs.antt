@@ -2,29 +2,28 @@
 use mathlib.Core.Path.{_≡_, refl, sym, _∙_, ap, ap₂}
 use mathlib.Core.Bool.{Bool, true, false}
 use mathlib.Core.List.{List, [], _∷_, _++_, map, map-map}
-use mathlib.Core.Option.{Option, none, some}
+use mathlib.Core.Option.{none, some}
 use Prim.Native.Nat.{ℕ, suc, _+_, _-_, _*_, _≤_, _<_}
 use native.Mathlib.Numerals.{add-one}
 use native.Mathlib.Omega.{arith}
 use native.Mathlib.Nat.{zero-add}
-use lib.Dec.{leb, ltb}
-use lib.ListN.{length, getD, set, take, drop, length-map, replicate, length-replicate, replicate-append-replicate, length-take, length-drop}
+use lib.Dec.{leb}
+use lib.ListN.{length, getD, set, take, drop, replicate, length-replicate, replicate-append-replicate, length-take, length-drop}
 use lib.Seq.{take-at, take-suc, take-suc-set, getD-take, length-take-le}
 use borrow.Author.Tests.{leb-true, ltb-true, eq-eqb, ne-eqb}
 use Rattle.lists.specs.Lists.{flat, joined, starts, part, upFrom}
 use Rattle.lists.proofs.Tests.{both}
 use Rattle.lists.proofs.Each.{each-imp}
 use Rattle.lists.proofs.Pairs.{each-upFrom}
-use Rattle.lists.proofs.Flat.{flat-ext, length-upFrom, length-map-upFrom, getD-map-upFrom}
+use Rattle.lists.proofs.Flat.{flat-ext, length-map-upFrom, getD-map-upFrom}
 use Rattle.columns.specs.Limits.{maxRecords, maxGroups, maxSubject, end64}
-use Rattle.columns.specs.EdgeSet.{offsetsForm, cut}
-use Rattle.columns.specs.Reading.{Label, Labels}
-use Rattle.columns.specs.Building.{UnresolvedColumns, Depth}
+use Rattle.columns.specs.EdgeSet.{cut}
+use Rattle.columns.specs.Reading.{Label}
 use Rattle.records.specs.Recorded.{depthOf, labelsGiven}
 use Rattle.records.specs.declared.groups.Depth as given
 use Rattle.records.specs.declared.groups.Depth.the-variants.{Unknown, Between}
 use Rattle.archive.specs.File.{Unresolved}
-use Rattle.cleaning.specs.Writing.{Edge, labelList, labelColumns, inboundColumns, unresolvedColumns}
+use Rattle.cleaning.specs.Writing.{labelList, labelColumns, inboundColumns, unresolvedColumns}
 use Rattle.cleaning.specs.Sheet.{rowCount, parentsAt}
 use Rattle.cleaning.specs.Held.{noFacts}
 use Rattle.cleaning.specs.Sections.{Tidy, factsOf, labelsWhere, sectionStart, sectionRows, sectionEdges, sectionLabels, sectionUnresolved, sectionGraph, rowEdges, otherRows}

@@ -12,10 +12,10 @@ use lib.Seq.{sets, sets-eq, take-at, drop-drop}
 use Rattle.lists.specs.Lists.{flat, filter, joined, starts, part, upFrom}
 use Rattle.lists.proofs.Tests.{tested}
 use Rattle.lists.proofs.Flat.{flat-append, joined-append, length-starts}
-use Rattle.columns.specs.Refusal.{Verdict, refused, accepted, unless}
+use Rattle.columns.specs.Refusal.{unless}
 use Rattle.columns.specs.EdgeSet.{EdgeSet, offsetsForm, cut, setOf}
 use Rattle.columns.specs.Reading.{Labels}
-use Rattle.columns.specs.Building.{UnresolvedColumns, Depth, Graph, Built, inFile, reverseLists, inboundLists, forwardPart, reversePart, inboundPart, buildRules, builtOf}
+use Rattle.columns.specs.Building.{UnresolvedColumns, Depth, Built, inFile, reverseLists, inboundLists, forwardPart, reversePart, inboundPart, buildRules, builtOf}
 use Rattle.columns.specs.declared.refusal.Refusal.{Refusal}
 use Rattle.columns.proofs.Offsets.{form-climbs}
 use Rattle.columns.proofs.ReadBack.{set-count, cut-joined}
@@ -33,10 +33,9 @@ use Rattle.cleaning.specs.Writing.{Edge, edgesInto, inboundColumns}
 use Rattle.cleaning.proofs.Parts.{length-part, parts-from}
 use Rattle.sections.specs.Laid.{edgesOfRow}
 use Rattle.section_sets.specs.Parted.{partGraph, judged, Answers}
-use Rattle.out_file.specs.declared.Set.{Set}
 use Rattle.out_file.specs.declared.Sets.{Sets}
 use Rattle.out_file.specs.View.{setIn, builtIn}
-use Rattle.group_sets.specs.ByVerdict.{Holds, SetsBy}
+use Rattle.group_sets.specs.ByVerdict.{SetsBy}
 
 -- ── no more edges than numbers ───────────────────────────────────────────────────────────────
 
@@ -123,12 +122,6 @@ set-sized first n lists e h =
 
 module _ (subject : List ℕ) (start total : ℕ) (offsets targets : List ℕ) (records : UnresolvedColumns) (depth : Option Depth) (labels : Option Labels) (a n : ℕ)
     (h : a + n ≤ total) (small : length targets ≤ 4096) (ok : offsetsForm total (length targets) offsets ≡ true) where
-  lists : List (List ℕ)
-  lists = cut offsets targets
-
-  own : List (List ℕ)
-  own = part (2 * a) (2 * n) (cut offsets targets)
-
   all-few : length (joined (cut offsets targets)) ≤ 4096
   all-few = omega (arith, cut-fewer (length targets) offsets targets (form-climbs total (length targets) offsets ok))
 

@@ -78,7 +78,26 @@ fn build_sets(
     let mut io = [0u64; 2049];
     let mut id = [0i64; 4096];
     let e = build_part(
-        subject, start, total, offsets, targets, children, kinds, flags, depth, labelled, chains, seqs, a, n, &mut fo, &mut fd, &mut ro, &mut rd, &mut io, &mut id,
+        subject,
+        start,
+        total,
+        offsets,
+        targets,
+        children,
+        kinds,
+        flags,
+        depth,
+        labelled,
+        chains,
+        seqs,
+        a,
+        n,
+        &mut fo,
+        &mut fd,
+        &mut ro,
+        &mut rd,
+        &mut io,
+        &mut id,
     );
     match e {
         Encoded::Refused(x) => GroupSets {
@@ -205,7 +224,18 @@ fn build_group(s: Sheet, u: Unresolved, g: usize, a: usize, n: usize) -> GroupSe
     let depth = depth_at(s.groups, g);
     let labelled = is_covered(s.groups, g);
     let kinds = wide_kinds(u);
-    build_rows(s.subject, s.start, s.rows, s.edges, u, kinds, depth, labelled, a, n)
+    build_rows(
+        s.subject,
+        s.start,
+        s.rows,
+        s.edges,
+        u,
+        kinds,
+        depth,
+        labelled,
+        a,
+        n,
+    )
 }
 
 // Group g, whose n rows stand from row a on and whose unresolved records are given.

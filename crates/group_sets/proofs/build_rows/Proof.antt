@@ -1,122 +1,94 @@
+-- `group_sets::build_rows` meets its contract: each column is lent up to its count.
 use Rattle.held.proofs.ColumnTurns.{table-count, form-cut}
 use Rattle.group_sets.proofs.GroupGraphs.{prefix-count, prefix-few, part-few, rows-built}
 use borrow.Author.Needs.{needs}
 use Rattle.group_sets.proofs.build_rows.Statement.{statement}
 use Rattle.group_sets.proofs.build_rows.Tie as tie
-use Rattle.group_sets.proofs.build_rows.Reads as reads
-use Rattle.group_sets.proofs.build_rows.Lts as lts
-use Rattle.group_sets.proofs.build_sets.Reads as build-sets-reads
 
--- src/lib.rt:143:13
 mul-k : tie.Need-mul-k
 mul-k c = search needs
 
--- src/lib.rt:143:13
 add-k : tie.Need-add-k
 add-k c = search needs
 
--- src/lib.rt:144:13
 add-b : tie.Need-add-b
 add-b c = search needs
 
--- src/lib.rt:146:9
 array-share-prefix-bytes : tie.Need-array-share-prefix-bytes
 array-share-prefix-bytes c = search needs
 
--- src/lib.rt:146:9
 slice-aggregate-build-sets : tie.Need-slice-aggregate-build-sets
 slice-aggregate-build-sets c = search prefix-count
 
--- src/lib.rt:149:9
 array-share-prefix-offsets : tie.Need-array-share-prefix-offsets
 array-share-prefix-offsets c = search needs
 
--- src/lib.rt:149:9
 slice-aggregate-build-sets-2 : tie.Need-slice-aggregate-build-sets-2
 slice-aggregate-build-sets-2 c = search table-count
 
--- src/lib.rt:150:9
 array-share-prefix-targets : tie.Need-array-share-prefix-targets
 array-share-prefix-targets c = search needs
 
--- src/lib.rt:150:9
 slice-aggregate-build-sets-3 : tie.Need-slice-aggregate-build-sets-3
 slice-aggregate-build-sets-3 c = search prefix-count
 
--- src/lib.rt:151:9
 array-share-prefix-children : tie.Need-array-share-prefix-children
 array-share-prefix-children c = search needs
 
--- src/lib.rt:151:9
 slice-aggregate-build-sets-4 : tie.Need-slice-aggregate-build-sets-4
 slice-aggregate-build-sets-4 c = search prefix-count
 
--- src/lib.rt:152:9
 array-share-prefix-kinds : tie.Need-array-share-prefix-kinds
 array-share-prefix-kinds c = search needs
 
--- src/lib.rt:152:9
 slice-aggregate-build-sets-5 : tie.Need-slice-aggregate-build-sets-5
 slice-aggregate-build-sets-5 c = search prefix-count
 
--- src/lib.rt:153:9
 array-share-prefix-flags : tie.Need-array-share-prefix-flags
 array-share-prefix-flags c = search needs
 
--- src/lib.rt:153:9
 slice-aggregate-build-sets-6 : tie.Need-slice-aggregate-build-sets-6
 slice-aggregate-build-sets-6 c = search prefix-count
 
--- src/lib.rt:156:9
 mul-build-sets : tie.Need-mul-build-sets
 mul-build-sets c = search needs
 
--- src/lib.rt:156:9
 sub-build-sets : tie.Need-sub-build-sets
 sub-build-sets c = search needs
 
--- src/lib.rt:156:9
 part-build-sets-start : tie.Need-part-build-sets-start
 part-build-sets-start c = search needs
 
--- src/lib.rt:156:9
 part-build-sets-end : tie.Need-part-build-sets-end
 part-build-sets-end c = search needs
 
--- src/lib.rt:157:9
 mul-build-sets-2 : tie.Need-mul-build-sets-2
 mul-build-sets-2 c = search needs
 
--- src/lib.rt:157:9
 sub-build-sets-2 : tie.Need-sub-build-sets-2
 sub-build-sets-2 c = search needs
 
--- src/lib.rt:157:9
 part-build-sets-start-2 : tie.Need-part-build-sets-start-2
 part-build-sets-start-2 c = search needs
 
--- src/lib.rt:157:9
 part-build-sets-end-2 : tie.Need-part-build-sets-end-2
 part-build-sets-end-2 c = search needs
 
--- src/lib.rt:145:5
 build-sets-requires : tie.Need-build-sets-requires
-build-sets-requires c κs =
-    (
-      search needs,
-      (
-        (search prefix-few, search form-cut),
-        record {
-          children-few = search prefix-few;
-          kinds-few = search prefix-few;
-          flags-few = search prefix-few;
-          chains-few = search part-few;
-          seqs-few = search part-few;
-        },
-      ),
-    )
+build-sets-requires c κs = (
+  search needs,
+  (
+    (search prefix-few, search form-cut),
+    record {
+      children-few = search prefix-few;
+      kinds-few = search prefix-few;
+      flags-few = search prefix-few;
+      chains-few = search part-few;
+      seqs-few = search part-few;
+    },
+  ),
+)
 
--- src/lib.rt:115:1
 returns : tie.Need-returns
 returns c =
     let s = c .before .before .before .before .before .before .before .before .before .before .before .before .before .before .before .before .before in

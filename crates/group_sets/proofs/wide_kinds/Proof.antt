@@ -1,3 +1,4 @@
+-- `group_sets::wide_kinds` meets its contract. The loop's invariant: the kinds passed stand in the wider column.
 use mathlib.Core.Path.{_≡_}
 use Prim.Native.Nat.{_-_, _≤_}
 use lib.ListN.{length, take}
@@ -5,9 +6,6 @@ use Rattle.group_sets.proofs.GroupGraphs.{kind-copied, kinds-copied}
 use borrow.Author.Needs.{needs}
 use Rattle.group_sets.proofs.wide_kinds.Statement.{statement}
 use Rattle.group_sets.proofs.wide_kinds.Tie as tie
-use Rattle.group_sets.proofs.wide_kinds.Reads as reads
-use Rattle.group_sets.proofs.wide_kinds.Lts as lts
-use Rattle.bigend.proofs.wide.Reads as wide-reads
 
 abbrev Inv-loop : tie.InvT-loop
 Inv-loop u out₀ i₀ out i = (i ≤ u .count) × (length out ≡ 1024) × (take i out ≡ take i (u .kinds))
@@ -15,39 +13,30 @@ Inv-loop u out₀ i₀ out i = (i ≤ u .count) × (length out ≡ 1024) × (tak
 abbrev μ-loop : tie.MeasureT-loop
 μ-loop u out₀ i₀ out i = u .count - i
 
--- src/lib.rt:136:5
 loop-holds : tie.Need-loop-holds Inv-loop μ-loop
 loop-holds c = search needs
 
--- src/lib.rt:137:23
 element-copy-out-wide : tie.Need-element-copy-out-wide Inv-loop μ-loop
 element-copy-out-wide c = search needs
 
--- src/lib.rt:137:18
 wide-requires : tie.Need-wide-requires Inv-loop μ-loop
 wide-requires c κs = search needs
 
--- src/lib.rt:137:9
 mul-out : tie.Need-mul-out Inv-loop μ-loop
 mul-out c = search needs
 
--- src/lib.rt:137:9
 array-write-out : tie.Need-array-write-out Inv-loop μ-loop
 array-write-out c = search needs
 
--- src/lib.rt:138:9
 add-i : tie.Need-add-i Inv-loop μ-loop
 add-i c = search needs
 
--- src/lib.rt:136:5
 loop-less : tie.Need-loop-less Inv-loop μ-loop
 loop-less c = search needs
 
--- src/lib.rt:136:5
 loop-again : tie.Need-loop-again Inv-loop μ-loop
 loop-again c = search (needs, kind-copied)
 
--- src/lib.rt:130:1
 returns : tie.Need-returns Inv-loop μ-loop
 returns c = search (needs, kinds-copied)
 
