@@ -95,7 +95,8 @@ returns c =
     let few = s .pre .1 .1 .0 .0 in
     let long = s .pre .1 .1 .0 .1 .0 in
     let kinds-are = s .pre .1 .1 .0 .1 .1 .1 in
-    rows-built _ _ _ _ _ _ _ _ _ _ _ few long kinds-are (c .build-sets .ensures)
+    let done = c .build-sets .ensures in
+    search rows-built
 
 pub build-rows-spec : {M : Type 1} → statement M
 build-rows-spec =
