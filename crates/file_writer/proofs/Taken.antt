@@ -1,0 +1,273 @@
+-- Columns up to their counts: what a record is made of is what the file lists.
+use mathlib.Core.Path.{_≡_, refl, sym, ap, ap₂, _∙_}
+use mathlib.Core.Bool.{true, false}
+use mathlib.Core.List.{List, [], _∷_, map}
+use Prim.Native.Nat.{ℕ, zero, suc, _+_, _*_, _^_, _≤_, _<_}
+use native.Mathlib.Omega.{arith}
+use lib.ListN.{length, getD, take, replicate, length-replicate}
+use lib.Seq.{sets, length-take-le}
+use Rattle.lists.specs.Lists.{upFrom, flat}
+use Rattle.columns.specs.Limits.{kinds, maxRecords, maxNumbers, maxSubject, offsetsRoom}
+use Rattle.archive.specs.Encode.{recordBytes, headFields, setsBytes, rowBytes, unresolvedBytes, rootBytes, coverBytes, countedBytes, coverRecord}
+use Rattle.archive_stores.specs.Lent.{zip2, zip3, headFrom, setFrom, rowFrom, unresolvedFrom, rootFrom, rangeFrom, linksFrom, coverFrom}
+use Rattle.archive_records.specs.Sizes.{headSize, setsSize, rowsSize, unresolvedSize, rootsSize, coverBody}
+use Rattle.archive_sizes.specs.FileSize.{edgesSize, coverRecordSize}
+use Rattle.cleaning.specs.Sections.{unerasedRow}
+use Rattle.held.specs.declared.Subject.{Subject}
+use Rattle.held.specs.declared.Unresolved.{Unresolved}
+use Rattle.held.specs.declared.Roots.{Roots}
+use Rattle.held.specs.View.{listed, unresolvedAt, rootAt}
+use Rattle.out_file.specs.declared.Head.{Head}
+use Rattle.out_file.specs.declared.Set.{Set}
+use Rattle.out_file.specs.declared.Sets.{Sets}
+use Rattle.out_file.specs.declared.Labels.{Labels}
+use Rattle.out_file.specs.declared.Ranges.{Ranges}
+use Rattle.out_file.specs.declared.Links.{Links}
+use Rattle.out_file.specs.declared.Cover.{Cover}
+use Rattle.out_file.specs.View.{subjectIn, depthIn, setIn, rangeAt, rangesIn, linksIn, coverIn}
+use Rattle.file_writer.specs.Long.{LongSet, LongSets, LongUnresolved, LongRoots, LongLabels, LongRanges, LongLinks}
+use Rattle.file_writer.specs.Flags.{unflagged}
+
+-- ── how many are taken ───────────────────────────────────────────────────────────────────────
+
+count-of : {A : Type 0} (n m : ℕ) (l : List A) → n ≤ m → length l ≡ m → length (take n l) ≡ n
+count-of n m l h e = length-take-le n l (omega arith)
+
+pub taken : {A : Type 0} (n m : ℕ) (l : List A) → n ≤ m → length l ≡ m → n ≡ length (take n l)
+taken n m l h e = sym (count-of n m l h e)
+
+table-of : (n : ℕ) (l : List ℕ) → n ≤ maxRecords → length l ≡ offsetsRoom → length (take (2 * n + 1) l) ≡ 2 * n + 1
+table-of n l h e = count-of (2 * n + 1) offsetsRoom l (omega arith) e
+
+pub table-taken : (n : ℕ) (l : List ℕ) → n ≤ maxRecords → length l ≡ offsetsRoom → 2 * n + 1 ≡ length (take (2 * n + 1) l)
+table-taken n l h e = sym (table-of n l h e)
+
+pub even : (n m : ℕ) (xs ys : List ℕ) → n ≤ m → length xs ≡ m → length ys ≡ m → length (take n xs) ≡ length (take n ys)
+even n m xs ys h x y = count-of n m xs h x ∙ taken n m ys h y
+
+-- ── columns side by side ─────────────────────────────────────────────────────────────────────
+
+module _ {A : Type 0} where
+  zip3-places : (f : ℕ → ℕ → ℕ → A) (g : ℕ → A) (n i : ℕ) (xs ys zs : List ℕ) → n ≤ length xs → n ≤ length ys → n ≤ length zs
+      → ((j : ℕ) → g (i + j) ≡ f (getD xs j 0) (getD ys j 0) (getD zs j 0)) → zip3 f (take n xs) (take n ys) (take n zs) ≡ map g (upFrom i n)
+  unfolding zip3 upFrom
+  zip3-places f g zero i xs ys zs a b c h = refl
+  zip3-places f g (suc n) i [] ys zs a b c h = absurd (omega arith)
+  zip3-places f g (suc n) i (x ∷ xs) [] zs a b c h = absurd (omega arith)
+  zip3-places f g (suc n) i (x ∷ xs) (y ∷ ys) [] a b c h = absurd (omega arith)
+  zip3-places f g (suc n) i (x ∷ xs) (y ∷ ys) (z ∷ zs) a b c h =
+      let e : i ≡ i + 0 = omega arith in
+      ap₂ (λ u us. u ∷ us) (sym (ap g e ∙ h 0))
+      (zip3-places f g n (suc i) xs ys zs (omega arith) (omega arith) (omega arith) (λ j. let k : suc i + j ≡ i + suc j = omega arith in ap g k ∙ h (suc j)))
+
+  -- two columns as three, the second twice
+  zip2-zip3 : (f : ℕ → ℕ → A) (xs ys : List ℕ) → zip2 f xs ys ≡ zip3 (λ x y z. f x y) xs ys ys
+  unfolding zip2 zip3
+  zip2-zip3 f [] ys = refl
+  zip2-zip3 f (x ∷ xs) [] = refl
+  zip2-zip3 f (x ∷ xs) (y ∷ ys) = ap (λ us. f x y ∷ us) (zip2-zip3 f xs ys)
+
+  zip3-listed : (f : ℕ → ℕ → ℕ → A) (g : ℕ → A) (n : ℕ) (xs ys zs : List ℕ) → n ≤ length xs → n ≤ length ys → n ≤ length zs
+      → ((j : ℕ) → g j ≡ f (getD xs j 0) (getD ys j 0) (getD zs j 0)) → zip3 f (take n xs) (take n ys) (take n zs) ≡ listed g n
+  zip3-listed f g n xs ys zs a b c h = zip3-places f g n 0 xs ys zs a b c (λ j. let z : 0 + j ≡ j = omega arith in ap g z ∙ h j)
+
+-- ── 1 file ───────────────────────────────────────────────────────────────────────────────────
+
+module _ (s : Subject) (at : ℕ) (h : s .length ≤ maxSubject) (e : length (s .bytes) ≡ maxSubject) where
+  pub head-room : (o : ℕ) → at + headSize (s .length) ≤ o → at + headSize (length (take (s .length) (s .bytes))) ≤ o
+  head-room o k = rw (count-of (s .length) maxSubject (s .bytes) h e) k
+
+  pub head-short : length (take (s .length) (s .bytes)) < 256
+  head-short = omega (arith, count-of (s .length) maxSubject (s .bytes) h e)
+
+  pub head-end : {r : ℕ} → r ≡ at + headSize (length (take (s .length) (s .bytes))) → r ≡ at + headSize (s .length)
+  head-end k = k ∙ rw (count-of (s .length) maxSubject (s .bytes) h e)
+
+pub head-put : {k : List ℕ} (l : List ℕ) (at rows : ℕ) (h : Head) (s : Subject)
+    → k ≡ sets l at (recordBytes 1 (headFrom (record { first = h .first; rows = rows; group = h .group; known = h .known; least = h .least; greatest = h .greatest }) (take (s .length) (s .bytes))))
+    → k ≡ sets l at (recordBytes 1 (headFields (h .first) rows (h .group) (subjectIn s) (depthIn h)))
+unfolding headFrom subjectIn depthIn
+head-put l at rows h s e = e
+
+-- ── 2 edges ──────────────────────────────────────────────────────────────────────────────────
+
+module _ (n : ℕ) (s : Set) (long : LongSet s) where
+  set-taken : s .count ≤ maxNumbers → setFrom (take (kinds * n + 1) (s .offsets)) (take (s .count) (s .deltas)) ≡ setIn n s
+  unfolding setIn
+  set-taken h = rw (count-of (s .count) maxNumbers (s .deltas) h (long .deltas))
+
+abbrev pub takenSize : ℕ → Sets → ℕ
+takenSize n s =
+    setsSize (length (take (2 * n + 1) (s .forward .offsets))) (length (take (s .forward .count) (s .forward .deltas)))
+    (length (take (2 * n + 1) (s .reverse .offsets))) (length (take (s .reverse .count) (s .reverse .deltas)))
+    (length (take (2 * n + 1) (s .inbound .offsets))) (length (take (s .inbound .count) (s .inbound .deltas)))
+
+module _ (n : ℕ) (s : Sets) (at : ℕ) (h : n ≤ maxRecords) (long : LongSets s) (a : s .forward .count ≤ maxNumbers) (b : s .reverse .count ≤ maxNumbers) (c : s .inbound .count ≤ maxNumbers) where
+  taken-size : 6 + takenSize n s ≡ edgesSize n (s .forward .count) (s .reverse .count) (s .inbound .count)
+  taken-size =
+      rw (
+        table-of n (s .forward .offsets) h (long .forward .offsets),
+        count-of (s .forward .count) maxNumbers (s .forward .deltas) a (long .forward .deltas),
+        table-of n (s .reverse .offsets) h (long .reverse .offsets),
+        count-of (s .reverse .count) maxNumbers (s .reverse .deltas) b (long .reverse .deltas),
+        table-of n (s .inbound .offsets) h (long .inbound .offsets),
+        count-of (s .inbound .count) maxNumbers (s .inbound .deltas) c (long .inbound .deltas),
+      )
+
+  pub edges-room : (o : ℕ) → at + edgesSize n (s .forward .count) (s .reverse .count) (s .inbound .count) ≤ o → at + (6 + takenSize n s) ≤ o
+  edges-room o k = rw taken-size k
+
+  pub edges-short : 2 + takenSize n s < 2 ^ 32
+  edges-short = omega (arith, taken-size)
+
+  pub edges-end : {r : ℕ} → r ≡ at + (6 + takenSize n s) → r ≡ at + edgesSize n (s .forward .count) (s .reverse .count) (s .inbound .count)
+  edges-end k = k ∙ ap (λ m. at + m) taken-size
+
+  pub edges-put : {k : List ℕ} (l : List ℕ)
+      → k ≡ sets l at (recordBytes 2 (setsBytes (setFrom (take (2 * n + 1) (s .forward .offsets)) (take (s .forward .count) (s .forward .deltas)))
+      (setFrom (take (2 * n + 1) (s .reverse .offsets)) (take (s .reverse .count) (s .reverse .deltas)))
+      (setFrom (take (2 * n + 1) (s .inbound .offsets)) (take (s .inbound .count) (s .inbound .deltas)))))
+      → k ≡ sets l at (recordBytes 2 (setsBytes (setIn n (s .forward)) (setIn n (s .reverse)) (setIn n (s .inbound))))
+  edges-put l e =
+      e ∙ rw (set-taken n (s .forward) (long .forward) a, set-taken n (s .reverse) (long .reverse) b, set-taken n (s .inbound) (long .inbound) c)
+
+-- ── 3 rows ───────────────────────────────────────────────────────────────────────────────────
+
+rows-unerased : (n m : ℕ) (ts : List ℕ) → n ≤ m → zip2 rowFrom (take n (replicate m 0)) (take n ts) ≡ map unerasedRow (take n ts)
+unfolding zip2 rowFrom
+rows-unerased zero m ts h = refl
+rows-unerased (suc n) zero ts h = absurd (omega arith)
+rows-unerased (suc n) (suc m) [] h = refl
+rows-unerased (suc n) (suc m) (t ∷ ts) h = ap (λ rs. unerasedRow t ∷ rs) (rows-unerased n m ts (omega arith))
+
+module _ (n at : ℕ) (ts zs : List ℕ) (h : n ≤ maxRecords) (e : length ts ≡ maxRecords) (z : zs ≡ unflagged) where
+  pub flags-fit : n ≤ length zs
+  unfolding unflagged
+  flags-fit = omega (arith, ap length z ∙ length-replicate {A = ℕ} maxRecords 0)
+
+  pub flags-taken : n ≡ length (take n zs)
+  flags-taken = sym (length-take-le n zs flags-fit)
+
+  pub rows-even : length (take n zs) ≡ length (take n ts)
+  rows-even = length-take-le n zs flags-fit ∙ taken n maxRecords ts h e
+
+  pub rows-put : {k : List ℕ} (l : List ℕ) → k ≡ sets l at (recordBytes 3 (flat rowBytes (zip2 rowFrom (take n zs) (take n ts))))
+      → k ≡ sets l at (recordBytes 3 (flat rowBytes (map unerasedRow (take n ts))))
+  unfolding unflagged
+  rows-put l d = d ∙ ap (λ rs. sets l at (recordBytes 3 (flat rowBytes rs))) (ap (λ fs. zip2 rowFrom (take n fs) (take n ts)) z ∙ rows-unerased n maxRecords ts h)
+
+module _ (n at : ℕ) (ts : List ℕ) (h : n ≤ maxRecords) (e : length ts ≡ maxRecords) where
+  pub rows-room : (o : ℕ) → at + rowsSize n ≤ o → at + rowsSize (length (take n ts)) ≤ o
+  rows-room o k = rw (count-of n maxRecords ts h e) k
+
+  pub rows-short : 2 + length (take n ts) * 9 < 2 ^ 32
+  rows-short = omega (arith, count-of n maxRecords ts h e)
+
+  pub rows-end : {r : ℕ} → r ≡ at + rowsSize (length (take n ts)) → r ≡ at + rowsSize n
+  rows-end k = k ∙ rw (count-of n maxRecords ts h e)
+
+  -- ── 4 unresolved, 5 roots ──────────────────────────────────────────────────────────────────
+
+  pub unresolved-room : (o : ℕ) → at + unresolvedSize n ≤ o → at + unresolvedSize (length (take n ts)) ≤ o
+  unresolved-room o k = rw (count-of n maxRecords ts h e) k
+
+  pub unresolved-short : 2 + (4 + length (take n ts) * 13) < 2 ^ 32
+  unresolved-short = omega (arith, count-of n maxRecords ts h e)
+
+  pub unresolved-end : {r : ℕ} → r ≡ at + unresolvedSize (length (take n ts)) → r ≡ at + unresolvedSize n
+  unresolved-end k = k ∙ rw (count-of n maxRecords ts h e)
+
+  pub roots-room : (o : ℕ) → at + rootsSize n ≤ o → at + rootsSize (length (take n ts)) ≤ o
+  roots-room o k = rw (count-of n maxRecords ts h e) k
+
+  pub roots-short : 2 + (4 + length (take n ts) * 16) < 2 ^ 32
+  roots-short = omega (arith, count-of n maxRecords ts h e)
+
+  pub roots-end : {r : ℕ} → r ≡ at + rootsSize (length (take n ts)) → r ≡ at + rootsSize n
+  roots-end k = k ∙ rw (count-of n maxRecords ts h e)
+
+pub unresolved-put : {k : List ℕ} (l : List ℕ) (at : ℕ) (u : Unresolved) → u .count ≤ maxRecords → LongUnresolved u
+    → k ≡ sets l at (recordBytes 4 (countedBytes unresolvedBytes (zip3 unresolvedFrom (take (u .count) (u .children)) (take (u .count) (u .kinds)) (take (u .count) (u .handles)))))
+    → k ≡ sets l at (recordBytes 4 (countedBytes unresolvedBytes (listed (unresolvedAt u) (u .count))))
+unfolding unresolvedFrom unresolvedAt
+unresolved-put l at u h long e =
+    e
+    ∙ ap (λ us. sets l at (recordBytes 4 (countedBytes unresolvedBytes us)))
+    (zip3-listed unresolvedFrom (unresolvedAt u) (u .count) (u .children) (u .kinds) (u .handles) (omega arith) (omega arith) (omega arith) (λ j. refl))
+
+pub roots-put : {k : List ℕ} (l : List ℕ) (at : ℕ) (t : Roots) → t .count ≤ maxRecords → LongRoots t
+    → k ≡ sets l at (recordBytes 5 (countedBytes rootBytes (zip2 rootFrom (take (t .count) (t .rows)) (take (t .count) (t .handles)))))
+    → k ≡ sets l at (recordBytes 5 (countedBytes rootBytes (listed (rootAt t) (t .count))))
+unfolding rootFrom rootAt
+roots-put l at t h long e =
+    e
+    ∙ ap (λ ts. sets l at (recordBytes 5 (countedBytes rootBytes ts)))
+    (zip2-zip3 rootFrom (take (t .count) (t .rows)) (take (t .count) (t .handles))
+    ∙ zip3-listed (λ x y z. rootFrom x y) (rootAt t) (t .count) (t .rows) (t .handles) (t .handles) (omega arith) (omega arith) (omega arith) (λ j. refl))
+
+-- ── 6 cover ──────────────────────────────────────────────────────────────────────────────────
+
+ranges-taken : (r : Ranges) → r .count ≤ maxRecords → LongRanges r
+    → zip3 rangeFrom (take (r .count) (r .ids)) (take (r .count) (r .minima)) (take (r .count) (r .maxima)) ≡ rangesIn r
+unfolding rangeFrom rangeAt rangesIn
+ranges-taken r h long = zip3-listed rangeFrom (rangeAt r) (r .count) (r .ids) (r .minima) (r .maxima) (omega arith) (omega arith) (omega arith) (λ j. refl)
+
+abbrev pub takenBody : ℕ → Labels → Ranges → Links → ℕ
+takenBody n l r k =
+    coverBody (length (take n (l .chains))) (length (take n (l .seqs))) (length (take (r .count) (r .ids))) (length (take (k .count) (k .from .chains)))
+    (length (take (k .count) (k .from .seqs))) (length (take (k .count) (k .to .chains))) (length (take (k .count) (k .to .seqs)))
+
+module _ (n : ℕ) (l : Labels) (r : Ranges) (k : Links) (at : ℕ) (h : n ≤ maxRecords) (i : r .count ≤ maxRecords) (j : k .count ≤ maxRecords) (x : LongLabels l) (y : LongRanges r) (z : LongLinks k) where
+  taken-body : takenBody n l r k ≡ coverBody n n (r .count) (k .count) (k .count) (k .count) (k .count)
+  taken-body =
+      rw (
+        count-of n maxRecords (l .chains) h (x .chains),
+        count-of n maxRecords (l .seqs) h (x .seqs),
+        count-of (r .count) maxRecords (r .ids) i (y .ids),
+        count-of (k .count) maxRecords (k .from .chains) j (z .from .chains),
+        count-of (k .count) maxRecords (k .from .seqs) j (z .from .seqs),
+        count-of (k .count) maxRecords (k .to .chains) j (z .to .chains),
+        count-of (k .count) maxRecords (k .to .seqs) j (z .to .seqs),
+      )
+
+  pub cover-room : (o : ℕ) → at + (6 + coverBody n n (r .count) (k .count) (k .count) (k .count) (k .count)) ≤ o → at + (6 + takenBody n l r k) ≤ o
+  cover-room o e = rw taken-body e
+
+  pub cover-short : 2 + takenBody n l r k < 2 ^ 32
+  cover-short = omega (arith, taken-body)
+
+  pub cover-end : {e : ℕ} → e ≡ at + (6 + takenBody n l r k) → e ≡ at + (6 + coverBody n n (r .count) (k .count) (k .count) (k .count) (k .count))
+  cover-end e = e ∙ ap (λ m. at + (6 + m)) taken-body
+
+  pub columns-put : {e : List ℕ} (o : List ℕ)
+      → e ≡ sets o at (recordBytes 6 (coverBytes (coverFrom (take n (l .chains)) (take n (l .seqs)) (zip3 rangeFrom (take (r .count) (r .ids)) (take (r .count) (r .minima)) (take (r .count) (r .maxima)))
+      (linksFrom (take (k .count) (k .from .chains)) (take (k .count) (k .from .seqs)) (take (k .count) (k .to .chains)) (take (k .count) (k .to .seqs))))))
+      → e ≡ sets o at (recordBytes 6 (coverBytes (coverFrom (take n (l .chains)) (take n (l .seqs)) (rangesIn r) (linksIn k))))
+  unfolding linksIn
+  columns-put o d = d ∙ ap (λ rs. sets o at (recordBytes 6 (coverBytes (coverFrom (take n (l .chains)) (take n (l .seqs)) rs (linksIn k))))) (ranges-taken r i y)
+
+-- with a cover, and without
+module _ (n : ℕ) (c : Cover) (at : ℕ) where
+  pub there-room : (o : ℕ) → c .present ≡ true → at + coverRecordSize (c .present) n (c .ranges .count) (c .links .count) ≤ o
+      → at + (6 + coverBody n n (c .ranges .count) (c .links .count) (c .links .count) (c .links .count) (c .links .count)) ≤ o
+  unfolding coverRecordSize
+  there-room o h k = rw h at k
+
+  pub there-end : {r : ℕ} → c .present ≡ true → r ≡ at + (6 + coverBody n n (c .ranges .count) (c .links .count) (c .links .count) (c .links .count) (c .links .count))
+      → r ≡ at + coverRecordSize (c .present) n (c .ranges .count) (c .links .count)
+  unfolding coverRecordSize
+  there-end h k = k ∙ rw h
+
+  pub there-put : {k : List ℕ} (l : List ℕ) → c .present ≡ true
+      → k ≡ sets l at (recordBytes 6 (coverBytes (coverFrom (take n (c .labels .chains)) (take n (c .labels .seqs)) (rangesIn (c .ranges)) (linksIn (c .links)))))
+      → k ≡ sets l at (coverRecord (coverIn n c))
+  unfolding coverIn
+  there-put l h e = e ∙ rw h
+
+  pub bare-end : c .present ≡ false → at ≡ at + coverRecordSize (c .present) n (c .ranges .count) (c .links .count)
+  unfolding coverRecordSize
+  bare-end h = rw h (omega arith)
+
+  pub bare-put : (l : List ℕ) → c .present ≡ false → l ≡ sets l at (coverRecord (coverIn n c))
+  unfolding coverIn
+  bare-put l h = rw h

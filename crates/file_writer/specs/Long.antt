@@ -1,0 +1,62 @@
+-- How long the columns of a file to be written are.
+use mathlib.Core.Path.{_≡_}
+use lib.ListN.{length}
+use Rattle.columns.specs.Limits.{maxRecords, maxNumbers, maxSubject, offsetsRoom}
+use Rattle.held.specs.declared.Unresolved.{Unresolved}
+use Rattle.held.specs.declared.Roots.{Roots}
+use Rattle.held.specs.declared.Ends.{Ends}
+use Rattle.out_file.specs.declared.Set.{Set}
+use Rattle.out_file.specs.declared.Sets.{Sets}
+use Rattle.out_file.specs.declared.Labels.{Labels}
+use Rattle.out_file.specs.declared.Ranges.{Ranges}
+use Rattle.out_file.specs.declared.Links.{Links}
+use Rattle.out_file.specs.declared.Cover.{Cover}
+use Rattle.out_file.specs.declared.OutFile.{OutFile}
+
+pub record LongSet (s : Set) : Type 0 where
+  pub offsets : length (s .offsets) ≡ offsetsRoom
+  pub deltas : length (s .deltas) ≡ maxNumbers
+
+pub record LongSets (s : Sets) : Type 0 where
+  pub forward : LongSet (s .forward)
+  pub reverse : LongSet (s .reverse)
+  pub inbound : LongSet (s .inbound)
+
+pub record LongUnresolved (u : Unresolved) : Type 0 where
+  pub children : length (u .children) ≡ maxRecords
+  pub kindsGiven : length (u .kinds) ≡ maxRecords
+  pub handles : length (u .handles) ≡ maxRecords
+
+pub record LongRoots (r : Roots) : Type 0 where
+  pub rows : length (r .rows) ≡ maxRecords
+  pub handles : length (r .handles) ≡ maxRecords
+
+pub record LongLabels (l : Labels) : Type 0 where
+  pub chains : length (l .chains) ≡ maxRecords
+  pub seqs : length (l .seqs) ≡ maxRecords
+
+pub record LongRanges (r : Ranges) : Type 0 where
+  pub ids : length (r .ids) ≡ maxRecords
+  pub minima : length (r .minima) ≡ maxRecords
+  pub maxima : length (r .maxima) ≡ maxRecords
+
+pub record LongEnds (e : Ends) : Type 0 where
+  pub chains : length (e .chains) ≡ maxRecords
+  pub seqs : length (e .seqs) ≡ maxRecords
+
+pub record LongLinks (l : Links) : Type 0 where
+  pub from : LongEnds (l .from)
+  pub to : LongEnds (l .to)
+
+pub record LongCover (c : Cover) : Type 0 where
+  pub labels : LongLabels (c .labels)
+  pub ranges : LongRanges (c .ranges)
+  pub links : LongLinks (c .links)
+
+pub record LongFile (f : OutFile) : Type 0 where
+  pub subject : length (f .subject .bytes) ≡ maxSubject
+  pub tags : length (f .rows .tags) ≡ maxRecords
+  pub sets : LongSets (f .sets)
+  pub unresolved : LongUnresolved (f .unresolved)
+  pub roots : LongRoots (f .roots)
+  pub cover : LongCover (f .cover)

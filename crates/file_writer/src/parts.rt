@@ -1,0 +1,172 @@
+// Each of a file's six records, its columns by value, written into lent bytes at a place; answers the place after it.
+use archive_records::record_cover;
+use archive_records::record_edges;
+use archive_records::record_head;
+use archive_records::record_roots;
+use archive_records::record_rows;
+use archive_records::record_unresolved;
+use archive_stores::heads::HeadOut;
+use held::Roots;
+use held::Subject;
+use held::Unresolved;
+use out_file::Cover;
+use out_file::Head;
+use out_file::Labels;
+use out_file::Links;
+use out_file::Ranges;
+use out_file::Sets;
+use out_file::Tags;
+ghost use mathlib.Core.Path.{_≡_};
+ghost use mathlib.Core.List.{map};
+ghost use Prim.Native.Nat.{_+_, _≤_};
+ghost use lib.ListN.{length, take};
+ghost use lib.Seq.{sets};
+ghost use Rattle.lists.specs.Lists.{flat};
+ghost use Rattle.columns.specs.Limits.{maxRecords, maxNumbers, maxSubject};
+ghost use Rattle.archive.specs.Encode.{recordBytes, headFields, setsBytes, rowBytes, unresolvedBytes, rootBytes, coverBytes, countedBytes, coverRecord};
+ghost use Rattle.archive_records.specs.Sizes.{headSize, rowsSize, unresolvedSize, rootsSize, coverBody};
+ghost use Rattle.archive_sizes.specs.FileSize.{edgesSize, coverRecordSize};
+ghost use Rattle.archive_stores.specs.Lent.{coverFrom};
+ghost use Rattle.cleaning.specs.Sections.{unerasedRow};
+ghost use Rattle.held.specs.View.{listed, unresolvedAt, rootAt};
+ghost use Rattle.file_writer.specs.Long.{LongSets, LongUnresolved, LongRoots, LongLabels, LongRanges, LongLinks, LongCover};
+ghost use Rattle.file_writer.specs.Flags.{unflagged};
+ghost use Rattle.out_file.specs.View.{subjectIn, depthIn, setIn, rangesIn, linksIn, coverIn};
+
+// 1: the file's numbers, its subject and its depth.
+pub fn put_head(out: &mut [u8], at: usize, head: Head, subject: Subject, rows: usize) -> usize
+    requires { ⌜ (at + headSize (subject .length) ≤ length (now out)) × (rows ≤ maxRecords) ⌝ }
+    requires { ⌜ (subject .length ≤ maxSubject) × (length (subject .bytes) ≡ maxSubject) ⌝ }
+    ensures { λ _. ⌜ now (out .exit) ≡ sets (now (out .entry)) at (recordBytes 1 (headFields (head .first) rows (head .group) (subjectIn subject) (depthIn head))) ⌝ }
+    ensures { λ r. ⌜ r ≡ at + headSize (subject .length) ⌝ }
+{
+    let h = HeadOut {
+        first: head.first,
+        rows: rows as u32,
+        group: head.group,
+        known: head.known,
+        least: head.least,
+        greatest: head.greatest,
+    };
+    let n = subject.length;
+    let s = subject.bytes;
+    record_head(out, at, h, &s[..n])
+}
+
+// 2: the three sets of n rows.
+pub fn put_edges(out: &mut [u8], at: usize, s: Sets, n: usize) -> usize
+    requires { ⌜ (at + edgesSize n (s .forward .count) (s .reverse .count) (s .inbound .count) ≤ length (now out)) × (n ≤ maxRecords) × LongSets s ⌝ }
+    requires { ⌜ (s .forward .count ≤ maxNumbers) × (s .reverse .count ≤ maxNumbers) × (s .inbound .count ≤ maxNumbers) ⌝ }
+    ensures { λ _. ⌜ now (out .exit) ≡ sets (now (out .entry)) at (recordBytes 2 (setsBytes (setIn n (s .forward)) (setIn n (s .reverse)) (setIn n (s .inbound)))) ⌝ }
+    ensures { λ r. ⌜ r ≡ at + edgesSize n (s .forward .count) (s .reverse .count) (s .inbound .count) ⌝ }
+{
+    let k = 2 * n + 1;
+    let fo = s.forward.offsets;
+    let ro = s.reverse.offsets;
+    let io = s.inbound.offsets;
+    let fd = s.forward.deltas;
+    let rd = s.reverse.deltas;
+    let id = s.inbound.deltas;
+    let f = s.forward.count;
+    let r = s.reverse.count;
+    let i = s.inbound.count;
+    record_edges(
+        out,
+        at,
+        &fo[..k],
+        &fd[..f],
+        &ro[..k],
+        &rd[..r],
+        &io[..k],
+        &id[..i],
+    )
+}
+
+fn unflagged() -> [u8; 1024]
+    ensures { λ r. ⌜ r ≡ unflagged ⌝ }
+{
+    [0u8; 1024]
+}
+
+// 3: rows, of which none is erased.
+pub fn put_rows(out: &mut [u8], at: usize, t: Tags) -> usize
+    requires { ⌜ (at + rowsSize (t .count) ≤ length (now out)) × (t .count ≤ maxRecords) × (length (t .tags) ≡ maxRecords) ⌝ }
+    ensures { λ _. ⌜ now (out .exit) ≡ sets (now (out .entry)) at (recordBytes 3 (flat rowBytes (map unerasedRow (take (t .count) (t .tags))))) ⌝ }
+    ensures { λ r. ⌜ r ≡ at + rowsSize (t .count) ⌝ }
+{
+    let n = t.count;
+    let tags = t.tags;
+    let flags = unflagged();
+    record_rows(out, at, &flags[..n], &tags[..n])
+}
+
+// 4: unresolved references.
+pub fn put_unresolved(out: &mut [u8], at: usize, u: Unresolved) -> usize
+    requires { ⌜ (at + unresolvedSize (u .count) ≤ length (now out)) × (u .count ≤ maxRecords) × LongUnresolved u ⌝ }
+    ensures { λ _. ⌜ now (out .exit) ≡ sets (now (out .entry)) at (recordBytes 4 (countedBytes unresolvedBytes (listed (unresolvedAt u) (u .count)))) ⌝ }
+    ensures { λ r. ⌜ r ≡ at + unresolvedSize (u .count) ⌝ }
+{
+    let n = u.count;
+    let children = u.children;
+    let kinds = u.kinds;
+    let handles = u.handles;
+    record_unresolved(out, at, &children[..n], &kinds[..n], &handles[..n])
+}
+
+// 5: state roots.
+pub fn put_roots(out: &mut [u8], at: usize, t: Roots) -> usize
+    requires { ⌜ (at + rootsSize (t .count) ≤ length (now out)) × (t .count ≤ maxRecords) × LongRoots t ⌝ }
+    ensures { λ _. ⌜ now (out .exit) ≡ sets (now (out .entry)) at (recordBytes 5 (countedBytes rootBytes (listed (rootAt t) (t .count)))) ⌝ }
+    ensures { λ r. ⌜ r ≡ at + rootsSize (t .count) ⌝ }
+{
+    let n = t.count;
+    let rows = t.rows;
+    let handles = t.handles;
+    record_roots(out, at, &rows[..n], &handles[..n])
+}
+
+// 6: the columns of a cover of n rows.
+fn put_columns(out: &mut [u8], at: usize, l: Labels, r: Ranges, k: Links, n: usize) -> usize
+    requires { ⌜ (at + (6 + coverBody n n (r .count) (k .count) (k .count) (k .count) (k .count)) ≤ length (now out)) × (n ≤ maxRecords) ⌝ }
+    requires { ⌜ (r .count ≤ maxRecords) × (k .count ≤ maxRecords) × LongLabels l × LongRanges r × LongLinks k ⌝ }
+    ensures { λ _. ⌜ now (out .exit) ≡ sets (now (out .entry)) at (recordBytes 6 (coverBytes (coverFrom (take n (l .chains)) (take n (l .seqs)) (rangesIn r) (linksIn k)))) ⌝ }
+    ensures { λ e. ⌜ e ≡ at + (6 + coverBody n n (r .count) (k .count) (k .count) (k .count) (k .count)) ⌝ }
+{
+    let x = r.count;
+    let y = k.count;
+    let chains = l.chains;
+    let seqs = l.seqs;
+    let ids = r.ids;
+    let minima = r.minima;
+    let maxima = r.maxima;
+    let a = k.from.chains;
+    let b = k.from.seqs;
+    let c = k.to.chains;
+    let d = k.to.seqs;
+    record_cover(
+        out,
+        at,
+        &chains[..n],
+        &seqs[..n],
+        &ids[..x],
+        &minima[..x],
+        &maxima[..x],
+        &a[..y],
+        &b[..y],
+        &c[..y],
+        &d[..y],
+    )
+}
+
+// 6: the cover of n rows, where there is one.
+pub fn put_cover(out: &mut [u8], at: usize, c: Cover, n: usize) -> usize
+    requires { ⌜ (at + coverRecordSize (c .present) n (c .ranges .count) (c .links .count) ≤ length (now out)) × (n ≤ maxRecords) ⌝ }
+    requires { ⌜ (c .ranges .count ≤ maxRecords) × (c .links .count ≤ maxRecords) × LongCover c ⌝ }
+    ensures { λ _. ⌜ now (out .exit) ≡ sets (now (out .entry)) at (coverRecord (coverIn n c)) ⌝ }
+    ensures { λ r. ⌜ r ≡ at + coverRecordSize (c .present) n (c .ranges .count) (c .links .count) ⌝ }
+{
+    if c.present {
+        return put_columns(out, at, c.labels, c.ranges, c.links, n);
+    }
+    at
+}
