@@ -1,0 +1,69 @@
+-- At the places of a group the parts of a sheet's columns are what the group's output file holds.
+use mathlib.Core.Path.{_≡_, refl, ap, sym, _∙_}
+use mathlib.Core.Bool.{true}
+use mathlib.Core.List.{List, [], _∷_, map}
+use Prim.Native.Nat.{ℕ, zero, suc, _+_, _-_, _≤_, _<_}
+use native.Mathlib.Nat.{zero-add}
+use native.Mathlib.Omega.{arith}
+use lib.ListN.{length, take}
+use lib.Seq.{take-take}
+use Rattle.lists.specs.Lists.{part}
+use Rattle.lists.proofs.Flat.{getD-map-upFrom}
+use Rattle.cleaning.specs.Held.{noFacts}
+use Rattle.cleaning.specs.Sections.{Tidy, factsOf, place, between, sectionStart, sectionRows, sectionFirst, sectionEnd, sectionTags, sectionUnresolved, sectionRoots}
+use Rattle.cleaning.proofs.SheetRows.{section-end, section-within}
+use Rattle.held.specs.declared.Sheet.{Sheet}
+use Rattle.held.specs.View.{listed, factsAt, unresolvedAt, rootAt, sheetIn}
+use Rattle.held.specs.Valid.{sheetOk}
+use Rattle.tidying.specs.Ordered.{ordered}
+use Rattle.tidying.specs.Long.{LongSheet}
+use Rattle.tidying.proofs.Turns.{rows-few}
+use Rattle.tidying.proofs.TidySheets.{counts, tags-length, tidy-sheet}
+use Rattle.group_parts.specs.Parts.{lessBy}
+
+-- a part that ends within the first m elements
+pub part-front : {A : Type 0} (a n m : ℕ) (l : List A) → a + n ≤ m → part a n (take m l) ≡ part a n l
+unfolding part
+part-front zero n m l h = take-take n m l (omega arith)
+part-front (suc a) n zero l h = absurd (omega arith)
+part-front (suc a) n (suc m) [] h = refl
+part-front (suc a) n (suc m) (x ∷ l) h = part-front a n m l (omega arith)
+
+module _ (s : Sheet) (g : ℕ) where
+  -- where its rows start
+  pub start-place : place g (take (s .rows .count) (s .rows .groups)) ≡ sectionStart (sheetIn s) g
+  unfolding sheetIn sectionStart
+  start-place = refl
+
+  pub unresolved-section : between (λ x. x .child) (sectionFirst (sheetIn s) g) (sectionEnd (sheetIn s) g) (listed (unresolvedAt (s .unresolved)) (s .unresolved .count))
+      ≡ sectionUnresolved (sheetIn s) g
+  unfolding sheetIn
+  unresolved-section = refl
+
+  pub roots-section : map (lessBy (sectionStart (sheetIn s) g))
+      (between (λ x. x .row) (sectionStart (sheetIn s) g) (sectionStart (sheetIn s) (suc g)) (listed (rootAt (s .roots)) (s .roots .count)))
+      ≡ sectionRoots (sheetIn s) g
+  unfolding sheetIn
+  roots-section = refl
+
+  pub facts-section : g < s .groups .count → factsAt (s .groups) g ≡ factsOf (sheetIn s) g
+  unfolding sheetIn
+  facts-section h = sym (getD-map-upFrom (factsAt (s .groups)) 0 (s .groups .count) g noFacts h ∙ ap (factsAt (s .groups)) (zero-add g))
+
+  pub depth-section : g < s .groups .count → (factsAt (s .groups) g) .depth ≡ (factsOf (sheetIn s) g) .depth
+  depth-section h = ap (λ f. f .depth) (facts-section h)
+
+  module _ (l : LongSheet s) (k : sheetOk s ≡ true) (o : ordered s ≡ true) where
+    -- its rows are there
+    pub section-ends : sectionStart (sheetIn s) g + sectionRows (sheetIn s) g ≤ s .rows .count
+    unfolding sheetIn
+    section-ends =
+        let t : Tidy (sheetIn s) = tidy-sheet s l k o in
+        omega (arith, section-end (sheetIn s) t g, section-within (sheetIn s) t g, tags-length s l k)
+
+    pub section-room : sectionStart (sheetIn s) g + sectionRows (sheetIn s) g ≤ 1024
+    section-room = omega (arith, section-ends, rows-few s (counts s l k))
+
+    pub tags-section : part (sectionStart (sheetIn s) g) (sectionRows (sheetIn s) g) (s .rows .tags) ≡ sectionTags (sheetIn s) g
+    unfolding sheetIn
+    tags-section = sym (part-front (sectionStart (sheetIn s) g) (sectionRows (sheetIn s) g) (s .rows .count) (s .rows .tags) section-ends)
