@@ -1,0 +1,4 @@
+pub mod Ranged
+pub mod Stored
+pub mod Covered
+pub mod CoverSection
