@@ -1,5 +1,5 @@
 -- Records as columns: those of a range of figures stand from one place up to another, and parts of the columns stand for them.
-use mathlib.Core.Path.{_≡_, refl, ap, sym, _∙_}
+use mathlib.Core.Path.{_≡_, ap, sym, _∙_}
 use mathlib.Core.List.{List, map, map-map}
 use Prim.Native.Nat.{ℕ, _+_, _-_, _≤_, _<_}
 use native.Mathlib.Nat.{zero-add}
@@ -44,7 +44,7 @@ module _ (xs ys : List ℕ) (a n j : ℕ) (h : j < n) where
   unfolding part
   part-at = getD-take n (drop a ys) j 0 h ∙ getD-drop a ys j 0
 
-  pub column-at : take n xs ≡ part a n ys → getD xs j 0 ≡ getD ys (a + j) 0
+  column-at : take n xs ≡ part a n ys → getD xs j 0 ≡ getD ys (a + j) 0
   column-at e = sym (getD-take n xs j 0 h) ∙ ap (λ l. getD l j 0) e ∙ part-at
 
   less-at : (low : ℕ) → take n xs ≡ lowered low (part a n ys) → getD xs j 0 ≡ getD ys (a + j) 0 - low

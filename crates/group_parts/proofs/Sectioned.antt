@@ -2,19 +2,25 @@
 use mathlib.Core.Path.{_≡_, refl, ap, sym, _∙_}
 use mathlib.Core.Bool.{true}
 use mathlib.Core.List.{List, [], _∷_, map}
-use Prim.Native.Nat.{ℕ, zero, suc, _+_, _-_, _≤_, _<_}
+use Prim.Native.Nat.{ℕ, zero, suc, _+_, _≤_, _<_}
 use native.Mathlib.Nat.{zero-add}
+use native.Mathlib.Numerals.{add-one}
 use native.Mathlib.Omega.{arith}
-use lib.ListN.{length, take}
+use lib.Dec.{leb}
+use lib.ListN.{take}
 use lib.Seq.{take-take}
+use borrow.Author.Tests.{leb-true}
 use Rattle.lists.specs.Lists.{part}
+use Rattle.lists.proofs.Tests.{both}
 use Rattle.lists.proofs.Flat.{getD-map-upFrom}
+use Rattle.columns.specs.Limits.{maxGroups, maxSubject}
 use Rattle.cleaning.specs.Held.{noFacts}
 use Rattle.cleaning.specs.Sections.{Tidy, factsOf, place, between, sectionStart, sectionRows, sectionFirst, sectionEnd, sectionTags, sectionUnresolved, sectionRoots}
+use Rattle.cleaning.proofs.Places.{place-rises}
 use Rattle.cleaning.proofs.SheetRows.{section-end, section-within}
 use Rattle.held.specs.declared.Sheet.{Sheet}
 use Rattle.held.specs.View.{listed, factsAt, unresolvedAt, rootAt, sheetIn}
-use Rattle.held.specs.Valid.{sheetOk}
+use Rattle.held.specs.Valid.{countsOk, sheetOk}
 use Rattle.tidying.specs.Ordered.{ordered}
 use Rattle.tidying.specs.Long.{LongSheet}
 use Rattle.tidying.proofs.Turns.{rows-few}
@@ -34,6 +40,18 @@ module _ (s : Sheet) (g : ℕ) where
   pub start-place : place g (take (s .rows .count) (s .rows .groups)) ≡ sectionStart (sheetIn s) g
   unfolding sheetIn sectionStart
   start-place = refl
+
+  -- and where they end
+  pub end-place : place (g + 1) (take (s .rows .count) (s .rows .groups)) ≡ sectionStart (sheetIn s) (suc g)
+  unfolding sheetIn sectionStart
+  end-place = rw add-one
+
+  pub starts-rise : sectionStart (sheetIn s) g ≤ sectionStart (sheetIn s) (suc g)
+  unfolding sectionStart
+  starts-rise = place-rises g (suc g) ((sheetIn s) .rowGroups) (omega arith)
+
+  pub numbers-rise : sectionFirst (sheetIn s) g ≤ sectionEnd (sheetIn s) g
+  numbers-rise = omega (arith, starts-rise)
 
   pub unresolved-section : between (λ x. x .child) (sectionFirst (sheetIn s) g) (sectionEnd (sheetIn s) g) (listed (unresolvedAt (s .unresolved)) (s .unresolved .count))
       ≡ sectionUnresolved (sheetIn s) g
@@ -63,6 +81,13 @@ module _ (s : Sheet) (g : ℕ) where
 
     pub section-room : sectionStart (sheetIn s) g + sectionRows (sheetIn s) g ≤ 1024
     section-room = omega (arith, section-ends, rows-few s (counts s l k))
+
+    -- a number of a group that is there
+    pub group-few : g < s .groups .count → g < 16
+    unfolding countsOk
+    group-few h =
+        let e = both (leb (s .groups .count) maxGroups) _ (both (leb (s .subject .length) maxSubject) _ (counts s l k) .1) .0 in
+        omega (arith, leb-true (s .groups .count) maxGroups e)
 
     pub tags-section : part (sectionStart (sheetIn s) g) (sectionRows (sheetIn s) g) (s .rows .tags) ≡ sectionTags (sheetIn s) g
     unfolding sheetIn

@@ -22,7 +22,7 @@ encode-links-requires c κs = search needs
 returns : tie.Need-returns
 returns c = (
   links-read _ _ _ _ (search needs) (search needs) (search needs) (search needs) 1024 1024 1024 1024 (search needs) (search needs) (search needs) (search needs)
-  _ _ _ _ _ _ _ _ (c .before .before .before .before .encode-links .ensures .1),
+      _ _ _ _ _ _ _ _ (c .before .before .before .before .encode-links .ensures .1),
   search needs,
 )
 
