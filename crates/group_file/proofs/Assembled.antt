@@ -1,0 +1,93 @@
+-- The parts put together: the file of a group, and the group's rules.
+use mathlib.Core.Path.{_≡_, refl, sym, ap, ap₂, _∙_}
+use mathlib.Core.Bool.{true}
+use mathlib.Core.List.{List, map}
+use mathlib.Core.Option.{Option, none, some}
+use Prim.Native.Nat.{ℕ, suc, _+_, _-_, _≤_, _<_}
+use native.Mathlib.Omega.{arith}
+use lib.Dec.{leb}
+use lib.ListN.{take}
+use borrow.Author.Tests.{leb-true}
+use Rattle.lists.specs.Lists.{part}
+use Rattle.lists.proofs.Tests.{both}
+use Rattle.columns.specs.Limits.{maxRecords, maxSubject}
+use Rattle.columns.specs.Refusal.{unless}
+use Rattle.columns.specs.Reading.{labelsOf}
+use Rattle.columns.specs.Building.{Built, buildRules, builtOf}
+use Rattle.columns.specs.declared.refusal.Refusal.{Refusal}
+use Rattle.cleaning.specs.Sections.{between, coverWhere, unerasedRow, sectionStart, sectionRows, sectionUnresolved, sectionRoots, sectionGraph, sectionFileOf, sectionFile}
+use Rattle.rules.specs.Ruled.{ruling}
+use Rattle.rules.specs.declared.slots.Ruling.the-variants.{Kept, Broken}
+use Rattle.held.specs.declared.Sheet.{Sheet}
+use Rattle.held.specs.declared.Roots.{Roots}
+use Rattle.held.specs.declared.Unresolved.{Unresolved}
+use Rattle.held.specs.View.{listed, hasCover, factsAt, unresolvedAt, rootAt, linkAt, sheetIn}
+use Rattle.held.specs.Valid.{countsOk, sheetOk}
+use Rattle.tidying.specs.Ordered.{ordered}
+use Rattle.tidying.specs.Long.{LongSheet}
+use Rattle.tidying.proofs.TidySheets.{counts}
+use Rattle.section_sets.specs.Parted.{judged}
+use Rattle.out_file.specs.declared.Sets.{Sets}
+use Rattle.out_file.specs.declared.Tags.{Tags}
+use Rattle.out_file.specs.declared.Head.{Head}
+use Rattle.out_file.specs.declared.Cover.{Cover}
+use Rattle.out_file.specs.declared.OutFile.{OutFile}
+use Rattle.out_file.specs.View.{setIn, builtIn, depthIn, coverIn, subjectIn, fileIn, Counted}
+use Rattle.group_parts.proofs.Sectioned.{depth-section, tags-section, group-few}
+use Rattle.group_cover.proofs.CoverSection.{cover-section}
+use Rattle.group_sets.specs.ByVerdict.{Holds, SetsBy}
+use Rattle.group_sets.specs.declared.GroupSets.{GroupSets}
+use Rattle.group_file.specs.Made.{SpanOf, FewEdges, Made}
+use Rattle.group_file.specs.declared.GroupFile.{GroupFile}
+use Rattle.group_file.proofs.Spans.{span-rises, span-rows}
+
+-- ── the file ─────────────────────────────────────────────────────────────────────────────────
+
+subject-few : (s : Sheet) → LongSheet s → sheetOk s ≡ true → s .subject .length ≤ maxSubject
+unfolding countsOk
+subject-few s l k = leb-true (s .subject .length) maxSubject (both (leb (s .subject .length) maxSubject) _ (counts s l k) .0)
+
+module _ (s : Sheet) (g a b : ℕ) (l : LongSheet s) (k : sheetOk s ≡ true) (o : ordered s ≡ true) (h : g < s .groups .count) (p : SpanOf s g a b)
+    (sets : Sets) (u : Unresolved) (roots : Roots) (tags : Tags) (head : Head) (cover : Cover)
+    (tags-are : (tags .count ≡ b - a) × (take (b - a) (tags .tags) ≡ part a (b - a) (s .rows .tags))) where
+  rows-are : take (tags .count) (tags .tags) ≡ part (sectionStart (sheetIn s) g) (sectionRows (sheetIn s) g) (s .rows .tags)
+  rows-are =
+      ap (λ n. take n (tags .tags)) (tags-are .0) ∙ tags-are .1
+      ∙ ap₂ (λ x y. part x y (s .rows .tags)) (p .from) (span-rows s g a b p)
+
+  pub file-made : listed (unresolvedAt u) (u .count) ≡ sectionUnresolved (sheetIn s) g → listed (rootAt roots) (roots .count) ≡ sectionRoots (sheetIn s) g
+      → (head .first ≡ s .start + a) × ((head .group ≡ g) × (depthIn head ≡ (factsAt (s .groups) g) .depth))
+      → coverIn (b - a) cover ≡ coverWhere (hasCover (s .groups) g) (labelsOf (part a (b - a) (s .rows .chains)) (part a (b - a) (s .rows .seqs)))
+      (map (λ x. x .link) (between (λ x. x .group) g (suc g) (listed (linkAt (s .links)) (s .links .count))))
+      → fileIn (record { head = head; subject = s .subject; rows = tags; sets = sets; unresolved = u; roots = roots; cover = cover }) ≡ sectionFileOf (sheetIn s) g (builtIn (b - a) sets)
+  unfolding fileIn builtIn subjectIn sheetIn
+  file-made us rs hd cv = λ i. record {
+    first = (hd .0 ∙ ap (λ x. s .start + x) (p .from)) i;
+    group = hd .1 .0 i;
+    subject = take (s .subject .length) (s .subject .bytes);
+    depth = (hd .1 .1 ∙ depth-section s g h) i;
+    forward = setIn (tags-are .0 i) (sets .forward);
+    reverse = setIn (tags-are .0 i) (sets .reverse);
+    inbound = setIn (tags-are .0 i) (sets .inbound);
+    rows = map unerasedRow ((rows-are ∙ tags-section s g l k o) i);
+    unresolved = us i;
+    roots = rs i;
+    cover = (ap (λ n. coverIn n cover) (tags-are .0) ∙ cv
+      ∙ ap₂ (λ x y. coverWhere (hasCover (s .groups) g) (labelsOf (part x y (s .rows .chains)) (part x y (s .rows .seqs)))
+      (map (λ z. z .link) (between (λ z. z .group) g (suc g) (listed (linkAt (s .links)) (s .links .count))))) (p .from) (span-rows s g a b p)
+      ∙ cover-section s g l k o h) i;
+  }
+
+  pub file-counted : u .count ≤ 1024 → roots .count ≤ 1024 → FewEdges sets → (cover .ranges .count ≤ 1024) × (cover .links .count ≤ 1024) → a + (b - a) ≤ 1024
+      → Counted (record { head = head; subject = s .subject; rows = tags; sets = sets; unresolved = u; roots = roots; cover = cover })
+  file-counted us rs few cs n = record {
+    subject = subject-few s l k;
+    rows = omega (arith, tags-are .0);
+    forward = few .forward;
+    reverse = few .reverse;
+    inbound = few .inbound;
+    unresolved = us;
+    roots = rs;
+    ranges = cs .0;
+    links = cs .1;
+  }
