@@ -1,2 +1,3 @@
 pub mod SetSizes
+pub mod LentColumns
 pub mod GroupGraphs

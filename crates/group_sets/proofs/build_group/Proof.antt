@@ -1,5 +1,5 @@
 -- `group_sets::build_group` meets its contract.
-use Rattle.group_sets.proofs.GroupGraphs.{group-built}
+use Rattle.group_sets.proofs.LentColumns.{group-built}
 use borrow.Author.Needs.{needs}
 use Rattle.group_sets.proofs.build_group.Statement.{statement}
 use Rattle.group_sets.proofs.build_group.Tie as tie

@@ -1,6 +1,6 @@
 -- `group_sets::build_rows` meets its contract: each column is lent up to its count.
 use Rattle.held.proofs.ColumnTurns.{table-count, form-cut}
-use Rattle.group_sets.proofs.GroupGraphs.{prefix-count, prefix-few, part-few, rows-built}
+use Rattle.group_sets.proofs.LentColumns.{prefix-count, prefix-few, part-few, rows-built}
 use borrow.Author.Needs.{needs}
 use Rattle.group_sets.proofs.build_rows.Statement.{statement}
 use Rattle.group_sets.proofs.build_rows.Tie as tie

@@ -1,5 +1,5 @@
 -- `group_sets::depth_at` meets its contract: a group whose depth is not known, and one whose depth is.
-use Rattle.group_sets.proofs.GroupGraphs.{depth-unknown, depth-known}
+use Rattle.group_sets.proofs.LentColumns.{depth-unknown, depth-known}
 use borrow.Author.Needs.{needs}
 use Rattle.group_sets.proofs.depth_at.Statement.{statement}
 use Rattle.group_sets.proofs.depth_at.Tie as tie

@@ -2,7 +2,7 @@
 use mathlib.Core.Path.{_≡_}
 use Prim.Native.Nat.{_-_, _≤_}
 use lib.ListN.{length, take}
-use Rattle.group_sets.proofs.GroupGraphs.{kind-copied, kinds-copied}
+use Rattle.group_sets.proofs.LentColumns.{kind-copied, kinds-copied}
 use borrow.Author.Needs.{needs}
 use Rattle.group_sets.proofs.wide_kinds.Statement.{statement}
 use Rattle.group_sets.proofs.wide_kinds.Tie as tie

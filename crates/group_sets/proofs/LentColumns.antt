@@ -1,0 +1,112 @@
+-- What building is lent of columns by value: parts of them, records as columns, the depth of a group.
+use mathlib.Core.Path.{_≡_, refl, sym, _∙_, ap}
+use mathlib.Core.Bool.{Bool}
+use mathlib.Core.List.{List, [], _∷_, map, map-map}
+use Prim.Native.Nat.{ℕ, _+_, _-_, _*_, _≤_, _<_}
+use native.Mathlib.Numerals.{add-one}
+use native.Mathlib.Omega.{arith}
+use lib.ListN.{length, getD, set, take, drop, replicate, length-replicate, replicate-append-replicate, length-take, length-drop}
+use lib.Seq.{take-at, take-suc, take-suc-set, length-take-le}
+use borrow.Author.Tests.{eq-eqb, ne-eqb}
+use Rattle.lists.specs.Lists.{part, upFrom}
+use Rattle.lists.proofs.Each.{each-all}
+use Rattle.lists.proofs.Flat.{map-ext, length-map-upFrom}
+use Rattle.columns.specs.EdgeSet.{cut}
+use Rattle.records.specs.Recorded.{depthOf, labelsGiven}
+use Rattle.records.specs.declared.groups.Depth as given
+use Rattle.records.specs.declared.groups.Depth.the-variants.{Unknown, Between}
+use Rattle.archive.specs.File.{Unresolved}
+use Rattle.cleaning.specs.Writing.{unresolvedColumns}
+use Rattle.cleaning.proofs.Parts.{map-part}
+use Rattle.held.specs.declared.Subject.{Subject}
+use Rattle.held.specs.declared.Groups.{Groups}
+use Rattle.held.specs.declared.Rows.{Rows}
+use Rattle.held.specs.declared.Edges.{Edges}
+use Rattle.held.specs.declared.Unresolved as held
+use Rattle.held.specs.declared.Sheet.{Sheet}
+use Rattle.held.specs.View.{hasCover, factsAt, listed, unresolvedAt, slotsIn}
+use Rattle.section_sets.specs.Parted.{partGraph, judged}
+use Rattle.group_sets.specs.declared.GroupSets.{GroupSets}
+use Rattle.group_sets.specs.ByVerdict.{SetsBy}
+use Rattle.group_sets.specs.ColumnGraphs.{rowsGraph, groupGraph}
+
+-- ── parts of columns ─────────────────────────────────────────────────────────────────────────
+
+pub prefix-count : {A : Type 0} (k m : ℕ) (l : List A) → k ≤ m → length l ≡ m → k ≡ length (take k l)
+prefix-count k m l h e = sym (length-take-le k l (omega arith))
+
+pub prefix-few : {A : Type 0} (k m : ℕ) (l : List A) → k ≤ m → length (take k l) ≤ m
+prefix-few k m l h = simp length-take (omega arith)
+
+pub part-few : {A : Type 0} (i n : ℕ) (l : List A) → length l ≡ 1024 → length (take n (drop i l)) ≤ 4096
+part-few i n l e = simp (length-take, length-drop) (omega arith)
+
+-- a part of a column holds a figure of what stands at its places
+pub column-of : {A : Type 0} (at : ℕ → A) (f : A → ℕ) (l : List ℕ) → ((i : ℕ) → f (at i) ≡ getD l i 0) → (a n : ℕ) → a + n ≤ length l → part a n l ≡ map f (map at (upFrom a n))
+column-of at f l e a n h =
+    sym (map-map f at (upFrom a n) ∙ map-ext (λ i. f (at i)) (λ i. getD l i 0) (upFrom a n) (each-all (λ i. f (at i) ≡ getD l i 0) e (upFrom a n)) ∙ map-part l 0 a n h)
+
+-- ── records ──────────────────────────────────────────────────────────────────────────────────
+
+zeros-taken : (m k : ℕ) → m ≤ k → take m (replicate {A = ℕ} k 0) ≡ replicate m 0
+zeros-taken m k h =
+    let z : k ≡ m + (k - m) = omega arith in
+    ap (λ j. take m (replicate {A = ℕ} j 0)) z ∙ ap (take m) (sym (replicate-append-replicate {A = ℕ} m (k - m) 0))
+    ∙ take-at (replicate {A = ℕ} m 0) (replicate (k - m) 0) m (length-replicate {A = ℕ} m 0)
+
+zeros-mapped : {A : Type 0} (xs : List A) → replicate {A = ℕ} (length xs) 0 ≡ map (λ x. 0) xs
+zeros-mapped [] = refl
+zeros-mapped (x ∷ xs) = ap (λ zs. 0 ∷ zs) (zeros-mapped xs)
+
+-- the columns that building is given of records
+module _ (u : held.Unresolved) (h : u .count ≤ 1024) where
+  children-are : length (u .children) ≡ 1024 → take (u .count) (u .children) ≡ map (λ v. v .child) (listed (unresolvedAt u) (u .count))
+  unfolding unresolvedAt part
+  children-are l = column-of (unresolvedAt u) (λ v. v .child) (u .children) (λ i. refl) 0 (u .count) (omega arith)
+
+  kinds-are : length (u .kinds) ≡ 1024 → take (u .count) (u .kinds) ≡ map (λ v. v .kind) (listed (unresolvedAt u) (u .count))
+  unfolding unresolvedAt part
+  kinds-are l = column-of (unresolvedAt u) (λ v. v .kind) (u .kinds) (λ i. refl) 0 (u .count) (omega arith)
+
+  flags-are : take (u .count) (replicate {A = ℕ} 1024 0) ≡ map (λ v. 0) (listed (unresolvedAt u) (u .count))
+  flags-are =
+      zeros-taken (u .count) 1024 h ∙ ap (λ k. replicate {A = ℕ} k 0) (sym (length-map-upFrom (unresolvedAt u) 0 (u .count))) ∙ zeros-mapped (listed (unresolvedAt u) (u .count))
+
+-- kinds copied one by one
+pub kind-copied : (i m : ℕ) (out ks : List ℕ) (x : ℕ) → take i out ≡ take i ks → x ≡ getD ks i 0 → i < m → m ≤ 1024 → length out ≡ 1024 → length ks ≡ 1024
+    → take (i + 1) (set out i x) ≡ take (i + 1) ks
+kind-copied i m out ks x e f h k a b = rw (add-one, take-suc-set out i x (omega arith), take-suc ks i 0 (omega arith), e, f)
+
+pub kinds-copied : (u : held.Unresolved) (i : ℕ) (out : List ℕ) → take i out ≡ take i (u .kinds) → i ≤ u .count → u .count ≤ i → u .count ≤ 1024 → length (u .kinds) ≡ 1024
+    → take (u .count) out ≡ map (λ v. v .kind) (listed (unresolvedAt u) (u .count))
+kinds-copied u i out e h k f l = let z : i ≡ u .count = omega arith in rw z at e ∙ kinds-are u f l
+
+-- ── what building is lent ─────────────────────────────────────────────────────────────────────
+
+module _ (groups : Groups) (g : ℕ) where
+  pub depth-unknown : getD (groups .known) g 0 ≡ 0 → depthOf Unknown ≡ (factsAt groups g) .depth
+  unfolding depthOf factsAt
+  depth-unknown e = rw (eq-eqb (getD (groups .known) g 0) 0 e)
+
+  pub depth-known : (getD (groups .known) g 0 ≡ 0 → ⊥) → depthOf (Between (getD (groups .least) g 0) (getD (groups .greatest) g 0)) ≡ (factsAt groups g) .depth
+  unfolding depthOf factsAt
+  depth-known e = rw (ne-eqb (getD (groups .known) g 0) 0 e)
+
+-- what is lent of columns by value
+pub rows-built : (subject : Subject) (start : ℕ) (rows : Rows) (edges : Edges) (u : held.Unresolved) (ks : List ℕ) (depth : given.Depth) (labelled : Bool) (a n : ℕ) (r : GroupSets)
+    → u .count ≤ 1024 → length (u .children) ≡ 1024 → take (u .count) ks ≡ map (λ v. v .kind) (listed (unresolvedAt u) (u .count))
+    → SetsBy (judged (partGraph (take (subject .length) (subject .bytes)) start (rows .count) (cut (take (2 * rows .count + 1) (edges .offsets)) (take (edges .count) (edges .targets)))
+    (record { children = take (u .count) (u .children); kindsGiven = take (u .count) ks; flags = take (u .count) (replicate 1024 0) }) (depthOf depth)
+    (labelsGiven labelled (take (a + n - a) (drop a (rows .chains))) (take (a + n - a) (drop a (rows .seqs)))) a n)) n r
+    → SetsBy (judged (rowsGraph subject start rows edges (listed (unresolvedAt u) (u .count)) (depthOf depth) labelled a n)) n r
+unfolding rowsGraph slotsIn part unresolvedColumns
+rows-built subject start rows edges u ks depth labelled a n r h l e q =
+    let z : a + n - a ≡ n = omega arith in
+    rw (children-are u h l, e, flags-are u h, z) at q
+
+-- what is given with the rows of a group
+pub group-built : (s : Sheet) (us : List Unresolved) (g : ℕ) (depth : given.Depth) (labelled : Bool) (a n : ℕ) (r : GroupSets)
+    → depthOf depth ≡ (factsAt (s .groups) g) .depth → labelled ≡ hasCover (s .groups) g
+    → SetsBy (judged (rowsGraph (s .subject) (s .start) (s .rows) (s .edges) us (depthOf depth) labelled a n)) n r → SetsBy (judged (groupGraph s us g a n)) n r
+unfolding groupGraph
+group-built s us g depth labelled a n r d l q = rw (d, l) at q
