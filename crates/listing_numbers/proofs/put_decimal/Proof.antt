@@ -1,0 +1,17 @@
+-- `listing_numbers::put_decimal` meets its contract.
+use Rattle.listing_numbers.proofs.Joined.{decimal-room, decimal-written}
+use borrow.Author.Needs.{needs}
+use Rattle.listing_numbers.proofs.put_decimal.Statement.{statement}
+use Rattle.listing_numbers.proofs.put_decimal.Tie as tie
+
+put-digits-requires : tie.Need-put-digits-requires
+put-digits-requires c κs = search (needs, decimal-room)
+
+same-length : tie.Need-same-length
+same-length c = search needs
+
+returns : tie.Need-returns
+returns c = search (needs, decimal-written)
+
+pub put-decimal-spec : {M : Type 1} → statement M
+put-decimal-spec = tie.close (tie.spec put-digits-requires same-length returns)

@@ -1,0 +1,48 @@
+-- Document 01, the worked run: the lines of a file, said of its parts, and the bytes that they take at most.
+use mathlib.Core.List.{List, _++_}
+use Prim.Native.Nat.{ℕ, _+_, _*_, _≤_}
+use lib.IntN.{ℤ}
+use lib.ListN.{length}
+use Rattle.lists.specs.Text.{text}
+use Rattle.columns.specs.Limits.{maxRecords, maxNumbers, maxGroups}
+use Rattle.columns.specs.EdgeSet.{EdgeSet}
+use Rattle.columns.specs.Building.{Built}
+use Rattle.cleaning.specs.Listing.{setLines}
+use Rattle.out_file.specs.declared.Sets.{Sets}
+use Rattle.listing_lines.specs.Parts.{headText}
+
+-- ── the text ─────────────────────────────────────────────────────────────────────────────────
+
+-- two columns as a set; its lines do not say its count
+abbrev pub columnsOf : List ℕ → List ℤ → EdgeSet
+columnsOf offsets deltas = record { count = length deltas; offsets = offsets; deltas = deltas }
+
+unfoldable pub setsText : Built → List ℕ
+setsText s = setLines (text "forward") (s .forward) ++ (setLines (text "reverse") (s .reverse) ++ setLines (text "inbound") (s .inbound))
+
+unfoldable pub fileText : ℕ → ℕ → ℕ → Built → List ℕ
+fileText group first rows s = headText group first rows ++ setsText s
+
+-- ── its size ─────────────────────────────────────────────────────────────────────────────────
+
+-- a set of n offsets and m deltas: a number of 64 bits has at most 20 characters, and a space before it
+abbrev pub setSize : ℕ → ℕ → ℕ → ℕ
+setSize name n m = 17 + 2 * name + 21 * (n + m)
+
+-- the entries of the three sets
+abbrev pub entries : Sets → ℕ
+entries s = s .forward .count + (s .reverse .count + s .inbound .count)
+
+-- the three sets of a file, each by a name of 7 letters
+abbrev pub setsSize : ℕ → Sets → ℕ
+setsSize rows s = 156 + 126 * rows + 21 * entries s
+
+abbrev pub fileSize : ℕ → Sets → ℕ
+fileSize rows s = 224 + 126 * rows + 21 * entries s
+
+-- no count is past its column
+pub record Within (rows : ℕ) (s : Sets) : Type 0 where
+  pub few : rows ≤ maxRecords
+  pub forward : s .forward .count ≤ maxNumbers
+  pub reverse : s .reverse .count ≤ maxNumbers
+  pub inbound : s .inbound .count ≤ maxNumbers
