@@ -16,7 +16,7 @@ use Rattle.listing_numbers.specs.Wrote.{Wrote}
 use Rattle.listing_numbers.proofs.Joined.{then, renamed}
 use Rattle.listing_lines.proofs.Lines.{ending, whole-line}
 use Rattle.listing_lines.specs.Parts.{spaced, headText}
-use Rattle.listing_text.specs.Files.{columnsOf, setSize, setsText, setsSize, fileText, fileSize}
+use Rattle.listing_text.specs.Files.{columnsOf, setSize, setsText, setsSize, fileText, fileSize, entries}
 
 -- ── a set ────────────────────────────────────────────────────────────────────────────────────
 
@@ -80,11 +80,11 @@ module _ (rows : ℕ) (s : Sets) {l i : List ℕ} {at p : ℕ} where
       → Wrote (setLines (102 ∷ 111 ∷ 114 ∷ 119 ∷ 97 ∷ 114 ∷ 100 ∷ []) (setIn rows (s .forward))) (setSize 7 (2 * rows + 1) (s .forward .count)) l at i p
       → Wrote (setLines (114 ∷ 101 ∷ 118 ∷ 101 ∷ 114 ∷ 115 ∷ 101 ∷ []) (setIn rows (s .reverse))) (setSize 7 (2 * rows + 1) (s .reverse .count)) i p j q
       → Wrote (setLines (105 ∷ 110 ∷ 98 ∷ 111 ∷ 117 ∷ 110 ∷ 100 ∷ []) (setIn rows (s .inbound))) (setSize 7 (2 * rows + 1) (s .inbound .count)) j q k r
-      → Wrote (setsText (builtIn rows s)) (setsSize rows s) l at k r
+      → Wrote (setsText (builtIn rows s)) (setsSize rows (entries s)) l at k r
   unfolding setsText builtIn text
   sets-written a b c = renamed (then a (then b c)) refl (omega arith)
 
-  pub file-written : (group first : ℕ) {k : List ℕ} {r : ℕ} → Wrote (headText group first rows) 68 l at i p → Wrote (setsText (builtIn rows s)) (setsSize rows s) i p k r
-      → Wrote (fileText group first rows (builtIn rows s)) (fileSize rows s) l at k r
+  pub file-written : (group first : ℕ) {k : List ℕ} {r : ℕ} → Wrote (headText group first rows) 68 l at i p → Wrote (setsText (builtIn rows s)) (setsSize rows (entries s)) i p k r
+      → Wrote (fileText group first rows (builtIn rows s)) (fileSize rows (entries s)) l at k r
   unfolding fileText
   file-written group first a b = renamed (then a b) refl (omega arith)

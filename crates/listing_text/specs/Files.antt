@@ -3,10 +3,13 @@ use mathlib.Core.List.{List, _++_}
 use Prim.Native.Nat.{ℕ, _+_, _*_, _≤_}
 use lib.IntN.{ℤ}
 use lib.ListN.{length}
+use Rattle.lists.specs.Lists.{sum, Each}
 use Rattle.lists.specs.Text.{text}
 use Rattle.columns.specs.Limits.{maxRecords, maxNumbers, maxGroups}
 use Rattle.columns.specs.EdgeSet.{EdgeSet}
 use Rattle.columns.specs.Building.{Built}
+use Rattle.archive.specs.File.{File}
+use Rattle.archive.specs.Fits.{FileFits}
 use Rattle.cleaning.specs.Listing.{setLines}
 use Rattle.out_file.specs.declared.Sets.{Sets}
 use Rattle.listing_lines.specs.Parts.{headText}
@@ -29,16 +32,38 @@ fileText group first rows s = headText group first rows ++ setsText s
 abbrev pub setSize : ℕ → ℕ → ℕ → ℕ
 setSize name n m = 17 + 2 * name + 21 * (n + m)
 
--- the entries of the three sets
+-- the three sets of a file, each by a name of 7 letters
+abbrev pub setsSize : ℕ → ℕ → ℕ
+setsSize rows deltas = 156 + 126 * rows + 21 * deltas
+
+abbrev pub fileSize : ℕ → ℕ → ℕ
+fileSize rows deltas = 224 + 126 * rows + 21 * deltas
+
+-- the deltas of a file's three sets
+abbrev pub deltasOf : File → ℕ
+deltasOf f = length (f .forward .deltas) + (length (f .reverse .deltas) + length (f .inbound .deltas))
+
+-- all output files of a run
+abbrev pub filesRoom : ℕ
+filesRoom = 224 * maxGroups + 126 * maxRecords + 21 * (3 * maxNumbers)
+
+-- and with them a line for each event, and the last one: 437,792 bytes
+abbrev pub listingRoom : ℕ
+listingRoom = 46 * maxRecords + (filesRoom + 32)
+
+-- files within the limits of a run, whose numbers fit
+pub record Few (fs : List File) : Type 0 where
+  pub fit : Each (λ f. FileFits f) fs
+  pub groups : length fs ≤ maxGroups
+  pub rows : sum (λ f. length (f .rows)) fs ≤ maxRecords
+  pub forward : sum (λ f. length (f .forward .deltas)) fs ≤ maxNumbers
+  pub reverse : sum (λ f. length (f .reverse .deltas)) fs ≤ maxNumbers
+  pub inbound : sum (λ f. length (f .inbound .deltas)) fs ≤ maxNumbers
+
+-- ── sets by value ────────────────────────────────────────────────────────────────────────────
+
 abbrev pub entries : Sets → ℕ
 entries s = s .forward .count + (s .reverse .count + s .inbound .count)
-
--- the three sets of a file, each by a name of 7 letters
-abbrev pub setsSize : ℕ → Sets → ℕ
-setsSize rows s = 156 + 126 * rows + 21 * entries s
-
-abbrev pub fileSize : ℕ → Sets → ℕ
-fileSize rows s = 224 + 126 * rows + 21 * entries s
 
 -- no count is past its column
 pub record Within (rows : ℕ) (s : Sets) : Type 0 where

@@ -14,7 +14,7 @@ ghost use Rattle.columns.specs.Limits.{maxRecords, maxNumbers};
 ghost use Rattle.cleaning.specs.Listing.{decimal, signed, line, setLines};
 ghost use Rattle.out_file.specs.View.{setIn, builtIn};
 ghost use Rattle.listing_numbers.specs.Wrote.{Wrote};
-ghost use Rattle.listing_text.specs.Files.{columnsOf, setSize, setsText, setsSize, fileText, fileSize, Within};
+ghost use Rattle.listing_text.specs.Files.{columnsOf, setSize, setsText, setsSize, fileText, fileSize, entries, Within};
 
 // ── a set ────────────────────────────────────────────────────────────────────────────────────
 
@@ -71,8 +71,8 @@ fn put_rows(out: &mut [u8], at: usize, name: &[u8], rows: usize, s: Set) -> usiz
 }
 
 fn put_sets(out: &mut [u8], at: usize, rows: usize, sets: Sets) -> usize
-    requires { ⌜ (Within rows sets) × (at + setsSize rows sets ≤ length (now out)) ⌝ }
-    ensures { λ r. ⌜ Wrote (setsText (builtIn rows sets)) (setsSize rows sets) (now (out .entry)) at (now (out .exit)) r ⌝ }
+    requires { ⌜ (Within rows sets) × (at + setsSize rows (entries sets) ≤ length (now out)) ⌝ }
+    ensures { λ r. ⌜ Wrote (setsText (builtIn rows sets)) (setsSize rows (entries sets)) (now (out .entry)) at (now (out .exit)) r ⌝ }
 {
     let forward = sets.forward;
     let reverse = sets.reverse;
@@ -84,8 +84,8 @@ fn put_sets(out: &mut [u8], at: usize, rows: usize, sets: Sets) -> usize
 
 // The lines of a file: its group, first number and rows, and its sets.
 pub fn put_file(out: &mut [u8], at: usize, group: u64, first: u64, rows: usize, sets: Sets) -> usize
-    requires { ⌜ (Within rows sets) × (at + fileSize rows sets ≤ length (now out)) ⌝ }
-    ensures { λ r. ⌜ Wrote (fileText group first rows (builtIn rows sets)) (fileSize rows sets) (now (out .entry)) at (now (out .exit)) r ⌝ }
+    requires { ⌜ (Within rows sets) × (at + fileSize rows (entries sets) ≤ length (now out)) ⌝ }
+    ensures { λ r. ⌜ Wrote (fileText group first rows (builtIn rows sets)) (fileSize rows (entries sets)) (now (out .entry)) at (now (out .exit)) r ⌝ }
 {
     let p = put_head(out, at, group, first, rows);
     put_sets(out, p, rows, sets)
