@@ -91,3 +91,42 @@ module _ (s : Sheet) (g a b : ℕ) (l : LongSheet s) (k : sheetOk s ≡ true) (o
     ranges = cs .0;
     links = cs .1;
   }
+
+-- ── the verdict ──────────────────────────────────────────────────────────────────────────────
+
+module _ (s : Sheet) (g n : ℕ) (q : GroupSets) (m : SetsBy (judged (sectionGraph (sheetIn s) g)) n q) where
+  by-rules : (r : Option Refusal) → buildRules (sectionGraph (sheetIn s) g) ≡ r → SetsBy (unless r (builtOf (sectionGraph (sheetIn s) g))) n q
+  unfolding judged
+  by-rules r e = rw (← e) m
+
+  pub made-broken : (f : OutFile) (x : Refusal) → q .ruling ≡ Broken x → Made (sheetIn s) g (record { ruling = Broken x; file = f })
+  unfolding unless SetsBy ruling
+  made-broken f x d = go (buildRules (sectionGraph (sheetIn s) g)) refl
+    where
+      go : (r : Option Refusal) → buildRules (sectionGraph (sheetIn s) g) ≡ r → Made (sheetIn s) g (record { ruling = Broken x; file = f })
+      go none e = let w = by-rules none e .ruling in let z : _≡_ {A = ℕ} 0 1 = cc in absurd (omega arith)
+      go (some y) e = let w : q .ruling ≡ Broken y = by-rules (some y) e in record {
+        rules = rw e (sym d ∙ w);
+        file = λ h. let z : _≡_ {A = ℕ} 0 1 = cc in absurd (omega arith);
+        counted = λ h. let z : _≡_ {A = ℕ} 0 1 = cc in absurd (omega arith);
+      }
+
+  module _ (d : q .ruling ≡ Kept) where
+    sets-hold : (r : Option Refusal) → buildRules (sectionGraph (sheetIn s) g) ≡ r → (r ≡ none) × Holds n (builtOf (sectionGraph (sheetIn s) g)) q
+    unfolding unless SetsBy
+    sets-hold none e = (refl, by-rules none e)
+    sets-hold (some y) e = let w : q .ruling ≡ Broken y = by-rules (some y) e in let z : _≡_ {A = ℕ} 0 1 = cc in absurd (omega arith)
+
+    held-sets : (buildRules (sectionGraph (sheetIn s) g) ≡ none) × Holds n (builtOf (sectionGraph (sheetIn s) g)) q
+    held-sets = sets-hold (buildRules (sectionGraph (sheetIn s) g)) refl
+
+    pub few-edges : FewEdges (q .sets)
+    few-edges = record { forward = held-sets .1 .forward; reverse = held-sets .1 .reverse; inbound = held-sets .1 .inbound }
+
+    pub made-kept : {f : OutFile} → (fileIn f ≡ sectionFileOf (sheetIn s) g (builtIn n (q .sets))) × Counted f → Made (sheetIn s) g (record { ruling = Kept; file = f })
+    unfolding ruling sectionFile
+    made-kept w = record {
+      rules = rw (held-sets .0);
+      file = λ h. w .0 ∙ ap (sectionFileOf (sheetIn s) g) (held-sets .1 .sets);
+      counted = λ h. w .1;
+    }

@@ -42,6 +42,9 @@ pub spans : {a b : ℕ} (s : Sheet) (g : ℕ) → a ≡ place g (take (s .rows .
 spans s g e f = record { from = e ∙ start-place s g; to = f ∙ end-place s g }
 
 module _ (s : Sheet) (g a b : ℕ) (p : SpanOf s g a b) where
+  pub span-from : a ≡ sectionStart (sheetIn s) g
+  span-from = p .from
+
   pub span-rises : a ≤ b
   span-rises = omega (arith, p .from, p .to, starts-rise s g)
 

@@ -6,11 +6,20 @@ use group_parts::part_roots;
 use group_parts::part_tags;
 use group_parts::part_unresolved;
 use group_sets::group_sets;
+use held::Ends;
 use held::Roots;
 use held::Sheet;
+use held::Subject;
 use held::Unresolved;
+use out_file::Cover;
+use out_file::Head;
+use out_file::Labels;
+use out_file::Links;
 use out_file::OutFile;
+use out_file::Ranges;
+use out_file::Set;
 use out_file::Sets;
+use out_file::Tags;
 use rules::slots::Ruling;
 use tidying::long::sheet_long;
 ghost use mathlib.Core.Path.{_≡_};
@@ -90,5 +99,105 @@ fn file_of(s: Sheet, g: usize, a: usize, b: usize, u: Unresolved, sets: Sets) ->
         unresolved: u,
         roots: roots,
         cover: cover,
+    }
+}
+
+// No set, and no file, where a rule is broken.
+fn no_set() -> Set {
+    Set {
+        count: 0,
+        offsets: [0; 2049],
+        deltas: [0; 4096],
+    }
+}
+
+fn no_ends() -> Ends {
+    Ends {
+        chains: [0; 1024],
+        seqs: [0; 1024],
+    }
+}
+
+fn no_cover() -> Cover {
+    Cover {
+        present: false,
+        labels: Labels {
+            chains: [0; 1024],
+            seqs: [0; 1024],
+        },
+        ranges: Ranges {
+            count: 0,
+            ids: [0; 1024],
+            minima: [0; 1024],
+            maxima: [0; 1024],
+        },
+        links: Links {
+            count: 0,
+            from: no_ends(),
+            to: no_ends(),
+        },
+    }
+}
+
+fn no_file() -> OutFile {
+    OutFile {
+        head: Head {
+            first: 0,
+            group: 0,
+            known: false,
+            least: 0,
+            greatest: 0,
+        },
+        subject: Subject {
+            length: 0,
+            bytes: [0; 255],
+        },
+        rows: Tags {
+            count: 0,
+            tags: [0; 1024],
+        },
+        sets: Sets {
+            forward: no_set(),
+            reverse: no_set(),
+            inbound: no_set(),
+        },
+        unresolved: Unresolved {
+            count: 0,
+            children: [0; 1024],
+            kinds: [0; 1024],
+            handles: [0; 1024],
+        },
+        roots: Roots {
+            count: 0,
+            rows: [0; 1024],
+            handles: [0; 1024],
+        },
+        cover: no_cover(),
+    }
+}
+
+// The output file of group g, or the first rule that it breaks.
+pub fn group_file(s: Sheet, g: usize) -> GroupFile
+    requires { ⌜ (sheetOk s ≡ true) × ((ordered s ≡ true) × (g < s .groups .count)) ⌝ }
+    ensures { λ r. ⌜ Made (sheetIn s) g r ⌝ }
+{
+    let p = span_of(s, g);
+    let a = p.from;
+    let b = p.to;
+    let u = unresolved_of(s, g, a, b);
+    let q = group_sets(s, u, g, a, b - a);
+    let v = q.ruling;
+    match v {
+        Ruling::Broken(x) => GroupFile {
+            ruling: Ruling::Broken(x),
+            file: no_file(),
+        },
+        Ruling::Kept => {
+            let f = file_of(s, g, a, b, u, q.sets);
+            GroupFile {
+                ruling: Ruling::Kept,
+                file: f,
+            }
+        }
     }
 }

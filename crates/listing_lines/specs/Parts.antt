@@ -1,7 +1,7 @@
 -- Document 01, the worked run: the lines of the listing, said of the numbers that they hold.
 use mathlib.Core.Bool.{Bool, cond}
 use mathlib.Core.List.{List, [], _∷_}
-use mathlib.Core.Option.{Option, none, some}
+use mathlib.Core.Option.{none, some}
 use Prim.Native.Nat.{ℕ}
 use Rattle.lists.specs.Lists.{flat}
 use Rattle.lists.specs.Text.{text}

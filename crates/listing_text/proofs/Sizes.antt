@@ -1,12 +1,11 @@
 -- The listing's own lines are those that the functions write, and no run's listing is longer than `listingRoom`.
-use mathlib.Core.Path.{_≡_, refl, ap, sym, _∙_}
+use mathlib.Core.Path.{_≡_, refl, _∙_}
 use mathlib.Core.Bool.{Bool, true, false}
 use mathlib.Core.Logic.{inl, inr}
 use mathlib.Core.List.{List, [], _∷_, _++_, map}
 use Prim.Native.Nat.{ℕ, zero, suc, _+_, _-_, _*_, _^_, _≤_, _<_}
 use native.Mathlib.Nat.{mul-suc, mul-zero, not-suc-le-zero, le-of-suc-le-suc}
 use native.Mathlib.Omega.{arith}
-use lib.IntN.{ℤ}
 use lib.ListN.{length, getD, take, length-append, length-map, length-take}
 use lib.Seq.{length-take-le}
 use mir.Syntax.{w64}
@@ -19,10 +18,10 @@ use Rattle.lists.proofs.Flat.{length-flat, length-upFrom}
 use Rattle.lists.proofs.Pairs.{each-upFrom}
 use Rattle.lists.proofs.Sums.{sum-le, sum-filter}
 use Rattle.lists.proofs.Counting.{sum-ones}
-use Rattle.columns.specs.Limits.{maxRecords, maxNumbers, maxGroups, kinds}
+use Rattle.columns.specs.Limits.{maxRecords}
 use Rattle.columns.specs.EdgeSet.{EdgeSet}
 use Rattle.archive.specs.File.{File}
-use Rattle.archive.specs.Fits.{Wide, SetFits, FileFits}
+use Rattle.archive.specs.Fits.{Wide, FileFits}
 use Rattle.cleaning.specs.Archive.{Event, Archive, at}
 use Rattle.cleaning.specs.Sections.{unerasedRow}
 use Rattle.cleaning.specs.Cleaning.{count, rank, renumber, newNumber, isReparented, survivors, reparented}

@@ -6,7 +6,7 @@ use listing_lines::put_word;
 use listing_numbers::put_byte;
 use out_file::Set;
 use out_file::Sets;
-ghost use mathlib.Core.List.{_∷_, _++_, map};
+ghost use mathlib.Core.List.{_∷_, map};
 ghost use Prim.Native.Nat.{_+_, _*_, _≤_};
 ghost use lib.ListN.{length};
 ghost use Rattle.lists.specs.Text.{text};

@@ -1,5 +1,5 @@
 -- The words of each number stand where the starts say, and those of a refusal are those of its number.
-use mathlib.Core.Path.{_≡_, refl, sym, _∙_, ap}
+use mathlib.Core.Path.{_≡_, refl}
 use mathlib.Core.Bool.{true}
 use mathlib.Core.List.{List, [], _∷_}
 use Prim.Native.Nat.{ℕ, zero, suc, _+_, _-_, _≤_, _<_}
@@ -9,7 +9,7 @@ use native.Mathlib.Omega.{arith}
 use lib.Dec.{leb}
 use lib.ListN.{length, getD, take, drop}
 use borrow.Author.Tests.{leb-true}
-use Rattle.lists.specs.Lists.{joined, starts, part, sum, all, Each}
+use Rattle.lists.specs.Lists.{joined, starts, part, sum, all}
 use Rattle.lists.specs.Text.{text}
 use Rattle.lists.proofs.Tests.{all-each}
 use Rattle.lists.proofs.Each.{each-getD}
