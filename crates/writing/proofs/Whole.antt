@@ -9,8 +9,10 @@ use native.Mathlib.Omega.{arith}
 use lib.Dec.{leb}
 use lib.ListN.{length, take, drop, length-append}
 use lib.Seq.{sets, sets-eq, length-sets, take-at, drop-at}
-use borrow.Author.Tests.{le-leb, lt-leb}
+use borrow.Author.Tests.{le-leb, lt-leb, leb-true}
+use Rattle.lists.proofs.Tests.{both}
 use Rattle.lists.proofs.Flat.{length-map-upFrom}
+use Rattle.columns.specs.Limits.{maxGroups, maxSubject}
 use Rattle.columns.specs.Refusal.{unless}
 use Rattle.columns.specs.declared.refusal.Refusal.{Refusal}
 use Rattle.columns.specs.declared.refusal.Refusal.the-variants.{SliceShort}
@@ -23,21 +25,26 @@ use Rattle.cleaning.specs.Step.{refused, wrote, writeInto}
 use Rattle.cleaning.proofs.SheetFiles.{written-sections}
 use Rattle.held.specs.declared.Sheet.{Sheet}
 use Rattle.held.specs.View.{factsAt, sheetIn}
-use Rattle.held.specs.Valid.{sheetOk}
+use Rattle.held.specs.Valid.{countsOk, sheetOk}
 use Rattle.tidying.specs.Ordered.{ordered, filled}
 use Rattle.tidying.specs.Long.{LongSheet}
-use Rattle.tidying.proofs.TidySheets.{tidy-sheet, filled-sheet}
+use Rattle.tidying.proofs.TidySheets.{counts, tidy-sheet, filled-sheet}
 use Rattle.rules.specs.Ruled.{ruling}
 use Rattle.rules.specs.declared.slots.Ruling.the-variants.{Kept, Broken}
-use Rattle.out_file.specs.View.{fileIn}
+use Rattle.out_file.specs.View.{fileIn, Counted}
 use Rattle.group_file.specs.Made.{Made}
 use Rattle.group_file.specs.declared.GroupFile.{GroupFile}
 use Rattle.writing.specs.Answers.{MeasuredBy, Wrote}
 use Rattle.writing.specs.declared.Measured.{Measured}
 use Rattle.writing.specs.declared.Writing.the-variants.{Length, Refused}
-use Rattle.writing.proofs.Rest.{rulesFrom, bytesFrom, kept-none, broken-some, rules-end, bytes-end, rules-first, bytes-next}
+use Rattle.writing.proofs.Rest.{rulesFrom, bytesFrom, kept-none, broken-some, rules-end, bytes-end, rules-next, rules-first, bytes-next}
 
 -- ── where the loops start ────────────────────────────────────────────────────────────────────
+
+pub groups-few : (s : Sheet) → LongSheet s → sheetOk s ≡ true → s .groups .count ≤ 16
+unfolding countsOk
+groups-few s l k =
+    leb-true (s .groups .count) maxGroups (both (leb (s .groups .count) maxGroups) _ (both (leb (s .subject .length) maxSubject) _ (counts s l k) .1) .0)
 
 module _ (s : Sheet) where
   groups-count : length ((sheetIn s) .groups) ≡ s .groups .count - 0
@@ -57,6 +64,12 @@ module _ (s : Sheet) where
 
   pub none-written : (l : List ℕ) → sets l 0 (sectionBytes (sheetIn s)) ≡ sets l 0 (bytesFrom (sheetIn s) 0 (s .groups .count))
   none-written l = ap (sets l 0) all-bytes
+
+  pub no-rules : sectionRules (sheetIn s) ≡ none → rulesFrom (sheetIn s) 0 (s .groups .count) ≡ none
+  no-rules h = sym all-rules ∙ h
+
+  pub all-room : {m : ℕ} → length (sectionBytes (sheetIn s)) ≤ m → 0 + length (bytesFrom (sheetIn s) 0 (s .groups .count)) ≤ m
+  all-room h = omega (arith, all-length)
 
 -- ── where they end ───────────────────────────────────────────────────────────────────────────
 
@@ -82,9 +95,11 @@ measured-broken s x t e = record {
 -- ── one turn of the loop that writes ─────────────────────────────────────────────────────────
 
 module _ (s : Sheet) (g n at : ℕ) {r : GroupFile} (m : Made (sheetIn s) g r) (h : g < n) (k : rulesFrom (sheetIn s) g n ≡ none) where
-  pub first-kept : r .ruling ≡ Kept
-  unfolding ruling
-  first-kept = m .rules ∙ ap ruling (rules-first (sheetIn s) g n h k)
+  pub file-counted : Counted (r .file)
+  file-counted = m .counted (rules-first (sheetIn s) g n h k)
+
+  pub rest-rules : rulesFrom (sheetIn s) (g + 1) n ≡ none
+  rest-rules = sym (rules-next (sheetIn s) g n h (rules-first (sheetIn s) g n h k) ∙ ap (λ x. rulesFrom (sheetIn s) x n) (sym (add-one g))) ∙ k
 
   same-file : fileIn (r .file) ≡ sectionFile (sheetIn s) g
   same-file = m .file (rules-first (sheetIn s) g n h k)
