@@ -73,9 +73,9 @@ module _ (s : Sheet) (g a b : ℕ) (l : LongSheet s) (k : sheetOk s ≡ true) (o
     unresolved = us i;
     roots = rs i;
     cover = (ap (λ n. coverIn n cover) (tags-are .0) ∙ cv
-      ∙ ap₂ (λ x y. coverWhere (hasCover (s .groups) g) (labelsOf (part x y (s .rows .chains)) (part x y (s .rows .seqs)))
-      (map (λ z. z .link) (between (λ z. z .group) g (suc g) (listed (linkAt (s .links)) (s .links .count))))) (p .from) (span-rows s g a b p)
-      ∙ cover-section s g l k o h) i;
+        ∙ ap₂ (λ x y. coverWhere (hasCover (s .groups) g) (labelsOf (part x y (s .rows .chains)) (part x y (s .rows .seqs)))
+        (map (λ z. z .link) (between (λ z. z .group) g (suc g) (listed (linkAt (s .links)) (s .links .count))))) (p .from) (span-rows s g a b p)
+        ∙ cover-section s g l k o h) i;
   }
 
   pub file-counted : u .count ≤ 1024 → roots .count ≤ 1024 → FewEdges sets → (cover .ranges .count ≤ 1024) × (cover .links .count ≤ 1024) → a + (b - a) ≤ 1024

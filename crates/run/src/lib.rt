@@ -6,11 +6,12 @@ use held::Held;
 use held::Sheet;
 use resolution::asked::Mapped;
 use rules::slots::Ruling;
+use writing::Writing;
 ghost use mathlib.Core.Path.{_≡_};
 ghost use Rattle.cleaning.specs.Step.{takes, resolves};
 ghost use Rattle.cleaning.specs.Runs.{freshRun};
 ghost use Rattle.run.specs.View.{view};
-ghost use Rattle.run.specs.Contracts.{Steps, Maps, Counts};
+ghost use Rattle.run.specs.Contracts.{Steps, Writes, Maps, Counts};
 
 // The sources taken, and once resolved the survivors.
 pub struct Run {
@@ -120,6 +121,16 @@ pub fn resolve(run: Run) -> Stepped
             }
         }
     }
+}
+
+// Writes the cleaned archive of a resolved run, as often as wanted.
+pub fn write(run: Run, out: &mut [u8]) -> Writing
+    ensures { λ r. ⌜ Writes run (now (out .entry)) (now (out .exit)) r ⌝ }
+{
+    if !turns::is_resolved(run) {
+        return Writing::Refused(Refusal::OutOfTurn);
+    }
+    writing::write_sheet(run.sheet, out)
 }
 
 // The new number of an old one, in a resolved run.
