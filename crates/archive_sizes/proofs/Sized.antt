@@ -3,14 +3,14 @@ use mathlib.Core.Path.{_≡_, refl}
 use mathlib.Core.Bool.{Bool, true, false}
 use mathlib.Core.List.{List}
 use mathlib.Core.Option.{Option, none, some}
-use Prim.Native.Nat.{ℕ, _+_, _*_}
+use Prim.Native.Nat.{ℕ, _+_}
 use native.Mathlib.Omega.{arith}
 use lib.ListN.{length, length-append}
 use Rattle.lists.specs.Lists.{flat}
 use Rattle.lists.proofs.Cut.{length-blocks}
 use Rattle.columns.specs.EdgeSet.{EdgeSet}
 use Rattle.archive.specs.File.{Row, Unresolved, Root, CoverColumns, File}
-use Rattle.archive.specs.Encode.{recordBytes, headBytes, setsBytes, edgesBytes, rowBytes, unresolvedBytes, rootBytes, coverBytes, countedBytes, coverRecord, fileBytes}
+use Rattle.archive.specs.Encode.{recordBytes, headBytes, edgesBytes, rowBytes, unresolvedBytes, rootBytes, coverBytes, countedBytes, coverRecord, fileBytes}
 use Rattle.archive.proofs.Lengths.{length-record, length-head, length-set, length-sets, length-counted, length-links, length-cover, wide-row, wide-unresolved, wide-root}
 use Rattle.archive_records.specs.Sizes.{headSize, rowsSize, unresolvedSize, rootsSize, coverBody}
 use Rattle.archive_sizes.specs.FileSize.{offsetsOf, edgesSize, coverRecordSize, fileSize}
@@ -22,6 +22,7 @@ pub record SetHas (rows edges : ℕ) (s : EdgeSet) : Type 0 where
   pub offsets : length (s .offsets) ≡ offsetsOf rows
   pub deltas : length (s .deltas) ≡ edges
 
+-- a cover of that many rows, ranges and links
 pub record CoverCounts (rows ranges links : ℕ) (c : CoverColumns) : Type 0 where
   pub chains : length (c .labels .chains) ≡ rows
   pub seqs : length (c .labels .seqs) ≡ rows
@@ -31,11 +32,12 @@ pub record CoverCounts (rows ranges links : ℕ) (c : CoverColumns) : Type 0 whe
   pub toChains : length (c .links .toChains) ≡ links
   pub toSeqs : length (c .links .toSeqs) ≡ links
 
--- no cover, or one of that many rows, ranges and links
+-- no cover, or such a one
 pub data CoverHas : Bool → ℕ → ℕ → ℕ → Option CoverColumns → Type 0 where
   bare : {rows ranges links : ℕ} → CoverHas false rows ranges links none
   covered : {rows ranges links : ℕ} {c : CoverColumns} → CoverCounts rows ranges links c → CoverHas true rows ranges links (some c)
 
+-- the record of a cover, where there is one
 module _ (there : Bool) (rows ranges links : ℕ) where
   pub with-cover : {n : ℕ} → there ≡ true → n ≡ coverBody rows rows ranges links links links links → 6 + n ≡ coverRecordSize there rows ranges links
   unfolding coverRecordSize
@@ -81,6 +83,7 @@ module _ (f : File) where
         length-set (f .inbound),
       )
 
+  -- the six records together
   pub length-file : {rows forward reverse inbound ranges links : ℕ} {there : Bool} → length (f .rows) ≡ rows
       → SetHas rows forward (f .forward) → SetHas rows reverse (f .reverse) → SetHas rows inbound (f .inbound) → CoverHas there rows ranges links (f .cover)
       → length (fileBytes f) ≡ fileSize (length (f .subject)) rows forward reverse inbound (length (f .unresolved)) (length (f .roots)) there ranges links

@@ -30,6 +30,7 @@ use Rattle.file_writer.specs.Flags.{unflagged}
 
 -- ── how many are taken ───────────────────────────────────────────────────────────────────────
 
+-- the first n of a column of m are n
 count-of : {A : Type 0} (n m : ℕ) (l : List A) → n ≤ m → length l ≡ m → length (take n l) ≡ n
 count-of n m l h e = length-take-le n l (omega arith)
 
@@ -48,6 +49,7 @@ even n m xs ys h x y = count-of n m xs h x ∙ taken n m ys h y
 -- ── columns side by side ─────────────────────────────────────────────────────────────────────
 
 module _ {A : Type 0} where
+  -- what f makes of the first n places is what g says of the numbers from i on
   zip3-places : (f : ℕ → ℕ → ℕ → A) (g : ℕ → A) (n i : ℕ) (xs ys zs : List ℕ) → n ≤ length xs → n ≤ length ys → n ≤ length zs
       → ((j : ℕ) → g (i + j) ≡ f (getD xs j 0) (getD ys j 0) (getD zs j 0)) → zip3 f (take n xs) (take n ys) (take n zs) ≡ map g (upFrom i n)
   unfolding zip3 upFrom
@@ -96,6 +98,7 @@ module _ (n : ℕ) (s : Set) (long : LongSet s) where
   unfolding setIn
   set-taken h = rw (count-of (s .count) maxNumbers (s .deltas) h (long .deltas))
 
+-- the three sets of n rows as their columns are taken
 abbrev pub takenSize : ℕ → Sets → ℕ
 takenSize n s =
     setsSize (length (take (2 * n + 1) (s .forward .offsets))) (length (take (s .forward .count) (s .forward .deltas)))
@@ -133,6 +136,7 @@ module _ (n : ℕ) (s : Sets) (at : ℕ) (h : n ≤ maxRecords) (long : LongSets
 
 -- ── 3 rows ───────────────────────────────────────────────────────────────────────────────────
 
+-- rows whose flags are 0 are not erased
 rows-unerased : (n m : ℕ) (ts : List ℕ) → n ≤ m → zip2 rowFrom (take n (replicate m 0)) (take n ts) ≡ map unerasedRow (take n ts)
 unfolding zip2 rowFrom
 rows-unerased zero m ts h = refl
@@ -212,6 +216,7 @@ ranges-taken : (r : Ranges) → r .count ≤ maxRecords → LongRanges r
 unfolding rangeFrom rangeAt rangesIn
 ranges-taken r h long = zip3-listed rangeFrom (rangeAt r) (r .count) (r .ids) (r .minima) (r .maxima) (omega arith) (omega arith) (omega arith) (λ j. refl)
 
+-- the body of a cover as its columns are taken
 abbrev pub takenBody : ℕ → Labels → Ranges → Links → ℕ
 takenBody n l r k =
     coverBody (length (take n (l .chains))) (length (take n (l .seqs))) (length (take (r .count) (r .ids))) (length (take (k .count) (k .from .chains)))

@@ -1,5 +1,5 @@
 -- A whole file: how long it is, and its six records one after the other.
-use mathlib.Core.Path.{_≡_, refl, sym, ap, _∙_}
+use mathlib.Core.Path.{_≡_, sym, ap, _∙_}
 use mathlib.Core.Bool.{Bool, true, false, cond}
 use mathlib.Core.List.{List, map}
 use mathlib.Core.Option.{none, some}
@@ -7,15 +7,15 @@ use Prim.Native.Nat.{ℕ, _+_, _≤_}
 use native.Mathlib.Omega.{arith}
 use lib.ListN.{length, take, length-map}
 use lib.Seq.{sets, length-take-le}
-use Rattle.lists.specs.Lists.{flat, upFrom}
+use Rattle.lists.specs.Lists.{flat}
 use Rattle.lists.proofs.Flat.{length-map-upFrom}
 use Rattle.columns.specs.Limits.{maxRecords, maxNumbers}
 use Rattle.archive.specs.File.{CoverColumns}
 use Rattle.archive.specs.Encode.{recordBytes, headFields, headBytes, setsBytes, edgesBytes, rowBytes, unresolvedBytes, rootBytes, countedBytes, coverRecord, fileBytes}
 use Rattle.archive_records.specs.Sizes.{headSize, rowsSize, unresolvedSize, rootsSize}
-use Rattle.archive_writer.proofs.Files.{file-written, file-ends}
+use Rattle.archive_writer.proofs.Files.{file-written}
 use Rattle.archive_sizes.specs.FileSize.{edgesSize, coverRecordSize}
-use Rattle.archive_sizes.proofs.Sized.{SetHas, CoverCounts, CoverHas, length-headRecord, length-edges, length-rows, length-unresolved, length-roots, length-coverRecord, length-file}
+use Rattle.archive_sizes.proofs.Sized.{SetHas, CoverCounts, CoverHas, length-headRecord, length-edges, length-rows, length-unresolved, length-roots, length-file}
 use Rattle.cleaning.specs.Sections.{unerasedRow}
 use Rattle.held.specs.View.{listed, unresolvedAt, rootAt}
 use Rattle.out_file.specs.declared.Set.{Set}
@@ -34,6 +34,7 @@ set-has n s h k e = record {
   deltas = length-take-le (s .count) (s .deltas) (omega arith);
 }
 
+-- a cover is there by its flag
 there : (b : Bool) (rows ranges links : ℕ) (c : CoverColumns) → CoverCounts rows ranges links c → CoverHas b rows ranges links (cond b (some c) none)
 there true rows ranges links c h = CoverHas.covered h
 there false rows ranges links c h = CoverHas.bare
@@ -51,6 +52,8 @@ cover-has n c h k e =
       toChains = length-take-le (c .links .count) (c .links .to .chains) (omega arith);
       toSeqs = length-take-le (c .links .count) (c .links .to .seqs) (omega arith);
     })
+
+-- ── a whole file ─────────────────────────────────────────────────────────────────────────────
 
 module _ (f : OutFile) (few : Counted f) (long : LongFile f) where
   rows-are : length (fileIn f .rows) ≡ f .rows .count

@@ -82,6 +82,7 @@ pub fn put_edges(out: &mut [u8], at: usize, s: Sets, n: usize) -> usize
     )
 }
 
+// The flags of rows that are not erased.
 fn unflagged() -> [u8; 1024]
     ensures { λ r. ⌜ r ≡ unflagged ⌝ }
 {

@@ -1,4 +1,4 @@
--- `file_writer::write_records` meets its contract.
+-- `file_writer::write_records` meets its contract: each record stands where the one before it ends.
 use Rattle.file_writer.proofs.Whole.{records-end, records-written}
 use borrow.Author.Needs.{needs}
 use Rattle.file_writer.proofs.write_records.Statement.{statement}
@@ -27,14 +27,22 @@ same-length c = search needs
 
 returns : tie.Need-returns
 returns c =
-    let start = c .before .before .before .before .before .before .before .before .before .before .before .before .before .before .before .before .before .before .before .before .before .before .before .before .before in
-    let head = c .before .before .before .before .before .before .before .before .before .before .before .before .before .before .before .before .before .before .before .before .before .before .put-head .ensures in
-    let edges = c .before .before .before .before .before .before .before .before .before .before .before .before .before .before .before .before .before .before .put-edges .ensures in
-    let rows = c .before .before .before .before .before .before .before .before .before .before .before .before .before .before .put-rows .ensures in
-    let unresolved = c .before .before .before .before .before .before .before .before .before .before .put-unresolved .ensures in
-    let roots = c .before .before .before .before .before .before .put-roots .ensures in
-    let cover = c .before .before .put-cover .ensures in
-    (search records-end, records-written (start .args .f) (start .pre .0 .0) (start .pre .0 .1) _ (head .1) (edges .1) (rows .1) (unresolved .1) (roots .1) _ (head .0) (edges .0) (rows .0) (unresolved .0) (roots .0) (cover .0))
+    let after-cover = c .before .before in
+    let after-roots = after-cover .before .before .before .before in
+    let after-unresolved = after-roots .before .before .before .before in
+    let after-rows = after-unresolved .before .before .before .before in
+    let after-edges = after-rows .before .before .before .before in
+    let after-head = after-edges .before .before .before .before in
+    let start = after-head .before .before .before in
+    let head = after-head .put-head .ensures in
+    let edges = after-edges .put-edges .ensures in
+    let rows = after-rows .put-rows .ensures in
+    let unresolved = after-unresolved .put-unresolved .ensures in
+    let roots = after-roots .put-roots .ensures in (
+      search records-end,
+      records-written (start .args .f) (start .pre .0 .0) (start .pre .0 .1) _ (head .1) (edges .1) (rows .1) (unresolved .1) (roots .1)
+          _ (head .0) (edges .0) (rows .0) (unresolved .0) (roots .0) (after-cover .put-cover .ensures .0),
+    )
 
 pub write-records-spec : {M : Type 1} → statement M
 write-records-spec =
