@@ -1,33 +1,35 @@
 // Building the three sets of a granule.
+use crate::answer::flag_at;
 use crate::edges::Granule;
+use crate::edges::no_edges;
+use crate::edges::some_edges;
 use building::encode::encode_graph_blocks;
-use columns::refusal::number;
 use encoding::kept::Encoded;
 use records::groups::Depth;
+ghost use mathlib.Core.Path.{_≡_};
+ghost use lib.ListN.{length};
+ghost use Rattle.columns.specs.Building.{build};
+ghost use Rattle.encoding.specs.Answered.{encodedOf, offsetsLaid, deltasLaid};
+ghost use Rattle.building.specs.Lent.{graphOf, slicesOf};
+ghost use Rattle.ffi.specs.Numbers.{flagAt, depthAt, builtOf};
 
-fn built_of(encoded: Encoded) -> Granule {
+fn built_of(encoded: Encoded) -> Granule
+    ensures { λ r. ⌜ r ≡ builtOf encoded ⌝ }
+{
     match encoded {
-        Encoded::Edges(counts) => Granule {
-            refusal: 0,
-            forward: counts.forward,
-            reverse: counts.reverse,
-            inbound: counts.inbound,
-        },
-        Encoded::Refused(why) => Granule {
-            refusal: number(why),
-            forward: 0,
-            reverse: 0,
-            inbound: 0,
-        },
+        Encoded::Edges(counts) => some_edges(counts.forward, counts.reverse, counts.inbound),
+        Encoded::Refused(why) => no_edges(why),
     }
 }
 
-// A depth, where `known` is not 0.
-fn depth_of(known: u64, low: u64, high: u64) -> Depth {
-    if known == 0 {
-        return Depth::Unknown;
+// A depth, where `deep` is not 0.
+fn depth_at(deep: u64, low: u64, high: u64) -> Depth
+    ensures { λ r. ⌜ r ≡ depthAt deep low high ⌝ }
+{
+    if flag_at(deep) {
+        return Depth::Between(low, high);
     }
-    Depth::Between(low, high)
+    Depth::Unknown
 }
 
 // The sets of `n` rows from row `from` on: offsets and deltas of each. Labels are there where `labelled` is not 0.
@@ -38,50 +40,58 @@ pub extern "C" fn ridgeoven_build(
     rows: usize,
     offsets: &[u64],
     targets: &[u64],
-    unresolved_children: &[u64],
-    unresolved_kinds: &[u64],
-    unresolved_flags: &[u64],
+    children: &[u64],
+    kinds: &[u64],
+    flags: &[u64],
     deep: u64,
     low: u64,
     high: u64,
     labelled: u64,
     chains: &[u32],
     seqs: &[u32],
-    inbound_children: &[u64],
-    inbound_parents: &[u64],
-    inbound_kinds: &[u64],
+    ichildren: &[u64],
+    iparents: &[u64],
+    ikinds: &[u64],
     from: usize,
     n: usize,
-    forward_offsets: &mut [u64],
-    forward_deltas: &mut [i64],
-    reverse_offsets: &mut [u64],
-    reverse_deltas: &mut [i64],
-    inbound_offsets: &mut [u64],
-    inbound_deltas: &mut [i64],
-) -> Granule {
+    fo: &mut [u64],
+    fd: &mut [i64],
+    ro: &mut [u64],
+    rd: &mut [i64],
+    io: &mut [u64],
+    id: &mut [i64],
+) -> Granule
+    ensures { λ r. ⌜ r ≡ builtOf (encodedOf (build (graphOf (now (subject .entry)) first rows (now (offsets .entry)) (now (targets .entry)) (now (children .entry)) (now (kinds .entry)) (now (flags .entry)) (depthAt deep low high) (flagAt labelled) (now (chains .entry)) (now (seqs .entry)) (now (ichildren .entry)) (now (iparents .entry)) (now (ikinds .entry)) from n) (slicesOf (length (now (fo .entry))) (length (now (fd .entry))) (length (now (ro .entry))) (length (now (rd .entry))) (length (now (io .entry))) (length (now (id .entry)))))) ⌝ }
+    ensures { λ _. ⌜ now (fo .exit) ≡ offsetsLaid 0 (build (graphOf (now (subject .entry)) first rows (now (offsets .entry)) (now (targets .entry)) (now (children .entry)) (now (kinds .entry)) (now (flags .entry)) (depthAt deep low high) (flagAt labelled) (now (chains .entry)) (now (seqs .entry)) (now (ichildren .entry)) (now (iparents .entry)) (now (ikinds .entry)) from n) (slicesOf (length (now (fo .entry))) (length (now (fd .entry))) (length (now (ro .entry))) (length (now (rd .entry))) (length (now (io .entry))) (length (now (id .entry))))) (now (fo .entry)) ⌝ }
+    ensures { λ _. ⌜ now (fd .exit) ≡ deltasLaid 0 (build (graphOf (now (subject .entry)) first rows (now (offsets .entry)) (now (targets .entry)) (now (children .entry)) (now (kinds .entry)) (now (flags .entry)) (depthAt deep low high) (flagAt labelled) (now (chains .entry)) (now (seqs .entry)) (now (ichildren .entry)) (now (iparents .entry)) (now (ikinds .entry)) from n) (slicesOf (length (now (fo .entry))) (length (now (fd .entry))) (length (now (ro .entry))) (length (now (rd .entry))) (length (now (io .entry))) (length (now (id .entry))))) (now (fd .entry)) ⌝ }
+    ensures { λ _. ⌜ now (ro .exit) ≡ offsetsLaid 1 (build (graphOf (now (subject .entry)) first rows (now (offsets .entry)) (now (targets .entry)) (now (children .entry)) (now (kinds .entry)) (now (flags .entry)) (depthAt deep low high) (flagAt labelled) (now (chains .entry)) (now (seqs .entry)) (now (ichildren .entry)) (now (iparents .entry)) (now (ikinds .entry)) from n) (slicesOf (length (now (fo .entry))) (length (now (fd .entry))) (length (now (ro .entry))) (length (now (rd .entry))) (length (now (io .entry))) (length (now (id .entry))))) (now (ro .entry)) ⌝ }
+    ensures { λ _. ⌜ now (rd .exit) ≡ deltasLaid 1 (build (graphOf (now (subject .entry)) first rows (now (offsets .entry)) (now (targets .entry)) (now (children .entry)) (now (kinds .entry)) (now (flags .entry)) (depthAt deep low high) (flagAt labelled) (now (chains .entry)) (now (seqs .entry)) (now (ichildren .entry)) (now (iparents .entry)) (now (ikinds .entry)) from n) (slicesOf (length (now (fo .entry))) (length (now (fd .entry))) (length (now (ro .entry))) (length (now (rd .entry))) (length (now (io .entry))) (length (now (id .entry))))) (now (rd .entry)) ⌝ }
+    ensures { λ _. ⌜ now (io .exit) ≡ offsetsLaid 2 (build (graphOf (now (subject .entry)) first rows (now (offsets .entry)) (now (targets .entry)) (now (children .entry)) (now (kinds .entry)) (now (flags .entry)) (depthAt deep low high) (flagAt labelled) (now (chains .entry)) (now (seqs .entry)) (now (ichildren .entry)) (now (iparents .entry)) (now (ikinds .entry)) from n) (slicesOf (length (now (fo .entry))) (length (now (fd .entry))) (length (now (ro .entry))) (length (now (rd .entry))) (length (now (io .entry))) (length (now (id .entry))))) (now (io .entry)) ⌝ }
+    ensures { λ _. ⌜ now (id .exit) ≡ deltasLaid 2 (build (graphOf (now (subject .entry)) first rows (now (offsets .entry)) (now (targets .entry)) (now (children .entry)) (now (kinds .entry)) (now (flags .entry)) (depthAt deep low high) (flagAt labelled) (now (chains .entry)) (now (seqs .entry)) (now (ichildren .entry)) (now (iparents .entry)) (now (ikinds .entry)) from n) (slicesOf (length (now (fo .entry))) (length (now (fd .entry))) (length (now (ro .entry))) (length (now (rd .entry))) (length (now (io .entry))) (length (now (id .entry))))) (now (id .entry)) ⌝ }
+{
     built_of(encode_graph_blocks(
         subject,
         first,
         rows,
         offsets,
         targets,
-        unresolved_children,
-        unresolved_kinds,
-        unresolved_flags,
-        depth_of(deep, low, high),
-        labelled != 0,
+        children,
+        kinds,
+        flags,
+        depth_at(deep, low, high),
+        flag_at(labelled),
         chains,
         seqs,
-        inbound_children,
-        inbound_parents,
-        inbound_kinds,
+        ichildren,
+        iparents,
+        ikinds,
         from,
         n,
-        forward_offsets,
-        forward_deltas,
-        reverse_offsets,
-        reverse_deltas,
-        inbound_offsets,
-        inbound_deltas,
+        fo,
+        fd,
+        ro,
+        rd,
+        io,
+        id,
     ))
 }

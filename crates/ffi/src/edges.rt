@@ -1,12 +1,25 @@
 // Edge columns: reading, and the questions over them.
 use crate::answer::Answer;
-use crate::answer::answer_of;
+use crate::answer::count_of;
+use crate::answer::flag_at;
 use crate::answer::kind_at;
-use building::roots::Roots;
+use crate::answer::roots_of;
+use columns::refusal::Refusal;
 use columns::refusal::number;
 use granules::Decoded;
 use granules::Head;
 use questions::Labelled;
+ghost use mathlib.Core.Path.{_≡_};
+ghost use mathlib.Core.List.{[], _∷_};
+ghost use lib.ListN.{length};
+ghost use Rattle.columns.specs.Reading.{decodeSet, readGranule};
+ghost use Rattle.columns.specs.Questions as asked;
+ghost use Rattle.columns.specs.Roots.{rootEntries};
+ghost use Rattle.columns.specs.Answers.{kindOf, columnsOf, labelColumns, room, inOne, countedOf, writtenOver};
+ghost use Rattle.granules.specs.Granules.{lentGranule, rooms, decodedOf, setIn};
+ghost use Rattle.questions.specs.Views.{labelledOf};
+ghost use Rattle.building.specs.Written.{records, rootsAnswer, over};
+ghost use Rattle.ffi.specs.Numbers.{kindAt, headAt, countOf, rootsOf, edges, noEdges, granuleOf, labelOf};
 
 // One set of edges: 0 forward, 1 reverse, 2 inbound.
 #[no_mangle]
@@ -19,8 +32,11 @@ pub extern "C" fn ridgeoven_read_set(
     offsets: &[u64],
     deltas: &[i64],
     targets: &mut [u64],
-) -> Answer {
-    answer_of(columns::reading::decode_csr(set, first, rows, end, count, offsets, deltas, targets))
+) -> Answer
+    ensures { λ r. ⌜ r ≡ countOf (countedOf (inOne (decodeSet set first rows end (columnsOf count (now (offsets .entry)) (now (deltas .entry))) (room (length (now (targets .entry))))))) ⌝ }
+    ensures { λ _. ⌜ now (targets .exit) ≡ writtenOver (now (targets .entry)) (inOne (decodeSet set first rows end (columnsOf count (now (offsets .entry)) (now (deltas .entry))) (room (length (now (targets .entry)))))) ⌝ }
+{
+    count_of(columns::reading::decode_csr(set, first, rows, end, count, offsets, deltas, targets))
 }
 
 // How many targets each set of a granule has.
@@ -32,62 +48,81 @@ pub struct Granule {
     pub inbound: usize,
 }
 
-fn granule_of(decoded: Decoded) -> Granule {
-    match decoded {
-        Decoded::Edges(counts) => Granule {
-            refusal: 0,
-            forward: counts.forward,
-            reverse: counts.reverse,
-            inbound: counts.inbound,
-        },
-        Decoded::Refused(why) => Granule {
-            refusal: number(why),
-            forward: 0,
-            reverse: 0,
-            inbound: 0,
-        },
+pub(crate) fn some_edges(forward: usize, reverse: usize, inbound: usize) -> Granule
+    ensures { λ r. ⌜ r ≡ edges forward reverse inbound ⌝ }
+{
+    Granule {
+        refusal: 0,
+        forward: forward,
+        reverse: reverse,
+        inbound: inbound,
     }
 }
 
-// The three sets of a granule and, where `cover` is not 0, its labels.
+pub(crate) fn no_edges(why: Refusal) -> Granule
+    ensures { λ r. ⌜ r ≡ noEdges why ⌝ }
+{
+    Granule {
+        refusal: number(why),
+        forward: 0,
+        reverse: 0,
+        inbound: 0,
+    }
+}
+
+fn granule_of(decoded: Decoded) -> Granule
+    ensures { λ r. ⌜ r ≡ granuleOf decoded ⌝ }
+{
+    match decoded {
+        Decoded::Edges(counts) => some_edges(counts.forward, counts.reverse, counts.inbound),
+        Decoded::Refused(why) => no_edges(why),
+    }
+}
+
+// The three sets of a granule, each a count, offsets and deltas, and, where `cover` is not 0, its labels.
 #[no_mangle]
 pub extern "C" fn ridgeoven_read_granule(
     first: u64,
     rows: usize,
     end: u64,
-    forward_count: u64,
-    forward_offsets: &[u64],
-    forward_deltas: &[i64],
-    reverse_count: u64,
-    reverse_offsets: &[u64],
-    reverse_deltas: &[i64],
-    inbound_count: u64,
-    inbound_offsets: &[u64],
-    inbound_deltas: &[i64],
+    fcount: u64,
+    fo: &[u64],
+    fd: &[i64],
+    rcount: u64,
+    ro: &[u64],
+    rd: &[i64],
+    icount: u64,
+    io: &[u64],
+    id: &[i64],
     cover: u64,
     chains: &[u64],
     seqs: &[u64],
     forward: &mut [u64],
     reverse: &mut [u64],
     inbound: &mut [u64],
-) -> Granule {
+) -> Granule
+    ensures { λ r. ⌜ r ≡ granuleOf (decodedOf (readGranule first rows end (lentGranule (headAt first rows end fcount rcount icount cover) (now (fo .entry)) (now (fd .entry)) (now (ro .entry)) (now (rd .entry)) (now (io .entry)) (now (id .entry)) (now (chains .entry)) (now (seqs .entry))) (rooms (length (now (forward .entry))) (length (now (reverse .entry))) (length (now (inbound .entry)))))) ⌝ }
+    ensures { λ _. ⌜ now (forward .exit) ≡ writtenOver (now (forward .entry)) (setIn 0 (readGranule first rows end (lentGranule (headAt first rows end fcount rcount icount cover) (now (fo .entry)) (now (fd .entry)) (now (ro .entry)) (now (rd .entry)) (now (io .entry)) (now (id .entry)) (now (chains .entry)) (now (seqs .entry))) (rooms (length (now (forward .entry))) (length (now (reverse .entry))) (length (now (inbound .entry)))))) ⌝ }
+    ensures { λ _. ⌜ now (reverse .exit) ≡ writtenOver (now (reverse .entry)) (setIn 1 (readGranule first rows end (lentGranule (headAt first rows end fcount rcount icount cover) (now (fo .entry)) (now (fd .entry)) (now (ro .entry)) (now (rd .entry)) (now (io .entry)) (now (id .entry)) (now (chains .entry)) (now (seqs .entry))) (rooms (length (now (forward .entry))) (length (now (reverse .entry))) (length (now (inbound .entry)))))) ⌝ }
+    ensures { λ _. ⌜ now (inbound .exit) ≡ writtenOver (now (inbound .entry)) (setIn 2 (readGranule first rows end (lentGranule (headAt first rows end fcount rcount icount cover) (now (fo .entry)) (now (fd .entry)) (now (ro .entry)) (now (rd .entry)) (now (io .entry)) (now (id .entry)) (now (chains .entry)) (now (seqs .entry))) (rooms (length (now (forward .entry))) (length (now (reverse .entry))) (length (now (inbound .entry)))))) ⌝ }
+{
     let head = Head {
         first: first,
         rows: rows,
         end: end,
-        forward: forward_count,
-        reverse: reverse_count,
-        inbound: inbound_count,
-        cover: cover != 0,
+        forward: fcount,
+        reverse: rcount,
+        inbound: icount,
+        cover: flag_at(cover),
     };
     granule_of(granules::decode_granule_edges(
         head,
-        forward_offsets,
-        forward_deltas,
-        reverse_offsets,
-        reverse_deltas,
-        inbound_offsets,
-        inbound_deltas,
+        fo,
+        fd,
+        ro,
+        rd,
+        io,
+        id,
         chains,
         seqs,
         forward,
@@ -107,8 +142,11 @@ pub extern "C" fn ridgeoven_parents(
     kind: u64,
     number: u64,
     list: &mut [u64],
-) -> Answer {
-    answer_of(questions::parents(
+) -> Answer
+    ensures { λ r. ⌜ r ≡ countOf (countedOf (asked.parents first rows end (columnsOf count (now (offsets .entry)) (now (deltas .entry))) (kindOf (kindAt kind)) number (room (length (now (list .entry)))))) ⌝ }
+    ensures { λ _. ⌜ now (list .exit) ≡ writtenOver (now (list .entry)) (asked.parents first rows end (columnsOf count (now (offsets .entry)) (now (deltas .entry))) (kindOf (kindAt kind)) number (room (length (now (list .entry))))) ⌝ }
+{
+    count_of(questions::parents(
         first,
         rows,
         end,
@@ -126,26 +164,29 @@ pub extern "C" fn ridgeoven_children(
     first: u64,
     rows: usize,
     end: u64,
-    reverse_count: u64,
-    reverse_offsets: &[u64],
-    reverse_deltas: &[i64],
-    inbound_count: u64,
-    inbound_offsets: &[u64],
-    inbound_deltas: &[i64],
+    rcount: u64,
+    ro: &[u64],
+    rd: &[i64],
+    icount: u64,
+    io: &[u64],
+    id: &[i64],
     kind: u64,
     number: u64,
     list: &mut [u64],
-) -> Answer {
-    answer_of(questions::children(
+) -> Answer
+    ensures { λ r. ⌜ r ≡ countOf (countedOf (asked.children first rows end (columnsOf rcount (now (ro .entry)) (now (rd .entry))) (columnsOf icount (now (io .entry)) (now (id .entry))) (kindOf (kindAt kind)) number (room (length (now (list .entry)))))) ⌝ }
+    ensures { λ _. ⌜ now (list .exit) ≡ writtenOver (now (list .entry)) (asked.children first rows end (columnsOf rcount (now (ro .entry)) (now (rd .entry))) (columnsOf icount (now (io .entry)) (now (id .entry))) (kindOf (kindAt kind)) number (room (length (now (list .entry))))) ⌝ }
+{
+    count_of(questions::children(
         first,
         rows,
         end,
-        reverse_count,
-        reverse_offsets,
-        reverse_deltas,
-        inbound_count,
-        inbound_offsets,
-        inbound_deltas,
+        rcount,
+        ro,
+        rd,
+        icount,
+        io,
+        id,
         kind_at(kind),
         number,
         list,
@@ -161,7 +202,9 @@ pub struct Label {
     pub seq: u32,
 }
 
-fn label_of(labelled: Labelled) -> Label {
+fn label_of(labelled: Labelled) -> Label
+    ensures { λ r. ⌜ r ≡ labelOf labelled ⌝ }
+{
     match labelled {
         Labelled::At(label) => Label {
             refusal: 0,
@@ -191,21 +234,10 @@ pub extern "C" fn ridgeoven_label(
     chains: &[u64],
     seqs: &[u64],
     number: u64,
-) -> Label {
+) -> Label
+    ensures { λ r. ⌜ r ≡ labelOf (labelledOf (asked.label first rows (labelColumns (now (chains .entry)) (now (seqs .entry))) number)) ⌝ }
+{
     label_of(questions::label(first, rows, chains, seqs, number))
-}
-
-fn roots_of(roots: Roots) -> Answer {
-    match roots {
-        Roots::Rows(n) => Answer {
-            refusal: 0,
-            length: n,
-        },
-        Roots::Refused(why) => Answer {
-            refusal: number(why),
-            length: 0,
-        },
-    }
 }
 
 // The rows of the events that have a state root.
@@ -215,6 +247,9 @@ pub extern "C" fn ridgeoven_roots(
     rows: usize,
     events: &[u64],
     list: &mut [u64],
-) -> Answer {
+) -> Answer
+    ensures { λ r. ⌜ r ≡ rootsOf (rootsAnswer (rootEntries first rows (now (events .entry)) (records (now (list .entry)) ∷ []))) ⌝ }
+    ensures { λ _. ⌜ now (list .exit) ≡ over (rootEntries first rows (now (events .entry)) (records (now (list .entry)) ∷ [])) (now (list .entry)) ⌝ }
+{
     roots_of(building::roots::state_root_entries(first, rows, events, list))
 }

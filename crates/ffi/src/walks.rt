@@ -1,10 +1,20 @@
 // The walk, its single step, and the shared ancestor.
 use crate::answer::Answer;
-use crate::answer::answer_of;
+use crate::answer::count_of;
 use crate::answer::kind_at;
 use columns::refusal::number;
 use walk::Handed;
 use walk::Shared;
+ghost use mathlib.Core.Path.{_≡_};
+ghost use mathlib.Core.List.{[]};
+ghost use lib.ListN.{length};
+ghost use Rattle.columns.specs.Reading.{slotsOf};
+ghost use Rattle.columns.specs.Questions.{listOf};
+ghost use Rattle.columns.specs.Answers.{kindOf, columnsOf, room, lentRules, countedOf, writtenOver};
+ghost use Rattle.columns.specs.Walk as definition;
+ghost use Rattle.walk.specs.Handing.{rooms, handedOf, numbersOf, endsOf};
+ghost use Rattle.levels.specs.Step as step;
+ghost use Rattle.ffi.specs.Numbers.{kindAt, countOf, walkedOf, ancestorOf, PromisedBy};
 
 // How many levels a walk has, and how many numbers it has handed out.
 #[repr(C)]
@@ -14,7 +24,9 @@ pub struct Walked {
     pub handed: usize,
 }
 
-fn walked_of(handed: Handed) -> Walked {
+fn walked_of(handed: Handed) -> Walked
+    ensures { λ r. ⌜ r ≡ walkedOf handed ⌝ }
+{
     match handed {
         Handed::Levels(levels, count) => Walked {
             refusal: 0,
@@ -43,7 +55,11 @@ pub extern "C" fn ridgeoven_walk(
     start: u64,
     numbers: &mut [u64],
     ends: &mut [u64],
-) -> Walked {
+) -> Walked
+    ensures { λ r. ⌜ r ≡ walkedOf (handedOf (definition.walk first rows end (columnsOf count (now (offsets .entry)) (now (deltas .entry))) (kindOf (kindAt kind)) limit start (rooms (length (now (numbers .entry))) (length (now (ends .entry)))))) ⌝ }
+    ensures { λ _. ⌜ now (numbers .exit) ≡ writtenOver (now (numbers .entry)) (numbersOf (definition.walk first rows end (columnsOf count (now (offsets .entry)) (now (deltas .entry))) (kindOf (kindAt kind)) limit start (rooms (length (now (numbers .entry))) (length (now (ends .entry)))))) ⌝ }
+    ensures { λ _. ⌜ now (ends .exit) ≡ writtenOver (now (ends .entry)) (endsOf (definition.walk first rows end (columnsOf count (now (offsets .entry)) (now (deltas .entry))) (kindOf (kindAt kind)) limit start (rooms (length (now (numbers .entry))) (length (now (ends .entry)))))) ⌝ }
+{
     walked_of(walk::walk(
         first,
         rows,
@@ -73,8 +89,11 @@ pub extern "C" fn ridgeoven_next(
     visited: &[u64],
     frontier: &[u64],
     level: &mut [u64],
-) -> Answer {
-    answer_of(levels::next(
+) -> Answer
+    ensures { λ r. ⌜ r ≡ countOf (countedOf (step.next first rows end (columnsOf count (now (offsets .entry)) (now (deltas .entry))) (kindOf (kindAt kind)) limit (now (visited .entry)) (now (frontier .entry)) (room (length (now (level .entry)))))) ⌝ }
+    ensures { λ _. ⌜ now (level .exit) ≡ writtenOver (now (level .entry)) (step.next first rows end (columnsOf count (now (offsets .entry)) (now (deltas .entry))) (kindOf (kindAt kind)) limit (now (visited .entry)) (now (frontier .entry)) (room (length (now (level .entry))))) ⌝ }
+{
+    count_of(levels::next(
         first,
         rows,
         end,
@@ -97,7 +116,9 @@ pub struct Ancestor {
     pub number: u64,
 }
 
-fn ancestor_of(shared: Shared) -> Ancestor {
+fn ancestor_of(shared: Shared) -> Ancestor
+    ensures { λ r. ⌜ r ≡ ancestorOf shared ⌝ }
+{
     match shared {
         Shared::Number(x) => Ancestor {
             refusal: 0,
@@ -128,7 +149,9 @@ pub extern "C" fn ridgeoven_ancestor(
     kind: u64,
     a: u64,
     b: u64,
-) -> Ancestor {
+) -> Ancestor
+    ensures { λ r. ⌜ PromisedBy r (lentRules 0 first rows end (columnsOf count (now (offsets .entry)) (now (deltas .entry))) []) (listOf first (slotsOf first (columnsOf count (now (offsets .entry)) (now (deltas .entry)))) (kindOf (kindAt kind))) a b ⌝ }
+{
     ancestor_of(walk::ancestor(
         first,
         rows,
