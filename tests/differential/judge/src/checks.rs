@@ -10,6 +10,10 @@ pub const ALL: &[(&str, Check)] = &[
     ("records read and written again are the same bytes", records),
     ("a cleaned archive is cleaned to itself", again),
     ("archives that differ in what was erased are cleaned to the same bytes", erased_parts),
+    #[cfg(feature = "archives")]
+    ("the port answers what the original does", port),
+    #[cfg(feature = "archives")]
+    ("the port cleans archives that differ in what was erased to the same bytes", port_twins),
 ];
 
 /// The first check that an archive fails.
@@ -43,12 +47,29 @@ fn untouched(cleaned: &Cleaned) -> bool {
 
 fn erased_parts(bytes: &[u8]) -> Option<String> {
     let first = cleaning::clean(bytes).ok()?;
-    let mut files = read::archive(bytes)?;
-    files.iter_mut().for_each(rub_out);
-    match cleaning::clean(&write::archive(&files)) {
+    match cleaning::clean(&twin(bytes)?) {
         Err(number) => Some(format!("refused {number}")),
         Ok(second) => (second.bytes != first.bytes).then(|| "other bytes".into()),
     }
+}
+
+/// The same archive with other erased parts; its records stand in their files.
+fn twin(bytes: &[u8]) -> Option<Vec<u8>> {
+    let mut files = read::archive(bytes)?;
+    files.iter_mut().for_each(rub_out);
+    Some(write::archive(&files))
+}
+
+#[cfg(feature = "archives")]
+fn port(bytes: &[u8]) -> Option<String> {
+    crate::port::archives::differs(bytes)
+}
+
+/// Asked of archives that the original accepts, so that every record of their twins stands in its file.
+#[cfg(feature = "archives")]
+fn port_twins(bytes: &[u8]) -> Option<String> {
+    cleaning::clean(bytes).ok()?;
+    crate::port::archives::twin_differs(bytes, &twin(bytes)?)
 }
 
 /// Other tags and labels, no roots and no unresolved references where rows are erased; other reverse and inbound sets.

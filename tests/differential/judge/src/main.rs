@@ -41,8 +41,9 @@ differential answer < ARCHIVE                   print the original's listing of 
 differential cases [--question NAME] [--seed N] [--count N] [--seconds N] [--short all]
                                                 print questions over columns with the original's answers;
                                                 with --short all, every short input instead of random ones
-differential sample [--each N]                  print short cases: N for each refusal of each question,
-                                                and 3 N that are accepted
+differential sample [--each N]                  print document 01's edge rows and short cases: N for each refusal
+                                                of each question, and 3 N that are accepted
+differential alone                              print what the port alone is asked, with document 01's answers
 differential replay < CASES                     ask the original again what kept cases ask
 differential questions [--question NAME] [--seed N] [--count N] [--seconds N] [--short all] [--size large]
                                                 ask the port what the original is asked (feature `port`)
@@ -75,6 +76,7 @@ fn command(mut words: impl Iterator<Item = String>) -> Done {
         "answer" => archives::answer(),
         "cases" => asking::print(&Options::read(words, ASKED)?),
         "sample" => asking::sample(&Options::read(words, &["each"])?),
+        "alone" => asking::alone(),
         "replay" => asking::replay(),
         "bench" => asking::bench(),
         "questions" => asking::compare(&Options::read(words, ASKED)?),

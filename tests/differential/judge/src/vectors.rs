@@ -17,16 +17,27 @@ pub fn compare(folder: &Path) -> io::Result<(usize, Vec<String>)> {
     let mut agree = 0;
     let mut differ = Vec::new();
     for path in archives(folder)? {
-        let (listing, cleaned) = cleaning::answers(&fs::read(&path)?);
+        let archive = fs::read(&path)?;
+        let (listing, cleaned) = cleaning::answers(&archive);
         let kept = path.with_extension("cleaned");
         let kept = if kept.exists() { Some(fs::read(kept)?) } else { None };
-        if listing.as_bytes() == fs::read(path.with_extension("listing"))? && cleaned == kept {
+        if listing.as_bytes() == fs::read(path.with_extension("listing"))? && cleaned == kept && port_agrees(&archive) {
             agree += 1;
         } else {
             differ.push(path.file_name().expect("a file").to_string_lossy().into_owned());
         }
     }
     Ok((agree, differ))
+}
+
+#[cfg(not(feature = "archives"))]
+fn port_agrees(_archive: &[u8]) -> bool {
+    true
+}
+
+#[cfg(feature = "archives")]
+fn port_agrees(archive: &[u8]) -> bool {
+    crate::port::archives::differs(archive).is_none()
 }
 
 /// An archive with the original's answers, as a new entry of a folder.

@@ -56,6 +56,10 @@ const LINE: usize = 240;
 pub fn sample(options: &Options) -> Done {
     let each = options.number("each", 8)? as usize;
     for question in &questions::ALL {
+        for (_, input) in questions::edges::all().iter().filter(|(name, _)| *name == question.name) {
+            let answer = (question.ask)(input).expect("the original has every edge row");
+            println!("{}", cases::line(question.name, input, &answer));
+        }
         let mut kept: BTreeMap<u8, Vec<String>> = BTreeMap::new();
         for seed in 1..=SAMPLED {
             let input = (question.make)(&mut Random::new(seed));
@@ -68,6 +72,14 @@ pub fn sample(options: &Options) -> Done {
             }
         }
         kept.values().flatten().for_each(|line| println!("{line}"));
+    }
+    Ok(true)
+}
+
+/// What document 01 answers where the original does not.
+pub fn alone() -> Done {
+    for case in questions::alone::cases() {
+        println!("{}", cases::line(case.name, &case.input, &case.answer));
     }
     Ok(true)
 }
@@ -109,7 +121,7 @@ pub fn compare(_options: &Options) -> Done {
 
 #[cfg(feature = "port")]
 pub fn compare(options: &Options) -> Done {
-    println!("questions: {} asked of the port alone", port::alone::asked()?);
+    println!("questions: {} asked of the port alone", port::alone()?);
     let mut counts: BTreeMap<&str, [usize; 2]> = BTreeMap::new();
     for (question, input, origin) in asked(options)? {
         let Some(compared) = port::question(question, &input) else { continue };

@@ -1,8 +1,8 @@
 //! Times of the original and of the port on the same inputs, in one process: the best of many calls each.
 
 use super::boundary::{
-    ridgeoven_build, ridgeoven_children, ridgeoven_cover_read, ridgeoven_cover_store, ridgeoven_parents, ridgeoven_read_granule,
-    ridgeoven_walk,
+    ridgeoven_build, ridgeoven_children, ridgeoven_cover_build, ridgeoven_cover_read, ridgeoven_cover_store, ridgeoven_parents,
+    ridgeoven_read_granule, ridgeoven_walk,
 };
 use crate::archive::Set;
 use crate::blocks;
@@ -11,7 +11,7 @@ use crate::random::Random;
 use crate::sources;
 use original::layout::api::EventGraph;
 use original::layout::graph::{
-    ChainCover, ChainLink, EdgeKind, GranuleEdges, GraphEdge, GraphInput, RowEdges, decode_granule_edges, encode_graph_blocks,
+    ChainCover, ChainCoverInput, ChainLabel, ChainLink, EdgeKind, GranuleEdges, GraphEdge, GraphInput, RowEdges, decode_granule_edges, encode_graph_blocks,
 };
 use original::layout::shown::{decode_cover, encode_cover};
 use std::hint::black_box;
@@ -196,12 +196,47 @@ impl Inputs {
     }
 }
 
+fn link_columns(links: &[ChainLink]) -> [Vec<u32>; 4] {
+    let column = |part: fn(&ChainLink) -> u32| links.iter().map(part).collect::<Vec<u32>>();
+    [column(|l| l.from_chain), column(|l| l.from_seq), column(|l| l.to_chain), column(|l| l.to_seq)]
+}
+
+/// A cover built of as many labels as links, four to a chain, the links sorted or in any order.
+fn cover_built(count: usize, sorted: bool) -> [f64; 2] {
+    let mut random = Random::new(count as u64);
+    let mut links: Vec<ChainLink> = (0..count as u32).map(|at| ChainLink { from_chain: at / 4, from_seq: at % 4, to_chain: at, to_seq: 1 }).collect();
+    let mut labels: Vec<ChainLabel> = (0..count as u32).map(|at| ChainLabel { chain_id: at / 4, seq: at % 4 }).collect();
+    if !sorted {
+        for at in (1..count).rev() {
+            links.swap(at, random.below(at + 1));
+            labels.swap(at, random.below(at + 1));
+        }
+    }
+    let (chains, seqs): (Vec<u32>, Vec<u32>) = labels.iter().map(|label| (label.chain_id, label.seq)).unzip();
+    let [a, b, c, d] = link_columns(&links);
+    let input = ChainCoverInput { labels, links };
+    let mut out: [Vec<u32>; 7] = std::array::from_fn(|_| vec![0; 1024]);
+    let rust = best(|| drop(black_box(ChainCover::build(&input))));
+    let port = best(|| {
+        let [i, j, k, w, x, y, z] = &mut out;
+        let built = unsafe {
+            ridgeoven_cover_build(
+                chains.as_ptr(), chains.len(), seqs.as_ptr(), seqs.len(),
+                a.as_ptr(), a.len(), b.as_ptr(), b.len(), c.as_ptr(), c.len(), d.as_ptr(), d.len(),
+                i.as_mut_ptr(), i.len(), j.as_mut_ptr(), j.len(), k.as_mut_ptr(), k.len(),
+                w.as_mut_ptr(), w.len(), x.as_mut_ptr(), x.len(), y.as_mut_ptr(), y.len(), z.as_mut_ptr(), z.len(),
+            )
+        };
+        assert_eq!(built.refusal, 0);
+    });
+    [rust, port]
+}
+
 /// A cover of so many links, stored and read back.
 fn cover(count: usize) -> [[f64; 2]; 2] {
     let links: Vec<ChainLink> =
         (0..count as u32).map(|at| ChainLink { from_chain: at / 4, from_seq: at % 4, to_chain: at, to_seq: 1 }).collect();
-    let column = |part: fn(&ChainLink) -> u32| links.iter().map(part).collect::<Vec<u32>>();
-    let given = [column(|l| l.from_chain), column(|l| l.from_seq), column(|l| l.to_chain), column(|l| l.to_seq)];
+    let given = link_columns(&links);
     let mut out: [Vec<u32>; 4] = std::array::from_fn(|_| vec![0; 1024]);
     let whole = ChainCover { chains: Vec::new(), links };
     let [a, b, c, d] = &given;
@@ -256,6 +291,8 @@ pub fn table() {
         line("walk", shape, &sizes.each_ref().map(Inputs::walk));
     }
     line("walk", "one wide level", &[64, 256, 1024].map(wide).each_ref().map(Inputs::walk));
+    line("build a cover", "links sorted", &[64, 256, 1024].map(|count| cover_built(count, true)));
+    line("build a cover", "links in any order", &[64, 256, 1024].map(|count| cover_built(count, false)));
     let covers = [64, 256, 1024].map(cover);
     line("store links", "as many links", &covers.map(|[store, _]| store));
     line("read a cover", "as many links", &covers.map(|[_, read]| read));

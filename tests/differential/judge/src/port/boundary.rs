@@ -44,6 +44,13 @@ pub struct Held {
     pub holds: u64,
 }
 
+#[repr(C)]
+pub struct Covered {
+    pub refusal: u64,
+    pub ranges: usize,
+    pub links: usize,
+}
+
 unsafe extern "C" {
     pub fn ridgeoven_read_set(
         set: u64, first: u64, rows: usize, end: u64,
@@ -130,6 +137,14 @@ unsafe extern "C" {
         a: *mut u32, a_len: usize, b: *mut u32, b_len: usize, c: *mut u32, c_len: usize, d: *mut u32, d_len: usize,
     ) -> Answer;
 
+    pub fn ridgeoven_cover_build(
+        chains: *const u32, chains_len: usize, seqs: *const u32, seqs_len: usize,
+        from_chains: *const u32, from_chains_len: usize, from_seqs: *const u32, from_seqs_len: usize,
+        to_chains: *const u32, to_chains_len: usize, to_seqs: *const u32, to_seqs_len: usize,
+        ids: *mut u32, ids_len: usize, minima: *mut u32, minima_len: usize, maxima: *mut u32, maxima_len: usize,
+        a: *mut u32, a_len: usize, b: *mut u32, b_len: usize, c: *mut u32, c_len: usize, d: *mut u32, d_len: usize,
+    ) -> Covered;
+
     pub fn ridgeoven_build(
         subject: *const u8, subject_len: usize, first: u64, rows: usize,
         offsets: *const u64, offsets_len: usize, targets: *const u64, targets_len: usize,
@@ -146,4 +161,10 @@ unsafe extern "C" {
         reverse_offsets: *mut u64, reverse_offsets_len: usize, reverse_deltas: *mut i64, reverse_deltas_len: usize,
         inbound_offsets: *mut u64, inbound_offsets_len: usize, inbound_deltas: *mut i64, inbound_deltas_len: usize,
     ) -> Granule;
+
+    #[cfg(feature = "archives")]
+    pub fn ridgeoven_clean(bytes: *const u8, bytes_len: usize, out: *mut u8, out_len: usize) -> Answer;
+
+    #[cfg(feature = "archives")]
+    pub fn ridgeoven_listing(bytes: *const u8, bytes_len: usize, out: *mut u8, out_len: usize) -> Answer;
 }

@@ -13,7 +13,7 @@ macro_rules! patterns {
     ($($number:ty),*) => { $(impl Pattern for $number { const PATTERN: Self = 0x5a; })* };
 }
 
-patterns!(u32, u64, i64);
+patterns!(u8, u32, u64, i64);
 
 pub struct Lent<T>(Vec<T>);
 

@@ -1,8 +1,9 @@
 //! The questions over columns, asked of the proved library. Input and answer are the parts of a case.
 
 use super::boundary::{
-    self, ridgeoven_ancestor, ridgeoven_build, ridgeoven_chain_links, ridgeoven_children, ridgeoven_cover_read, ridgeoven_cover_store, ridgeoven_label, ridgeoven_next,
-    ridgeoven_parents, ridgeoven_read_granule, ridgeoven_read_set, ridgeoven_roots, ridgeoven_walk, ridgeoven_window,
+    self, ridgeoven_ancestor, ridgeoven_build, ridgeoven_chain_links, ridgeoven_children, ridgeoven_cover_build, ridgeoven_cover_read,
+    ridgeoven_cover_store, ridgeoven_label, ridgeoven_next, ridgeoven_parents, ridgeoven_read_granule, ridgeoven_read_set, ridgeoven_roots,
+    ridgeoven_walk, ridgeoven_window,
 };
 use super::lent::{Lent, NUMBERS, OFFSETS, Pattern, RECORDS};
 use crate::cases::{Answer, Part, list, number};
@@ -40,9 +41,9 @@ fn answered<T: Pattern + Into<i128>>(answer: &boundary::Answer, out: &Lent<T>) -
     Ok(Ok(vec![list(out.taken(answer.length)?)]))
 }
 
-/// The question of a name, or `None` where the boundary has none.
-pub fn ask(name: &str, p: &[Part]) -> Option<Asked> {
-    Some(match name {
+/// The question of a name.
+pub fn ask(name: &str, p: &[Part]) -> Asked {
+    match name {
         "read" => read(p),
         "parents" => parents(p),
         "children" => children(p),
@@ -50,12 +51,13 @@ pub fn ask(name: &str, p: &[Part]) -> Option<Asked> {
         "roots" => roots(p),
         "walk" => walk(p),
         "build" => build(p),
+        "cover" => cover(p),
         "stored" => stored(p),
         "decode" => decode(p),
         "window" => window(p),
         "links" => chain_links(p),
-        _ => return None,
-    })
+        _ => Err(format!("the port has no question {name}")),
+    }
 }
 
 /// A set of the input: its count, offsets and deltas.
@@ -234,21 +236,48 @@ fn columns<const PARTS: usize>(p: &[Part]) -> [Vec<u32>; PARTS] {
     std::array::from_fn(|at| l(&p[at]))
 }
 
-/// Four lent columns of records.
-fn four() -> [Lent<u32>; 4] {
+/// Lent columns of records.
+fn lent<const PARTS: usize>() -> [Lent<u32>; PARTS] {
     std::array::from_fn(|_| Lent::new(RECORDS))
+}
+
+/// So many entries of each column.
+fn taken(out: &[Lent<u32>], length: usize) -> Result<Vec<Part>, String> {
+    out.iter().map(|one| Ok(list(one.taken(length)?))).collect()
+}
+
+fn all_kept(out: &[Lent<u32>]) -> Vec<Result<(), String>> {
+    out.iter().map(Lent::kept).collect()
 }
 
 fn records(answer: &boundary::Answer, out: &[Lent<u32>]) -> Asked {
     if answer.refusal != 0 {
-        return refused(answer.refusal, &out.iter().map(Lent::kept).collect::<Vec<_>>());
+        return refused(answer.refusal, &all_kept(out));
     }
-    Ok(Ok(out.iter().map(|one| Ok(list(one.taken(answer.length)?))).collect::<Result<_, String>>()?))
+    Ok(Ok(taken(out, answer.length)?))
+}
+
+fn cover(p: &[Part]) -> Asked {
+    let [chains, seqs, a, b, c, d] = columns(p);
+    let (mut ranges, mut links) = (lent::<3>(), lent::<4>());
+    let ([i, j, k], [w, x, y, z]) = (&mut ranges, &mut links);
+    let built = unsafe {
+        ridgeoven_cover_build(
+            chains.as_ptr(), chains.len(), seqs.as_ptr(), seqs.len(),
+            a.as_ptr(), a.len(), b.as_ptr(), b.len(), c.as_ptr(), c.len(), d.as_ptr(), d.len(),
+            i.at(), i.len(), j.at(), j.len(), k.at(), k.len(),
+            w.at(), w.len(), x.at(), x.len(), y.at(), y.len(), z.at(), z.len(),
+        )
+    };
+    if built.refusal != 0 {
+        return refused(built.refusal, &[all_kept(&ranges), all_kept(&links)].concat());
+    }
+    Ok(Ok([taken(&ranges, built.ranges)?, taken(&links, built.links)?].concat()))
 }
 
 fn stored(p: &[Part]) -> Asked {
     let [a, b, c, d] = columns(p);
-    let mut out = four();
+    let mut out = lent();
     let [w, x, y, z] = &mut out;
     let answer = unsafe {
         ridgeoven_cover_store(
@@ -261,7 +290,7 @@ fn stored(p: &[Part]) -> Asked {
 
 fn decode(p: &[Part]) -> Asked {
     let [ids, minima, maxima, a, b, c, d] = columns(p);
-    let mut out = four();
+    let mut out = lent();
     let [w, x, y, z] = &mut out;
     let answer = unsafe {
         ridgeoven_cover_read(
@@ -286,7 +315,7 @@ fn window(p: &[Part]) -> Asked {
 
 fn chain_links(p: &[Part]) -> Asked {
     let [a, b, c, d, chains] = columns(p);
-    let mut out = four();
+    let mut out = lent();
     let [w, x, y, z] = &mut out;
     let answer = unsafe {
         ridgeoven_chain_links(

@@ -1,7 +1,9 @@
 //! The questions over lent columns: how inputs are made, and what the original answers.
 
+pub mod alone;
 mod columns;
 mod cover;
+pub mod edges;
 mod making;
 mod short;
 
@@ -29,7 +31,7 @@ pub const ALL: [Question; 12] = [
     Question { name: "label", form: "NNLLN", make: making::label, short: short::none, ask: columns::label },
     Question { name: "roots", form: "NNL", make: making::roots, short: short::none, ask: columns::roots },
     Question { name: "walk", form: "NNNNLLNNN", make: making::walk, short: short::walk, ask: columns::walk },
-    Question { name: "cover", form: "LLLLLL", make: making::cover, short: short::none, ask: cover::build },
+    Question { name: "cover", form: "LLLLLL", make: making::cover, short: short::cover, ask: cover::build },
     Question { name: "stored", form: "LLLL", make: making::stored, short: short::none, ask: cover::stored },
     Question { name: "decode", form: "LLLLLLL", make: making::decode, short: short::none, ask: cover::decode },
     Question { name: "window", form: "LLLNNN", make: making::window, short: short::window, ask: cover::window },

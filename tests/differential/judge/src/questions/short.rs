@@ -110,6 +110,21 @@ pub fn window() -> Vec<Vec<Part>> {
     found
 }
 
+/// Every cover of at most two labels and two links over small numbers.
+pub fn cover() -> Vec<Vec<Part>> {
+    let mut found = Vec::new();
+    for chains in lists(&[0, 1], 2) {
+        for seqs in lists(&[0, 1], 2).into_iter().filter(|column| column.len() == chains.len()) {
+            for links in lists(&Vec::from_iter(0..16), 2) {
+                let column = |at: usize| Part::List(links.iter().map(|link| link >> at & 1).collect());
+                let labels = [Part::List(chains.clone()), Part::List(seqs.clone())];
+                found.push(labels.into_iter().chain((0..4).map(column)).collect());
+            }
+        }
+    }
+    found
+}
+
 pub fn none() -> Vec<Vec<Part>> {
     Vec::new()
 }

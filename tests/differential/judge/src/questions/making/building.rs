@@ -12,6 +12,7 @@ pub fn roots(random: &mut Random) -> Vec<Part> {
 }
 
 /// A graph, its parts in the order of the question.
+#[derive(Clone)]
 struct Graph {
     subject: usize,
     place: Place,
@@ -26,7 +27,11 @@ struct Graph {
 pub fn build(random: &mut Random) -> Vec<Part> {
     let mut graph = sound_graph(random);
     for _ in 0..random.of(&[0, 0, 1, 1, 2]) {
+        let before = graph.clone();
         break_graph(random, &mut graph);
+        if !graph.fits() {
+            graph = before;
+        }
     }
     let Graph { subject, place, slots, unresolved, depth, labels, inbound, granule } = graph;
     let offsets: Vec<u64> =
@@ -54,10 +59,36 @@ pub fn build(random: &mut Random) -> Vec<Part> {
     ]
 }
 
+impl Graph {
+    /// Whether document 01's limits are kept, which the original does not have.
+    fn fits(&self) -> bool {
+        let targets: usize = self.slots.iter().map(Vec::len).sum();
+        self.place.rows <= 1024 && self.unresolved.len() <= 1024 && targets <= 4096 && self.inbound.len() <= 4096
+    }
+}
+
+/// Whether one round of records more is made: by chance, in a large graph up to so many.
+fn more(random: &mut Random, most: usize, made: usize) -> bool {
+    if random.large { made < most } else { random.once_in(2) }
+}
+
+/// A slot of a large graph with as many parents as the column has room for, or nearly.
+fn widen(random: &mut Random, place: &Place, slots: &mut [Vec<u64>]) {
+    let slot = random.below(slots.len());
+    let event = place.first + slot as u64 / 2;
+    let others: usize = slots.iter().map(Vec::len).sum::<usize>() - slots[slot].len();
+    let step = random.within(1, 3);
+    let room = 4096 - others - random.below(2);
+    slots[slot] = (1..=room as u64).map_while(|at| event.checked_sub(at * step)).collect();
+    if random.once_in(2) {
+        slots[slot].reverse();
+    }
+}
+
 fn sound_graph(random: &mut Random) -> Graph {
     let mut place = place(random);
     place.end = place.first + place.rows;
-    let slots = (0..2 * place.rows)
+    let mut slots: Vec<Vec<u64>> = (0..2 * place.rows)
         .map(|slot| {
             let mut seen = BTreeSet::new();
             let mut list = targets(random, &place, 0, place.first + slot / 2);
@@ -65,14 +96,20 @@ fn sound_graph(random: &mut Random) -> Graph {
             list
         })
         .collect();
+    if random.large && random.once_in(4) {
+        widen(random, &place, &mut slots);
+    }
     let inside = |random: &mut Random| place.first + random.within(0, place.rows - 1);
     let mut unresolved = Vec::new();
     let mut inbound = BTreeSet::new();
-    while place.rows > 0 && random.once_in(2) {
+    let (most, each, reach) = if random.large { (random.below(1025), 4, 2000) } else { (0, 1, 3) };
+    while place.rows > 0 && more(random, most, unresolved.len()) {
         unresolved.push((inside(random), random.below(2) as u8, 0));
-        let parent = inside(random);
-        let child = place.end.saturating_add(random.within(0, 3));
-        inbound.insert((random.of(&[child, child, parent.saturating_add(1 << 63).max(place.end)]), parent, random.below(2) as u8));
+        for _ in 0..each {
+            let parent = inside(random);
+            let child = place.end.saturating_add(random.within(0, reach));
+            inbound.insert((random.of(&[child, child, parent.saturating_add(1 << 63).max(place.end)]), parent, random.below(2) as u8));
+        }
     }
     let granule = if random.once_in(3) {
         let first = random.within(0, place.rows);
@@ -84,7 +121,7 @@ fn sound_graph(random: &mut Random) -> Graph {
     let labels = random.once_in(2).then(|| {
         let mut label = || {
             seq += 1 + random.below(2) as u32;
-            (random.of(&[0, 1, u32::MAX]), seq)
+            (if random.large { random.below(500) as u32 } else { random.of(&[0, 1, u32::MAX]) }, seq)
         };
         (0..place.rows).map(|_| label()).collect()
     });

@@ -12,10 +12,16 @@ fn few(random: &mut Random) -> usize {
     }
 }
 
+/// A number of a chain or a seq; a large input has many different ones.
+fn word(random: &mut Random, choices: &[u32]) -> u32 {
+    if random.large && !random.once_in(4) { random.below(300) as u32 } else { random.of(choices) }
+}
+
 fn some_links(random: &mut Random) -> Vec<[u32; 4]> {
-    let mut word = || random.of(&[0, 1, 2, 5, u32::MAX - 1, u32::MAX]);
+    let different = if random.large { random.of(&[5, 100, 5000]) } else { 5 };
+    let mut word = || word(random, &[0, 1, 2, 5, u32::MAX - 1, u32::MAX]);
     let mut link = || [word(), word(), word(), word()];
-    let links: Vec<[u32; 4]> = (0..5).map(|_| link()).collect();
+    let links: Vec<[u32; 4]> = (0..different).map(|_| link()).collect();
     (0..few(random)).map(|_| random.of(&links)).collect()
 }
 
@@ -25,7 +31,7 @@ fn link_columns(links: &[[u32; 4]]) -> Vec<Part> {
 
 pub fn cover(random: &mut Random) -> Vec<Part> {
     let rows = few(random);
-    let column = |random: &mut Random| list(&Vec::from_iter((0..rows).map(|_| random.of(&[0, 1, 2, 9, u32::MAX]))));
+    let column = |random: &mut Random| list(&Vec::from_iter((0..rows).map(|_| word(random, &[0, 1, 2, 9, u32::MAX]))));
     let mut parts = vec![column(random), column(random)];
     parts.extend(link_columns(&some_links(random)));
     parts

@@ -15,6 +15,7 @@ use crate::random::Random;
 const REACH: u64 = i64::MAX as u64;
 
 /// A granule of a file: its first number, its rows, the file's end.
+#[derive(Clone)]
 struct Place {
     first: u64,
     rows: u64,
