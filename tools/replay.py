@@ -1,19 +1,22 @@
 #!/usr/bin/env python3
-"""replay.py [--check]: writes what the replay programs read and must print, out of tests/differential/kept/cases.txt; with --check it
-only says whether that is up to date.
+"""replay.py [--check]: writes what the replay programs read and must print, out of tests/differential/kept: cases.txt, the original's
+answers, and alone.txt, document 01's where the original has none; with --check it only says whether that is up to date.
 
 A case goes to its program as big-endian words of 64 bits: how many words follow, the question's place among the program's, the input's
-parts and the answer's, a list as its length and its numbers, a negative number in two's complement. The steps of a kept walk are cases
-of `next`: what was visited, the last level and what is left of the limit, and the level that comes next, none at the end."""
+parts and the answer's, a list as its length and its numbers, a negative number in two's complement. A program that lends narrower numbers
+reads all its words once more in each narrower width, cut to it. The steps of a kept walk are cases of `next`: what was visited, the last
+level and what is left of the limit, and the level that comes next, none at the end."""
 import os
 import sys
 
 HERE = os.path.dirname(os.path.dirname(os.path.abspath(__file__)))
-KEPT = os.path.join(HERE, "tests", "differential", "kept", "cases.txt")
+KEPT = [os.path.join(HERE, "tests", "differential", "kept", name) for name in ("cases.txt", "alone.txt")]
+# a program's questions, and the widths in bytes that it reads its words in
 PROGRAMS = {
-    "replay_columns": ["read", "parents", "children", "label", "roots"],
-    "replay_walk": ["walk", "next"],
-    "replay_cover": ["stored", "decode", "window"],
+    "replay_build": (["build"], [8, 4, 1]),
+    "replay_columns": (["read", "parents", "children", "label", "roots"], [8]),
+    "replay_walk": (["walk", "next"], [8]),
+    "replay_cover": (["stored", "decode", "window", "cover", "links"], [8, 4]),
 }
 # the parts of a question's input: N a number, L a list
 FORMS = {"walk": "NNNNLLNNN"}
@@ -52,9 +55,9 @@ def steps(given, answer):
 
 def cases():
     """Every kept case: its question, and its words without the name and the sign between input and answer."""
-    with open(KEPT) as lines:
-        for line in lines:
-            name, rest = line.rstrip("\n").split(" ", 1)
+    for path in KEPT:
+        for line in open(path).read().splitlines():
+            name, rest = line.split(" ", 1)
             given, answer = ([int(word) for word in side.split()] for side in rest.split("="))
             yield name, given + answer
             if name == "walk":
@@ -65,15 +68,15 @@ def cases():
 def files():
     """What each program reads and prints, by path."""
     made = {}
-    for program, questions in PROGRAMS.items():
-        words, counts = bytearray(), dict.fromkeys(questions, 0)
+    for program, (questions, widths) in PROGRAMS.items():
+        words, counts = [], dict.fromkeys(questions, 0)
         for name, case in cases():
             if name in counts:
                 counts[name] += 1
-                for word in (len(case) + 1, questions.index(name), *case):
-                    words += (word % 2**64).to_bytes(8, "big")
+                words += [len(case) + 1, questions.index(name), *case]
         printed = "".join(f"{name} {counts[name]} of {counts[name]}\n" for name in questions)
-        made[os.path.join("crates", program, "stdin")] = bytes(words)
+        read = b"".join((word % 256**width).to_bytes(width, "big") for width in widths for word in words)
+        made[os.path.join("crates", program, "stdin")] = read
         made[os.path.join("crates", program, "stdout")] = printed.encode()
     return made
 

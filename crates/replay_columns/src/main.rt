@@ -95,10 +95,16 @@ fn is_labelled(words: &[u64], at: usize, labelled: Labelled) -> bool {
     match labelled {
         Labelled::At(label) => {
             let found = [long(label.chain), long(label.seq)];
+            if number(words, at) != 0 {
+                return false;
+            }
             kept::is_list(words, after(at), &found, 2)
         }
         Labelled::Unlabelled => {
             let found = [0u64; 1];
+            if number(words, at) != 0 {
+                return false;
+            }
             kept::is_list(words, after(at), &found, 0)
         }
         Labelled::Refused(why) => kept::is_refused(words, at, why),

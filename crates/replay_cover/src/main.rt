@@ -1,12 +1,13 @@
-// The original's kept answers on covers, asked of the proved functions: a line for each question.
+// The original's kept answers on covers, asked of the proved functions: a line for each question. The words of its input come as numbers
+// of 64 bits, and once more as numbers of 32 bits.
 use cover::answer::Answer;
 use cover::answer::Window;
+use cover_build::Built;
 use kept::Tally;
 use kept::after;
 use kept::list;
 use kept::number;
 ghost use mathlib.Core.Path.{_≡_};
-ghost use Prim.Native.Nat.{_≤_};
 ghost use lib.ListN.{length};
 
 // The number at a place of a 32-bit column.
@@ -15,6 +16,31 @@ fn word(shorts: &[u32], at: usize) -> u32 {
         return shorts[at];
     }
     0
+}
+
+// Whether the four lists from `at` on are the first n numbers of four columns.
+fn are_columns(
+    words: &[u64],
+    at: usize,
+    n: usize,
+    a: &[u32],
+    b: &[u32],
+    c: &[u32],
+    d: &[u32],
+) -> bool {
+    let q = list(words, at).to;
+    let r = list(words, q).to;
+    let s = list(words, r).to;
+    if !kept::is_column(words, at, a, n) {
+        return false;
+    }
+    if !kept::is_column(words, q, b, n) {
+        return false;
+    }
+    if !kept::is_column(words, r, c, n) {
+        return false;
+    }
+    kept::is_column(words, s, d, n)
 }
 
 // Four columns of links.
@@ -29,6 +55,30 @@ fn are_links(
 ) -> bool {
     match answer {
         Answer::Done(n) => {
+            if number(words, at) != 0 {
+                return false;
+            }
+            are_columns(words, after(at), n, a, b, c, d)
+        }
+        Answer::Refused(why) => kept::is_refused(words, at, why),
+    }
+}
+
+// Three columns of ranges, from `at` on, and four of links.
+fn is_cover(
+    words: &[u64],
+    at: usize,
+    built: Built,
+    ids: &[u32],
+    minima: &[u32],
+    maxima: &[u32],
+    a: &[u32],
+    b: &[u32],
+    c: &[u32],
+    d: &[u32],
+) -> bool {
+    match built {
+        Built::Done(ranges, links) => {
             let p = after(at);
             let q = list(words, p).to;
             let r = list(words, q).to;
@@ -36,23 +86,144 @@ fn are_links(
             if number(words, at) != 0 {
                 return false;
             }
-            if !kept::is_column(words, p, a, n) {
+            if !kept::is_column(words, p, ids, ranges) {
                 return false;
             }
-            if !kept::is_column(words, q, b, n) {
+            if !kept::is_column(words, q, minima, ranges) {
                 return false;
             }
-            if !kept::is_column(words, r, c, n) {
+            if !kept::is_column(words, r, maxima, ranges) {
                 return false;
             }
-            kept::is_column(words, s, d, n)
+            are_columns(words, s, links, a, b, c, d)
         }
-        Answer::Refused(why) => kept::is_refused(words, at, why),
+        Built::Refused(why) => kept::is_refused(words, at, why),
     }
 }
 
-// The last two columns of links to store, from `at` on.
-fn stored_agrees(words: &[u64], shorts: &[u32], at: usize, chains: &[u32], seqs: &[u32]) -> bool
+// Building, of labels and of four columns of links: what comes behind them, at `at`, is the answer.
+fn build_agrees(
+    words: &[u64],
+    at: usize,
+    chains: &[u32],
+    seqs: &[u32],
+    fc: &[u32],
+    fs: &[u32],
+    tc: &[u32],
+    ts: &[u32],
+) -> bool {
+    let mut ids = [0u32; 1024];
+    let mut minima = [0u32; 1024];
+    let mut maxima = [0u32; 1024];
+    let mut p = [0u32; 1024];
+    let mut q = [0u32; 1024];
+    let mut r = [0u32; 1024];
+    let mut s = [0u32; 1024];
+    let built = cover_build::build(
+        chains,
+        seqs,
+        fc,
+        fs,
+        tc,
+        ts,
+        &mut ids,
+        &mut minima,
+        &mut maxima,
+        &mut p,
+        &mut q,
+        &mut r,
+        &mut s,
+    );
+    is_cover(words, at, built, &ids, &minima, &maxima, &p, &q, &r, &s)
+}
+
+// The links of a cover to build, from `at` on.
+fn built_agrees(words: &[u64], shorts: &[u32], at: usize, chains: &[u32], seqs: &[u32]) -> bool
+    requires { ⌜ length (now words) ≡ length (now shorts) ⌝ }
+{
+    let a = list(words, at);
+    let aa = a.from;
+    let ab = a.to;
+    let b = list(words, ab);
+    let ba = b.from;
+    let bb = b.to;
+    let c = list(words, bb);
+    let ca = c.from;
+    let cb = c.to;
+    let d = list(words, cb);
+    let da = d.from;
+    let db = d.to;
+    build_agrees(
+        words,
+        db,
+        chains,
+        seqs,
+        &shorts[aa..ab],
+        &shorts[ba..bb],
+        &shorts[ca..cb],
+        &shorts[da..db],
+    )
+}
+
+// The links question, of four stored columns: the chains, from `at` on.
+fn links_agree(
+    words: &[u64],
+    shorts: &[u32],
+    at: usize,
+    differences: &[u32],
+    fs: &[u32],
+    tc: &[u32],
+    ts: &[u32],
+) -> bool
+    requires { ⌜ length (now words) ≡ length (now shorts) ⌝ }
+{
+    let c = list(words, at);
+    let ca = c.from;
+    let cb = c.to;
+    let mut p = [0u32; 1024];
+    let mut q = [0u32; 1024];
+    let mut r = [0u32; 1024];
+    let mut s = [0u32; 1024];
+    let answer = cover_links::chain_links(
+        differences,
+        fs,
+        tc,
+        ts,
+        &shorts[ca..cb],
+        &mut p,
+        &mut q,
+        &mut r,
+        &mut s,
+    );
+    are_links(words, cb, answer, &p, &q, &r, &s)
+}
+
+// Storing, of four columns of links: what comes behind them, at `at`, is the answer.
+fn store_agrees(
+    words: &[u64],
+    at: usize,
+    chains: &[u32],
+    seqs: &[u32],
+    tc: &[u32],
+    ts: &[u32],
+) -> bool {
+    let mut p = [0u32; 1024];
+    let mut q = [0u32; 1024];
+    let mut r = [0u32; 1024];
+    let mut s = [0u32; 1024];
+    let answer = cover_encode::encode_links(chains, seqs, tc, ts, &mut p, &mut q, &mut r, &mut s);
+    are_links(words, at, answer, &p, &q, &r, &s)
+}
+
+// The last two of four columns, from `at` on, and what follows them.
+fn linked_agrees(
+    question: u64,
+    words: &[u64],
+    shorts: &[u32],
+    at: usize,
+    chains: &[u32],
+    seqs: &[u32],
+) -> bool
     requires { ⌜ length (now words) ≡ length (now shorts) ⌝ }
 {
     let c = list(words, at);
@@ -61,25 +232,22 @@ fn stored_agrees(words: &[u64], shorts: &[u32], at: usize, chains: &[u32], seqs:
     let d = list(words, cb);
     let da = d.from;
     let db = d.to;
-    let mut p = [0u32; 1024];
-    let mut q = [0u32; 1024];
-    let mut r = [0u32; 1024];
-    let mut s = [0u32; 1024];
-    let answer = cover_encode::encode_links(
+    if question == 0 {
+        return store_agrees(words, db, chains, seqs, &shorts[ca..cb], &shorts[da..db]);
+    }
+    links_agree(
+        words,
+        shorts,
+        db,
         chains,
         seqs,
         &shorts[ca..cb],
         &shorts[da..db],
-        &mut p,
-        &mut q,
-        &mut r,
-        &mut s,
-    );
-    are_links(words, db, answer, &p, &q, &r, &s)
+    )
 }
 
-// Storing: four columns of links.
-fn store_agrees(words: &[u64], shorts: &[u32]) -> bool
+// Storing, building and the links question: two columns, and what follows them.
+fn pairs_agree(question: u64, words: &[u64], shorts: &[u32]) -> bool
     requires { ⌜ length (now words) ≡ length (now shorts) ⌝ }
 {
     let a = list(words, 0);
@@ -88,7 +256,17 @@ fn store_agrees(words: &[u64], shorts: &[u32]) -> bool
     let b = list(words, ab);
     let ba = b.from;
     let bb = b.to;
-    stored_agrees(words, shorts, bb, &shorts[aa..ab], &shorts[ba..bb])
+    if question == 3 {
+        return built_agrees(words, shorts, bb, &shorts[aa..ab], &shorts[ba..bb]);
+    }
+    linked_agrees(
+        question,
+        words,
+        shorts,
+        bb,
+        &shorts[aa..ab],
+        &shorts[ba..bb],
+    )
 }
 
 // The last two stored columns, from `at` on.
@@ -236,10 +414,13 @@ fn ranges_agree(question: u64, words: &[u64], shorts: &[u32]) -> bool
 fn agrees(question: u64, words: &[u64], shorts: &[u32]) -> bool
     requires { ⌜ length (now words) ≡ length (now shorts) ⌝ }
 {
-    if question == 0 {
-        return store_agrees(words, shorts);
+    if question == 1 {
+        return ranges_agree(question, words, shorts);
     }
-    ranges_agree(question, words, shorts)
+    if question == 2 {
+        return ranges_agree(question, words, shorts);
+    }
+    pairs_agree(question, words, shorts)
 }
 
 // One case more, if it is of the question.
@@ -274,24 +455,6 @@ fn replay(question: u64, words: &[u64], shorts: &[u32]) -> Tally
     t
 }
 
-fn short(x: u64) -> u32 {
-    if x < 4294967296 {
-        return x as u32;
-    }
-    0
-}
-
-// The words that are numbers of 32 bits.
-fn shorten(words: &[u64], shorts: &mut [u32])
-    requires { ⌜ length (now words) ≡ length (now shorts) ⌝ }
-{
-    let mut i = 0;
-    while i < words.len() {
-        shorts[i] = short(words[i]);
-        i += 1;
-    }
-}
-
 // A line for each question.
 fn print_all(words: &[u64], shorts: &[u32])
     requires { ⌜ length (now words) ≡ length (now shorts) ⌝ }
@@ -299,14 +462,18 @@ fn print_all(words: &[u64], shorts: &[u32])
     kept::print(b"stored", replay(0, words, shorts));
     kept::print(b"decode", replay(1, words, shorts));
     kept::print(b"window", replay(2, words, shorts));
+    kept::print(b"cover", replay(3, words, shorts));
+    kept::print(b"links", replay(4, words, shorts));
 }
 
 fn main() {
-    let mut bytes = [0u8; 131072];
-    let n = io::read_full(0, &mut bytes) / 8;
-    let mut words = [0u64; 16384];
-    let mut shorts = [0u32; 16384];
-    bigend_columns::load_u64s(&bytes, 0, n, &mut words);
-    shorten(&words, &mut shorts);
-    print_all(&words, &shorts);
+    let mut bytes = [0u8; 196608];
+    let n = io::read_full(0, &mut bytes) / 12;
+    if n <= 16384 {
+        let mut words = [0u64; 16384];
+        let mut shorts = [0u32; 16384];
+        bigend_columns::load_u64s(&bytes, 0, n, &mut words);
+        bigend_columns::load_u32s(&bytes, 8 * n, n, &mut shorts);
+        print_all(&words, &shorts);
+    }
 }
