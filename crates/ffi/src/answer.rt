@@ -31,7 +31,7 @@ pub(crate) fn kind_at(n: u64) -> Kind
     Kind::Prev
 }
 
-fn some_entries(n: usize) -> Answer
+pub(crate) fn some_entries(n: usize) -> Answer
     ensures { λ r. ⌜ r ≡ entries n ⌝ }
 {
     Answer {
@@ -40,7 +40,7 @@ fn some_entries(n: usize) -> Answer
     }
 }
 
-fn no_entries(why: Refusal) -> Answer
+pub(crate) fn no_entries(why: Refusal) -> Answer
     ensures { λ r. ⌜ r ≡ noEntries why ⌝ }
 {
     Answer {

@@ -1,6 +1,7 @@
 // The library for programs in C or Rust: each function hands what it is lent to the proved function of its name, and answers by numbers.
 // A slice is a pointer and a length in elements. `refusal` is document 01's number, or 0 where the call is accepted.
 mod answer;
+pub mod archives;
 pub mod builds;
 pub mod covers;
 pub mod edges;

@@ -2,13 +2,13 @@
 
 use super::boundary::{
     ridgeoven_build, ridgeoven_children, ridgeoven_cover_build, ridgeoven_cover_read, ridgeoven_cover_store, ridgeoven_parents,
-    ridgeoven_read_granule, ridgeoven_walk,
+    ridgeoven_read_granule, ridgeoven_sums, ridgeoven_walk, ridgeoven_write_edges, ridgeoven_write_rows,
 };
-use crate::archive::Set;
+use crate::archive::{File, Row, Set};
 use crate::blocks;
 use crate::questions::OneFile;
 use crate::random::Random;
-use crate::sources;
+use crate::{sources, write};
 use original::layout::api::EventGraph;
 use original::layout::graph::{
     ChainCover, ChainCoverInput, ChainLabel, ChainLink, EdgeKind, GranuleEdges, GraphEdge, GraphInput, RowEdges, decode_granule_edges, encode_graph_blocks,
@@ -86,17 +86,64 @@ impl Inputs {
         decode_granule_edges(block, FIRST, self.rows as u32, self.end, false).expect("a sound granule")
     }
 
+    /// The inbound edges, each of a child, a parent and a kind.
+    fn inbound(&self) -> Vec<(u64, u64, u64)> {
+        (0..).zip(&self.lists[2]).flat_map(|(slot, list)| list.iter().map(move |child| (*child, FIRST + slot / 2, slot % 2))).collect()
+    }
+
+    fn graph(&self) -> GraphInput {
+        let rows = self.lists[0].chunks(2).map(|slots| RowEdges { prev: slots[0].clone(), auth: slots[1].clone() }).collect();
+        let kinds = [EdgeKind::Prev, EdgeKind::Auth];
+        let of = |&(child, parent, kind): &(u64, u64, u64)| GraphEdge { child, kind: kinds[kind as usize], parent };
+        let inbound = self.inbound().iter().map(of).collect();
+        GraphInput { first_sn: FIRST, rows, subject: b"a".to_vec(), inbound, ..GraphInput::default() }
+    }
+
+    /// The file as an archive.
+    fn archive(&self) -> Vec<u8> {
+        let rows = (0..self.rows as u64).map(|tag| Row { erased: false, tag }).collect();
+        let (subject, sets) = (b"a".to_vec(), self.sets.clone());
+        write::archive(&[File { first: FIRST, group: 0, subject, depth: None, sets, rows, unresolved: Vec::new(), roots: Vec::new(), cover: None }])
+    }
+
+    /// The original decodes the three sets, the port reads the whole archive that holds them.
+    fn archive_read(&self) -> [f64; 2] {
+        let (block, bytes) = (blocks::granule(&self.sets, None), self.archive());
+        let rust = best(|| drop(black_box(self.decoded(&block))));
+        let port = best(|| assert_eq!(unsafe { ridgeoven_sums(bytes.as_ptr(), bytes.len()) }.refusal, 0));
+        [rust, port]
+    }
+
+    /// The original encodes the three sets, the port writes them and the rows as records, whose bytes are those of the archive.
+    fn archive_written(&self) -> [f64; 2] {
+        let (graph, granule) = (self.graph(), [sources::granule(self.rows)]);
+        let rust = best(|| drop(black_box(encode_graph_blocks(&graph, self.rows as u64, &granule).expect("a sound file"))));
+        let [f, r, i] = &self.sets;
+        let (flags, tags) = (vec![0u8; self.rows], (0..self.rows as u64).collect::<Vec<u64>>());
+        let mut out = vec![0u8; 196_448];
+        let mut end = 0;
+        let port = best(|| {
+            let answer = unsafe {
+                let edges = ridgeoven_write_edges(
+                    out.as_mut_ptr(), out.len(), 0, f.offsets.as_ptr(), f.offsets.len(), f.deltas.as_ptr(), f.deltas.len(),
+                    r.offsets.as_ptr(), r.offsets.len(), r.deltas.as_ptr(), r.deltas.len(),
+                    i.offsets.as_ptr(), i.offsets.len(), i.deltas.as_ptr(), i.deltas.len(),
+                );
+                ridgeoven_write_rows(out.as_mut_ptr(), out.len(), edges.length, flags.as_ptr(), flags.len(), tags.as_ptr(), tags.len())
+            };
+            assert_eq!(answer.refusal, 0);
+            end = answer.length;
+        });
+        assert!(self.archive().windows(end).any(|part| part == &out[..end]));
+        [rust, port]
+    }
+
     /// The original is given its own rows and edges, the port columns.
     fn build(&self) -> [f64; 2] {
-        let [forward, _, inbound] = &self.lists;
-        let rows = forward.chunks(2).map(|slots| RowEdges { prev: slots[0].clone(), auth: slots[1].clone() }).collect();
-        let kinds = [EdgeKind::Prev, EdgeKind::Auth];
-        let edges: Vec<(u64, u64, u64)> = (0..).zip(inbound).flat_map(|(slot, list)| list.iter().map(move |child| (*child, FIRST + slot / 2, slot % 2))).collect();
-        let of = |&(child, parent, kind): &(u64, u64, u64)| GraphEdge { child, kind: kinds[kind as usize], parent };
-        let graph = GraphInput { first_sn: FIRST, rows, subject: b"a".to_vec(), inbound: edges.iter().map(of).collect(), ..GraphInput::default() };
+        let (graph, edges) = (self.graph(), self.inbound());
         let granule = [sources::granule(self.rows)];
         let rust = best(|| drop(black_box(encode_graph_blocks(&graph, self.rows as u64, &granule).expect("a sound file"))));
-        let (offsets, targets) = (&self.sets[0].offsets, forward.concat());
+        let (offsets, targets) = (&self.sets[0].offsets, self.lists[0].concat());
         let column = |part: fn(&(u64, u64, u64)) -> u64| edges.iter().map(part).collect::<Vec<u64>>();
         let [children, parents, by] = [column(|edge| edge.0), column(|edge| edge.1), column(|edge| edge.2)];
         let mut out: [(Vec<u64>, Vec<i64>); 3] = std::array::from_fn(|_| (vec![0; 2049], vec![0; 4096]));
@@ -286,6 +333,8 @@ pub fn table() {
         let sizes = [64, 256, 1024].map(|rows| inputs(rows, each));
         line("build a granule", shape, &sizes.each_ref().map(Inputs::build));
         line("read a granule", shape, &sizes.each_ref().map(Inputs::read));
+        line("read an archive", shape, &sizes.each_ref().map(Inputs::archive_read));
+        line("write its edges and rows", shape, &sizes.each_ref().map(Inputs::archive_written));
         line("parents", shape, &sizes.each_ref().map(Inputs::parents));
         line("children", shape, &sizes.each_ref().map(Inputs::children));
         line("walk", shape, &sizes.each_ref().map(Inputs::walk));

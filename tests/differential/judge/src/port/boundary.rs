@@ -51,7 +51,32 @@ pub struct Covered {
     pub links: usize,
 }
 
+#[repr(C)]
+pub struct Sums {
+    pub refusal: u64,
+    pub files: usize,
+    pub events: usize,
+    pub roots: usize,
+    pub unresolved: usize,
+    pub ranges: usize,
+    pub links: usize,
+    pub forward: usize,
+    pub reverse: usize,
+    pub inbound: usize,
+}
+
 unsafe extern "C" {
+    pub fn ridgeoven_sums(bytes: *const u8, bytes_len: usize) -> Sums;
+
+    pub fn ridgeoven_write_edges(
+        out: *mut u8, out_len: usize, at: usize, fo: *const u64, fo_len: usize, fd: *const i64, fd_len: usize,
+        ro: *const u64, ro_len: usize, rd: *const i64, rd_len: usize, io: *const u64, io_len: usize, id: *const i64, id_len: usize,
+    ) -> Answer;
+
+    pub fn ridgeoven_write_rows(
+        out: *mut u8, out_len: usize, at: usize, flags: *const u8, flags_len: usize, tags: *const u64, tags_len: usize,
+    ) -> Answer;
+
     pub fn ridgeoven_read_set(
         set: u64, first: u64, rows: usize, end: u64,
         count: u64, offsets: *const u64, offsets_len: usize, deltas: *const i64, deltas_len: usize,
