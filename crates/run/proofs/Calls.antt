@@ -58,7 +58,7 @@ module _ (r : Run) {b : Bool} where
   module _ (e : b ≡ isResolved r) (k : not b ≡ true) where
     pub write-early : (was : List ℕ) → Writes r was was (writing.Refused OutOfTurn)
     unfolding runStep
-    write-early was = record { step = not-resolved-yet r (sym e ∙ not-true b k) (writes (length was)) refl (λ h. refl); rest = refl }
+    write-early was = record { step = not-resolved-yet r (sym e ∙ not-true b k) (writes (length was)) refl (λ h. refl); rest = refl; within = omega arith }
 
     pub map-early : (old : ℕ) → Maps r old (number.Refused OutOfTurn)
     unfolding runStep
@@ -120,7 +120,7 @@ module _ (r : Run) {b : Bool} (e : b ≡ isResolved r) (k : not b ≡ false) whe
   pub write-now : {is : List ℕ} {a : Writing} (was : List ℕ) → Wrote (sheetIn (r .sheet)) was is a → Writes r was is a
   unfolding runStep
   write-now {is} {a} was w =
-      record { step = by-state (writes (length was)) _ (seen-resolved r is-resolved) refl ∙ ap (runOutcome (view r)) (sym (w .answer)); rest = w .rest }
+      record { step = by-state (writes (length was)) _ (seen-resolved r is-resolved) refl ∙ ap (runOutcome (view r)) (sym (w .answer)); rest = w .rest; within = w .within }
 
 -- ── what a run stands for after a step ───────────────────────────────────────────────────────
 

@@ -3,7 +3,7 @@
 use mathlib.Core.Path.{_≡_}
 use mathlib.Core.List.{List}
 use mathlib.Core.Option.{none, some}
-use Prim.Native.Nat.{ℕ}
+use Prim.Native.Nat.{ℕ, _≤_}
 use lib.ListN.{length, drop}
 use Rattle.cleaning.specs.Step.{Call, writes, maps, counts, Answer, refused, done, told, counted}
 use Rattle.cleaning.specs.Runs.{runOutcome, runStep}
@@ -46,10 +46,11 @@ pub record Steps (c : Call) (before after : Run) (r : Reply) : Type 0 where
   pub answer : replied r ≡ (runStep (view before) c) .answer
   pub kept : Kept r before after
 
--- writing: the run stays as it is; the bytes are those of the step's answer, and past them all is as it was
+-- writing: the run stays as it is; the bytes are those of the step's answer, no more than were lent, and past them all is as it was
 pub record Writes (run : Run) (was is : List ℕ) (r : Writing) : Type 0 where
   pub step : runStep (view run) (writes (length was)) ≡ runOutcome (view run) (answerOf r is)
   pub rest : drop (lengthOf r) is ≡ drop (lengthOf r) was
+  pub within : lengthOf r ≤ length was
 
 -- asking for the new number of an old one, and for the reparented: the run stays as it is
 abbrev pub Maps : Run → ℕ → Number → Type 0

@@ -134,6 +134,7 @@ module _ (s : Sheet) (l : LongSheet s) (k : sheetOk s ≡ true) (o : ordered s �
     wrote-refused x e = record {
       answer = sym (ap (writeInto (length was)) (as-sections ∙ ap (λ r. unless r (sectionBytes (sheetIn s))) (broken-some (sectionRules (sheetIn s)) x (sym (d .rules) ∙ e))));
       rest = refl;
+      within = omega arith;
     }
 
     module _ (e : m .ruling ≡ Kept) where
@@ -147,7 +148,7 @@ module _ (s : Sheet) (l : LongSheet s) (k : sheetOk s ≡ true) (o : ordered s �
       pub wrote-short : length was < m .length → Wrote (sheetIn s) was was (Refused SliceShort)
       wrote-short h =
           let q : length was < length (sectionBytes (sheetIn s)) = omega (arith, d .length-is no-rule) in
-          record { answer = sym (all-accepted ∙ rw (lt-leb (length (sectionBytes (sheetIn s))) (length was) q)); rest = refl }
+          record { answer = sym (all-accepted ∙ rw (lt-leb (length (sectionBytes (sheetIn s))) (length was) q)); rest = refl; within = omega arith }
 
       pub room-for-all : m .length ≤ length was → length (sectionBytes (sheetIn s)) ≤ length was
       room-for-all h = omega (arith, d .length-is no-rule)
@@ -162,4 +163,5 @@ module _ (s : Sheet) (l : LongSheet s) (k : sheetOk s ≡ true) (o : ordered s �
           record {
             answer = ap wrote t ∙ sym (all-accepted ∙ rw (le-leb (length w) (length was) (omega arith)));
             rest = rw (p, n) (drop-at w (drop (length w) was) (length w) refl);
+            within = h;
           }

@@ -2,7 +2,7 @@
 use mathlib.Core.Path.{_≡_}
 use mathlib.Core.List.{List}
 use mathlib.Core.Option.{none}
-use Prim.Native.Nat.{ℕ}
+use Prim.Native.Nat.{ℕ, _≤_}
 use lib.ListN.{length, take, drop}
 use Rattle.cleaning.specs.Sheet.{Sheet, summaryOf}
 use Rattle.cleaning.specs.Sections.{sectionRules, sectionBytes}
@@ -28,7 +28,8 @@ abbrev pub answerOf : Writing → List ℕ → Answer
 answerOf (Length n) is = wrote (take n is)
 answerOf (Refused x) is = refused x
 
--- the answer for as much room as was lent; past the bytes written all is as it was
+-- the answer for as much room as was lent: no more bytes than that, and past them all is as it was
 pub record Wrote (s : Sheet) (was is : List ℕ) (r : Writing) : Type 0 where
   pub answer : answerOf r is ≡ writeInto (length was) (written (summaryOf s))
   pub rest : drop (lengthOf r) is ≡ drop (lengthOf r) was
+  pub within : lengthOf r ≤ length was
