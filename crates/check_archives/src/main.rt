@@ -1,0 +1,157 @@
+// Opens every archive that its arguments name and says of each, in a line, whether it is accepted: taken, resolved and written. It goes on after a
+// bad one, and ends with how many were accepted, refused and not read.
+use archive_reader::files::Summed;
+use archive_reader::files::sum_up;
+use columns::refusal::Refusal;
+use libc::STDOUT_FILENO;
+use writing::Writing;
+
+enum Outcome {
+    Accepted,
+    Refused,
+    Unread,
+}
+
+// How many events an archive has.
+fn events_of(bytes: &[u8]) -> usize {
+    let x = sum_up(bytes);
+    match x {
+        Summed::Sums(t) => t.events,
+        Summed::Broken => 0,
+    }
+}
+
+fn files_of(bytes: &[u8]) -> usize {
+    let x = sum_up(bytes);
+    match x {
+        Summed::Sums(t) => t.files,
+        Summed::Broken => 0,
+    }
+}
+
+fn less(a: usize, b: usize) -> usize {
+    if a < b {
+        return 0;
+    }
+    a - b
+}
+
+// What an accepted archive holds. The rows of the cleaned archive are the survivors.
+fn tell_accepted(bytes: &[u8], cleaned: &[u8]) {
+    let events = events_of(bytes);
+    let survivors = events_of(cleaned);
+    telling::tell_count(STDOUT_FILENO, b"accepted: files ", files_of(bytes));
+    telling::tell_count(STDOUT_FILENO, b", events ", events);
+    telling::tell_count(STDOUT_FILENO, b", erased ", less(events, survivors));
+    telling::tell_count(STDOUT_FILENO, b", survivors ", survivors);
+    io::write_all(STDOUT_FILENO, b"\n");
+}
+
+fn check_bytes(bytes: &[u8]) -> Outcome {
+    let mut out = [0u8; 196448];
+    let r = cleaner::clean(bytes, &mut out);
+    match r {
+        Writing::Refused(x) => {
+            telling::tell_refusal(STDOUT_FILENO, x);
+            Outcome::Refused
+        }
+        Writing::Length(n) => {
+            tell_accepted(bytes, &out[..n]);
+            Outcome::Accepted
+        }
+    }
+}
+
+// Reads an open file, of at most 2 MiB, and checks it.
+fn check_file(fd: i32) -> Outcome {
+    let mut input = [0u8; 2097153];
+    let n = io::read_full(fd, &mut input);
+    libc::close(fd);
+    if 2097152 < n {
+        telling::tell_refusal(STDOUT_FILENO, Refusal::SliceShort);
+        return Outcome::Refused;
+    }
+    check_bytes(&input[..n])
+}
+
+fn check_named(path: &[u8]) -> Outcome {
+    io::write_all(STDOUT_FILENO, path);
+    io::write_all(STDOUT_FILENO, b": ");
+    let fd = os::open_read(path);
+    if fd < 0 {
+        io::write_all(STDOUT_FILENO, b"cannot be read\n");
+        return Outcome::Unread;
+    }
+    check_file(fd)
+}
+
+// The archive that argument i names.
+fn check_argument(i: usize) -> Outcome {
+    let mut path = io::buffer();
+    let n = os::arg(i, &mut path);
+    if os::errno() != 0 {
+        io::write_all(STDOUT_FILENO, b"an argument cannot be read\n");
+        return Outcome::Unread;
+    }
+    check_named(&path[..n])
+}
+
+// The three counts, and how many arguments are left.
+struct Tally {
+    accepted: u64,
+    refused: u64,
+    unread: u64,
+}
+
+fn one_more(n: u64) -> u64 {
+    std::num::wrapping_add_u64(n, 1)
+}
+
+fn counted(t: Tally, o: Outcome) -> Tally {
+    match o {
+        Outcome::Accepted => Tally {
+            accepted: one_more(t.accepted),
+            refused: t.refused,
+            unread: t.unread,
+        },
+        Outcome::Refused => Tally {
+            accepted: t.accepted,
+            refused: one_more(t.refused),
+            unread: t.unread,
+        },
+        Outcome::Unread => Tally {
+            accepted: t.accepted,
+            refused: t.refused,
+            unread: one_more(t.unread),
+        },
+    }
+}
+
+fn check_all(n: usize) -> Tally {
+    let mut t = Tally {
+        accepted: 0,
+        refused: 0,
+        unread: 0,
+    };
+    let mut i = 1;
+    while i < n {
+        t = counted(t, check_argument(i));
+        i += 1;
+    }
+    t
+}
+
+fn main() {
+    let n = os::arg_count();
+    if n < 2 {
+        io::write_all(STDOUT_FILENO, b"check_archives ARCHIVE..: says of each archive whether it is accepted\n");
+        return;
+    }
+    let t = check_all(n);
+    io::print_decimal(STDOUT_FILENO, t.accepted);
+    io::write_all(STDOUT_FILENO, b" accepted, ");
+    io::print_decimal(STDOUT_FILENO, t.refused);
+    io::write_all(STDOUT_FILENO, b" refused, ");
+    io::print_decimal(STDOUT_FILENO, t.unread);
+    io::write_all(STDOUT_FILENO, b" not read\n");
+}
