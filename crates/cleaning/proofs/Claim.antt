@@ -125,7 +125,7 @@ claim cs ds l w v m n =
 
 -- ── over traces ──────────────────────────────────────────────────────────────────────────────
 
-abbrev callOf : Did → Call
+abbrev pub callOf : Did → Call
 callOf (did c a) = c
 
 module _ (Run Reply : Type 0) (view : Run → RunState) (answered : Reply → Answer) where
@@ -140,7 +140,7 @@ module _ (Run Reply : Type 0) (view : Run → RunState) (answered : Reply → An
       (trace-history rest ((step s c) .state) (ss ++ took (did c ((step s c) .answer))) (step-after s c ss i) (meets .state ∙ ap (λ x. x .state) o))
 
   -- from a fresh run
-  fresh-history : {r : Run} {h : List Did} → view r ≡ freshRun → Trace Run Reply view answered r h → h ≡ history fresh (map callOf h)
+  pub fresh-history : {r : Run} {h : List Did} → view r ≡ freshRun → Trace Run Reply view answered r h → h ≡ history fresh (map callOf h)
   unfolding Inv hold heldOf
   fresh-history e t = trace-history t fresh [] (refl, tt) e
 

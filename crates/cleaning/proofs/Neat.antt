@@ -166,7 +166,7 @@ neat-valid h n = valid-held h (n .rows) (n .below)
 
 -- the sheet of the survivors of a neat run that is not refused is tidy, and every group has a row in it
 module _ (h : Held) (n : Neat h) where
-  survivors-tidy : Tidy (survivorSheet h (slotted (length ((archiveHeld h) .events)) (tables (archiveHeld h))))
+  pub survivors-tidy : Tidy (survivorSheet h (slotted (length ((archiveHeld h) .events)) (tables (archiveHeld h))))
   survivors-tidy =
       let A = archiveHeld h in
       tidy-survivors h (n .rows) (n .tidy) (slotted (length (A .events)) (tables A))

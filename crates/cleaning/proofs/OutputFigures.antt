@@ -62,7 +62,7 @@ add-label-few (r ∷ rs) l = elim (tested (ltb (r .chain) (l .chain))) [
   | inr e ↦ elim (tested (eqb (r .chain) (l .chain))) [ inl f ↦ rw (e, f) (omega arith) | inr f ↦ rw (e, f) (omega arith) ]
 ]
 
-ranges-few : (labels : List Label) → length (rangesOf labels) ≤ length labels
+pub ranges-few : (labels : List Label) → length (rangesOf labels) ≤ length labels
 unfolding rangesOf
 ranges-few labels = omega (arith, go [] labels)
   where

@@ -1,19 +1,17 @@
 -- Range columns stand for the ranges that are written to them, of which there are no more than labels.
 use mathlib.Core.Path.{_≡_, ap, sym, _∙_}
-use mathlib.Core.Logic.{inl, inr}
-use mathlib.Core.List.{List, [], _∷_, map, foldl}
+use mathlib.Core.List.{List, [], _∷_, map}
 use Prim.Native.Nat.{ℕ, suc, _+_, _≤_, _<_}
 use native.Mathlib.Nat.{zero-add}
 use native.Mathlib.Omega.{arith}
-use lib.Dec.{ltb, eqb}
 use lib.ListN.{length, getD, take, drop, length-take, length-map, List·getD-map, List·getD-append}
 use lib.Seq.{length-take-le}
-use Rattle.lists.proofs.Tests.{tested}
 use Rattle.lists.proofs.Filters.{map-places}
 use Rattle.columns.specs.Reading.{Label, labelsOf}
-use Rattle.cover.specs.Chains.{Range, addLabel, rangesOf}
+use Rattle.cover.specs.Chains.{Range, rangesOf}
 use Rattle.cover.specs.Answers.{rangeColumns, range, over}
 use Rattle.cover_labels.specs.Runs.{rangesOver}
+use Rattle.cleaning.proofs.OutputFigures as labels
 use Rattle.out_file.specs.declared.Ranges.{Ranges}
 use Rattle.out_file.specs.View.{rangeAt, rangesIn}
 
@@ -37,18 +35,6 @@ module _ (n : ℕ) (xs : List ℕ) (h : n ≤ 1024) (l : length xs ≡ 1024) whe
 
 -- ── how many there are ───────────────────────────────────────────────────────────────────────
 
-add-few : (rs : List Range) (l : Label) → length (addLabel rs l) ≤ suc (length rs)
-unfolding addLabel
-add-few [] l = omega arith
-add-few (r ∷ rs) l = elim (tested (ltb (r .chain) (l .chain))) [
-  | inl e ↦ rw e (omega (arith, add-few rs l))
-  | inr e ↦ elim (tested (eqb (r .chain) (l .chain))) [ inl f ↦ rw (e, f) (omega arith) | inr f ↦ rw (e, f) (omega arith) ]
-]
-
-fold-few : (rs : List Range) (ls : List Label) → length (foldl addLabel rs ls) ≤ length rs + length ls
-fold-few rs [] = omega arith
-fold-few rs (l ∷ ls) = omega (arith, fold-few (addLabel rs l) ls, add-few rs l)
-
 labels-few : (cs ss : List ℕ) → length (labelsOf cs ss) ≤ length cs
 unfolding labelsOf
 labels-few [] ss = omega arith
@@ -56,8 +42,7 @@ labels-few (c ∷ cs) [] = omega arith
 labels-few (c ∷ cs) (s ∷ ss) = omega (arith, labels-few cs ss)
 
 pub ranges-few : (xs ss : List ℕ) (m n : ℕ) → n ≡ length (rangesOf (labelsOf (take m xs) ss)) → m ≤ 1024 → n ≤ 1024
-unfolding rangesOf
-ranges-few xs ss m n e h = omega (arith, fold-few [] (labelsOf (take m xs) ss), labels-few (take m xs) ss, length-take m xs)
+ranges-few xs ss m n e h = omega (arith, labels.ranges-few (labelsOf (take m xs) ss), labels-few (take m xs) ss, length-take m xs)
 
 -- ── what they are ────────────────────────────────────────────────────────────────────────────
 

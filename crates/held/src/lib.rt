@@ -1,15 +1,18 @@
 // What a run holds, as columns of fixed length: the rows and records of its sources, and those of its survivors. specs/ says what they stand for.
+// A run crosses to C and Rust by value, so that the layout of each struct is C's.
 pub mod empty;
 pub mod tests;
 pub mod valid;
 
 // The bytes that name the room.
+#[repr(C)]
 pub struct Subject {
     pub length: usize,
     pub bytes: [u8; 255],
 }
 
 // Groups by rising number: whether the depth is known and what it is, whether there is a cover.
+#[repr(C)]
 pub struct Groups {
     pub count: usize,
     pub known: [u8; 16],
@@ -19,6 +22,7 @@ pub struct Groups {
 }
 
 // Rows in the order of their numbers: group, tag and label of each.
+#[repr(C)]
 pub struct Rows {
     pub count: usize,
     pub groups: [u8; 1024],
@@ -28,6 +32,7 @@ pub struct Rows {
 }
 
 // Lists of numbers, two for each row: where each starts, and the numbers of all.
+#[repr(C)]
 pub struct Edges {
     pub count: usize,
     pub offsets: [u64; 2049],
@@ -35,6 +40,7 @@ pub struct Edges {
 }
 
 // Unresolved references: the child, the kind, the host's handle of the parent.
+#[repr(C)]
 pub struct Unresolved {
     pub count: usize,
     pub children: [u64; 1024],
@@ -43,6 +49,7 @@ pub struct Unresolved {
 }
 
 // State roots: a row and the host's handle.
+#[repr(C)]
 pub struct Roots {
     pub count: usize,
     pub rows: [u64; 1024],
@@ -50,12 +57,14 @@ pub struct Roots {
 }
 
 // One side of the links between chains.
+#[repr(C)]
 pub struct Ends {
     pub chains: [u32; 1024],
     pub seqs: [u32; 1024],
 }
 
 // Links, and the group of each.
+#[repr(C)]
 pub struct Links {
     pub count: usize,
     pub groups: [u8; 1024],
@@ -64,6 +73,7 @@ pub struct Links {
 }
 
 // Rows, and what belongs to them and to their groups. Of each column the entries up to its count are held.
+#[repr(C)]
 pub struct Sheet {
     pub start: u64,
     pub subject: Subject,
@@ -76,6 +86,7 @@ pub struct Sheet {
 }
 
 // What is held of sources: their rows, which of them are erased, the lists of their other two sets, the number of their ranges.
+#[repr(C)]
 pub struct Held {
     pub sheet: Sheet,
     pub erased: [u8; 1024],

@@ -29,7 +29,7 @@ use Rattle.cleaning.proofs.SurvivorSheet.{summary-held}
 use Rattle.cleaning.proofs.Tabled.{tabled-summary}
 use Rattle.cleaning.proofs.NewLists.{lists-good}
 use Rattle.cleaning.proofs.TidySurvivors.{tidy-survivors}
-use Rattle.cleaning.proofs.Neat.{Neat, neat-valid}
+use Rattle.cleaning.proofs.Neat.{Neat, neat-valid, survivors-tidy}
 use Rattle.held.specs.Valid.{below, earlier}
 
 -- ── slots of rows ────────────────────────────────────────────────────────────────────────────
@@ -69,12 +69,6 @@ sheet-below s e h =
 -- ── the survivors of a neat run ──────────────────────────────────────────────────────────────
 
 module _ (h : Held) (n : Neat h) where
-  pub survivors-tidy : Tidy (survivorSheet h (slotted (length ((archiveHeld h) .events)) (tables (archiveHeld h))))
-  survivors-tidy =
-      let A = archiveHeld h in
-      tidy-survivors h (n .rows) (n .tidy) (slotted (length (A .events)) (tables A))
-      (slotted-length (length (A .events)) (tables A) (tables-length A) ∙ ap (λ m. kinds * m) (events-length h (n .rows)))
-
   pub survivors-earlier : earlier (h .sheet .start) 0 ((survivorSheet h (slotted (length ((archiveHeld h) .events)) (tables (archiveHeld h)))) .lists) ≡ true
   unfolding survivorSheet archiveHeld
   survivors-earlier =
@@ -82,5 +76,5 @@ module _ (h : Held) (n : Neat h) where
       let s = survivorSheet h (slotted (length (A .events)) (tables A)) in
       let v = neat-valid h n in
       let e = summary-held h (tables A) (n .rows) (tables-length A) ∙ tabled-summary A v in
-      sheet-below s (eqb-true (length (s .lists)) (kinds * rowCount s) (survivors-tidy .eachList))
+      sheet-below s (eqb-true (length (s .lists)) (kinds * rowCount s) ((survivors-tidy h n) .eachList))
       (subst (λ S. RowsFrom (A .start) (S .rows)) (sym e) (lists-good A v))

@@ -17,7 +17,7 @@ use Rattle.cleaning.specs.Sections.{Tidy, reaches}
 use Rattle.cleaning.specs.Survivors.{survivorSheet}
 use Rattle.cleaning.proofs.HeldColumns.{held-entries, held-lists}
 use Rattle.cleaning.proofs.FilledGroups.{held-survive}
-use Rattle.cleaning.proofs.Neat.{Neat, neat-valid}
+use Rattle.cleaning.proofs.Neat.{Neat, neat-valid, survivors-tidy}
 use Rattle.held.specs.declared.Edges.{Edges}
 use Rattle.held.specs.declared.Sheet.{Sheet}
 use Rattle.held.specs.declared.Held.{Held}
@@ -33,14 +33,9 @@ use Rattle.resolving_lists.specs.Renewal.{EdgesKept, Renewal}
 use Rattle.resolved.specs.Survive.{SheetKept}
 use Rattle.resolved.proofs.SheetParts.{part-rows, part-unresolved, part-roots, part-groups, flags-end}
 use Rattle.resolved.proofs.SurvivorLaw.{sheet-survives}
+use Rattle.resolving_records.proofs.NewRecords.{filter-few}
 use Rattle.resolution.specs.Outcome.{flagsIn, newIn, ListsRenewed, SurvivorsIn}
-use Rattle.resolution.proofs.SlotOrder.{survivors-tidy, survivors-earlier}
-
-filter-few : (es : List Bool) → length (filter not es) ≤ length es
-unfolding filter
-filter-few [] = omega arith
-filter-few (true ∷ es) = omega (arith, filter-few es)
-filter-few (false ∷ es) = omega (arith, filter-few es)
+use Rattle.resolution.proofs.SlotOrder.{survivors-earlier}
 
 -- a test of a part of every record is one of the column
 column-all : {A : Type 0} (p : ℕ → Bool) (g : A → ℕ) (f : ℕ → A) (l : List ℕ) (n : ℕ) → ((i : ℕ) → g (f i) ≡ getD l i 0) → n ≤ length l

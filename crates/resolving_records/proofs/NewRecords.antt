@@ -48,7 +48,7 @@ long-of zero col e = omega arith
 long-of (suc c) [] e = absurd (omega (arith, e))
 long-of (suc c) (x ∷ col) e = omega (arith, long-of c col (omega (arith, e)))
 
-filter-few : (es : List Bool) → length (filter not es) ≤ length es
+pub filter-few : (es : List Bool) → length (filter not es) ≤ length es
 unfolding filter
 filter-few [] = omega arith
 filter-few (true ∷ es) = omega (arith, filter-few es)
