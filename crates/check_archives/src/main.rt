@@ -48,7 +48,7 @@ fn tell_accepted(bytes: &[u8], cleaned: &[u8]) {
 }
 
 fn check_bytes(bytes: &[u8]) -> Outcome {
-    let mut out = [0u8; 196448];
+    let mut out = telling::output_room();
     let r = cleaner::clean(bytes, &mut out);
     match r {
         Writing::Refused(x) => {
@@ -56,18 +56,19 @@ fn check_bytes(bytes: &[u8]) -> Outcome {
             Outcome::Refused
         }
         Writing::Length(n) => {
-            tell_accepted(bytes, &out[..n]);
+            let m = telling::within(n, &out);
+            tell_accepted(bytes, &out[..m]);
             Outcome::Accepted
         }
     }
 }
 
-// Reads an open file, of at most 2 MiB, and checks it.
+// Reads an open file, of at most 655,360 bytes, and checks it.
 fn check_file(fd: i32) -> Outcome {
-    let mut input = [0u8; 2097153];
+    let mut input = telling::input_room();
     let n = io::read_full(fd, &mut input);
     libc::close(fd);
-    if 2097152 < n {
+    if 655360 < n {
         telling::tell_refusal(STDOUT_FILENO, Refusal::SliceShort);
         return Outcome::Refused;
     }

@@ -6,14 +6,15 @@ use libc::STDIN_FILENO;
 use libc::STDOUT_FILENO;
 use writing::Writing;
 
-// No cleaned archive is longer than 196,448 bytes.
+// Cleans bytes, and writes what they are cleaned to.
 fn clean(bytes: &[u8]) {
-    let mut out = [0u8; 196448];
+    let mut out = telling::output_room();
     let r = cleaner::clean(bytes, &mut out);
     match r {
         Writing::Refused(x) => telling::tell_refusal(STDERR_FILENO, x),
         Writing::Length(n) => {
-            let is_written = io::write_all(STDOUT_FILENO, &out[..n]);
+            let m = telling::within(n, &out);
+            let is_written = io::write_all(STDOUT_FILENO, &out[..m]);
             if !is_written {
                 os::fail(b"standard output");
             }
@@ -21,11 +22,11 @@ fn clean(bytes: &[u8]) {
     }
 }
 
-// An archive of more than 2 MiB is refused with 41. One with a row in every file has less than 1 MiB.
+// An archive of more than 655,360 bytes is refused with 41.
 fn main() {
-    let mut input = [0u8; 2097153];
+    let mut input = telling::input_room();
     let n = io::read_full(STDIN_FILENO, &mut input);
-    if 2097152 < n {
+    if 655360 < n {
         telling::tell_refusal(STDERR_FILENO, Refusal::SliceShort);
         return;
     }
