@@ -1,14 +1,17 @@
 -- Demand 3 over a run's functions: a trace of their contracts is one of the steps, and so the claim holds of it.
-use mathlib.Core.Path.{_≡_, sym, ap}
-use mathlib.Core.List.{List, _∷_}
-use Rattle.cleaning.specs.Step.{Answer}
+use mathlib.Core.Path.{_≡_, sym, ap, subst, _∙_}
+use mathlib.Core.List.{List, _∷_, map}
+use Rattle.cleaning.specs.Step.{Call, Answer, fresh}
 use Rattle.cleaning.specs.Runs.{runStep}
-use Rattle.cleaning.specs.History.{Did, did}
+use Rattle.cleaning.specs.History.{Did, did, history, Wrote, cleaned}
+use Rattle.cleaning.specs.Accepted.{archiveOfFiles}
 use Rattle.cleaning.specs.Trace as steps
-use Rattle.cleaning.proofs.Claim.{claim-of-traces}
+use Rattle.cleaning.proofs.Claim.{fresh-history, claim-of-traces}
+use Rattle.cleaning.proofs.Written.{accepted}
+use Rattle.cleaning.proofs.SameBytes.{idempotent}
 use Rattle.run.specs.View.{view}
 use Rattle.run.specs.Contracts.{replied, numbered, countedAs}
-use Rattle.run.specs.Traces.{Link, took, resolved, wrote, mapped, counted, Trace, ended, linked, ClaimOfRuns}
+use Rattle.run.specs.Traces.{Link, took, resolved, wrote, mapped, counted, Trace, ended, linked, Fresh, callOf, ClaimOfRuns, AcceptedByRuns, SameAgain}
 use Rattle.run.specs.declared.Run.{Run}
 use Rattle.writing.specs.Answers.{answerOf}
 
@@ -33,3 +36,15 @@ of-steps (linked after l t) = in-front l (of-steps t)
 
 pub claim-of-runs : ClaimOfRuns
 claim-of-runs r s er es h g t u = claim-of-traces Run Answer view (λ a. a) r s er es h g (of-steps t) (of-steps u)
+
+-- ── the claim speaks of something ────────────────────────────────────────────────────────────
+
+-- a trace from a fresh run is the history of its calls
+as-history : (run : Run) → Fresh run → (h : List Did) → Trace run h → {cs : List Call} → map callOf h ≡ cs → h ≡ history fresh cs
+as-history run f h t e = fresh-history Run Answer view (λ a. a) f (of-steps t) ∙ ap (history fresh) e
+
+pub accepted-by-runs : AcceptedByRuns
+accepted-by-runs fs c room l run f h t e = subst (λ g. Wrote g (cleaned (archiveOfFiles fs))) (sym (as-history run f h t e)) (accepted fs c room l)
+
+pub same-again : SameAgain
+same-again fs c room l run f h t e = subst (λ g. Wrote g (cleaned (archiveOfFiles fs))) (sym (as-history run f h t e)) (idempotent fs c room l)

@@ -1,13 +1,16 @@
 -- Demand 3 over a run's functions: a trace is a list of their calls from a run on, each link literally what the function's contract says of the
 -- run before and after, the bytes taken, and the bytes lent and written.
 use mathlib.Core.Path.{_≡_}
-use mathlib.Core.List.{List, [], _∷_}
-use Prim.Native.Nat.{ℕ}
+use mathlib.Core.List.{List, [], _∷_, map}
+use Prim.Native.Nat.{ℕ, _≤_}
 use lib.ListN.{length}
-use Rattle.cleaning.specs.Step.{takes, resolves, writes, maps, counts}
+use Rattle.archive.specs.File.{File}
+use Rattle.archive.specs.Encode.{encode}
+use Rattle.cleaning.specs.Step.{Call, takes, resolves, writes, maps, counts}
 use Rattle.cleaning.specs.Runs.{freshRun}
 use Rattle.cleaning.specs.History.{Did, did, archiveIn, Wrote, cleaned}
 use Rattle.cleaning.specs.Alike.{Alike}
+use Rattle.cleaning.specs.Accepted.{archiveOfFiles, Cleanable}
 use Rattle.writing.specs.Answers.{answerOf}
 use Rattle.writing.specs.declared.Writing.{Writing}
 use Rattle.run.specs.View.{view}
@@ -38,3 +41,23 @@ Fresh run = view run ≡ freshRun
 abbrev pub ClaimOfRuns : Type 0
 ClaimOfRuns = (r s : Run) → Fresh r → Fresh s → (h g : List Did) → Trace r h → Trace s g → Alike (archiveIn h) (archiveIn g)
     → (w v : List ℕ) → Wrote h w → Wrote g v → (w ≡ cleaned (archiveIn h)) × (v ≡ cleaned (archiveIn g)) × (w ≡ v)
+
+-- the call of a link
+abbrev pub callOf : Did → Call
+callOf (did c a) = c
+
+-- ── the claim speaks of something ────────────────────────────────────────────────────────────
+
+-- a trace of three calls: an archive taken, the run resolved, and a write into so many bytes
+abbrev pub Cleans : List ℕ → ℕ → List Did → Type 0
+Cleans bytes room h = map callOf h ≡ takes bytes ∷ resolves ∷ writes room ∷ []
+
+-- valid files within the limits, with a survivor in every group and neither 10 nor 15, are taken, resolved and written by a fresh run
+abbrev pub AcceptedByRuns : Type 0
+AcceptedByRuns = (fs : List File) → Cleanable fs → (room : ℕ) → length (cleaned (archiveOfFiles fs)) ≤ room
+    → (run : Run) → Fresh run → (h : List Did) → Trace run h → Cleans (encode fs) room h → Wrote h (cleaned (archiveOfFiles fs))
+
+-- a cleaned archive, taken alone by a fresh run, is written as the same bytes
+abbrev pub SameAgain : Type 0
+SameAgain = (fs : List File) → Cleanable fs → (room : ℕ) → length (cleaned (archiveOfFiles fs)) ≤ room
+    → (run : Run) → Fresh run → (h : List Did) → Trace run h → Cleans (cleaned (archiveOfFiles fs)) room h → Wrote h (cleaned (archiveOfFiles fs))
