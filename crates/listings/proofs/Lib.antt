@@ -1,0 +1,6 @@
+pub mod Along
+pub mod OneFile
+pub mod OverGroups
+pub mod OverRows
+pub mod WholeText
+pub mod Answered

@@ -1,0 +1,4 @@
+pub mod Need
+pub mod Rows
+pub mod Groups
+pub mod Listed
