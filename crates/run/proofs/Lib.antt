@@ -2,3 +2,4 @@ pub mod Views
 pub mod InTurn
 pub mod RunClaim
 pub mod Calls
+pub mod ListCall

@@ -1,3 +1,4 @@
 pub mod View
 pub mod Contracts
 pub mod Traces
+pub mod Listed

@@ -1,4 +1,5 @@
 // A cleaning run: it takes sources, resolves once, then writes. specs/ says what a run stands for; the steps are those of cleaning.
+pub mod listing;
 mod turns;
 
 use columns::refusal::Refusal;
