@@ -72,6 +72,7 @@ module _ (h : Held) (s : Sheet) (ready : Ready h s) (hl : LongHeld h) (l : LongS
   list-refused was x e = record {
     answer = sym (by-sections (length was) ∙ rw (broken-some (sectionRules (sheetIn s)) x (sym (d .rules) ∙ e)));
     rest = refl;
+    within = omega arith;
   }
 
   module _ (e : m .ruling ≡ Kept) where
@@ -87,6 +88,7 @@ module _ (h : Held) (s : Sheet) (ready : Ready h s) (hl : LongHeld h) (l : LongS
       answer = sym (by-sections (length was)
           ∙ rw (rules-kept, lt-ltb (length was) (listingNeed (archiveIn h) (sectionFiles (sheetIn s))) (omega (arith, need-told))));
       rest = refl;
+      within = omega arith;
     }
 
     pub list-room : {n : ℕ} → 46 * h .sheet .rows .count + (m .bytes + 32) ≤ n → listingNeed (archiveIn h) (sectionFiles (sheetIn s)) ≤ n
@@ -106,4 +108,5 @@ module _ (h : Held) (s : Sheet) (ready : Ready h s) (hl : LongHeld h) (l : LongS
         record {
           answer = ap accepted q ∙ sym (by-sections (length was) ∙ rw (rules-kept, le-ltb (length was) need (omega (arith, need-told))));
           rest = rw (p, n) (drop-at t (drop (length t) was) (length t) refl);
+          within = omega (arith, w .short, need-told);
         }

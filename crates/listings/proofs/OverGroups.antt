@@ -1,7 +1,6 @@
 -- The files of the groups from one on: their lines and what those take. All are those from group 0 on; one turn of each loop goes from g to g + 1.
 use mathlib.Core.Path.{_≡_, refl, sym, ap, _∙_}
 use mathlib.Core.List.{List, [], _∷_, _++_, map}
-use mathlib.Core.Bool.{true}
 use mathlib.Core.Option.{none}
 use Prim.Native.Nat.{ℕ, suc, _+_, _-_, _*_, _≤_, _<_}
 use native.Mathlib.Numerals.{add-one}
@@ -19,13 +18,10 @@ use Rattle.cleaning.specs.Sections.{sectionGraph, sectionFile, sectionRules}
 use Rattle.columns.specs.Building.{buildRules}
 use Rattle.held.specs.declared.Sheet.{Sheet}
 use Rattle.held.specs.View.{factsAt, sheetIn}
-use Rattle.out_file.specs.View.{fileIn, Counted}
+use Rattle.out_file.specs.View.{fileIn}
 use Rattle.group_file.specs.Made.{Made}
 use Rattle.group_file.specs.declared.GroupFile.{GroupFile}
-use Rattle.held.specs.Valid.{sheetOk}
-use Rattle.resolved.proofs.SheetParts.{part-groups}
-use Rattle.writing.proofs.Whole.{all-rules}
-use Rattle.writing.proofs.Rest.{rulesFrom, kept-none, rules-end, rules-first, rules-next}
+use Rattle.writing.proofs.Rest.{rulesFrom, kept-none, rules-end, rules-first}
 use Rattle.listing_numbers.specs.Wrote.{Wrote}
 use Rattle.listing_lines.proofs.Columns.{Going}
 use Rattle.listings.specs.Need.{fileNeed, filesNeed}
@@ -70,13 +66,7 @@ module _ (s : plain.Sheet) (g n : ℕ) where
   unfolding needFrom filesNeed sum
   need-next h = rw (files-next h, add-one)
 
-pub groups-few : (s : Sheet) → sheetOk s ≡ true → s .groups .count ≤ 16
-groups-few s k = part-groups s k
-
 module _ (s : Sheet) where
-  pub no-rules : sectionRules (sheetIn s) ≡ none → rulesFrom (sheetIn s) 0 (s .groups .count) ≡ none
-  no-rules e = sym (all-rules s) ∙ e
-
   all-files : sectionFiles (sheetIn s) ≡ filesFrom (sheetIn s) 0 (s .groups .count)
   unfolding sectionFiles filesFrom sheetIn
   all-files =
@@ -105,12 +95,6 @@ module _ (s : plain.Sheet) (g n : ℕ) {r : GroupFile} (m : Made s g r) (h : g <
   module _ (k : rulesFrom s g n ≡ none) where
     same-file : fileIn (r .file) ≡ sectionFile s g
     same-file = m .file (rules-first s g n h k)
-
-    pub lines-counted : Counted (r .file)
-    lines-counted = m .counted (rules-first s g n h k)
-
-    pub rules-left : rulesFrom s (g + 1) n ≡ none
-    rules-left = rw (add-one) (sym (rules-next s g n h (rules-first s g n h k)) ∙ k)
 
     module _ (p : ℕ) {t : ℕ} (u : p + needFrom s g n ≤ t) where
       pub lines-room : {j k : ℕ} → t ≤ k → j ≡ k → p + fileNeed (fileIn (r .file)) ≤ j

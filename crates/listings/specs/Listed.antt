@@ -3,7 +3,7 @@
 use mathlib.Core.Path.{_≡_}
 use mathlib.Core.Bool.{true}
 use mathlib.Core.List.{List, [], _∷_}
-use Prim.Native.Nat.{ℕ}
+use Prim.Native.Nat.{ℕ, _≤_}
 use lib.Dec.{ltb}
 use lib.ListN.{length, take, drop}
 use Rattle.columns.specs.Refusal.{Verdict, refused, accepted, unless, refuse, firstOf}
@@ -41,7 +41,8 @@ abbrev pub verdictOf : Writing → List ℕ → Verdict (List ℕ)
 verdictOf (Length n) is = accepted (take n is)
 verdictOf (Refused x) is = refused x
 
--- the answer for as much room as was lent; past the bytes written all is as it was
+-- the answer for as much room as was lent: no more bytes than that, and past them all is as it was
 pub record Lists (h : Held) (s : Sheet) (was is : List ℕ) (r : Writing) : Type 0 where
   pub answer : verdictOf r is ≡ listed (length was) (archiveHeld h) (summaryOf s)
   pub rest : drop (lengthOf r) is ≡ drop (lengthOf r) was
+  pub within : lengthOf r ≤ length was

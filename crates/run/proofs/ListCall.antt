@@ -30,7 +30,8 @@ module _ (r : Run) {b : Bool} (e : b ≡ isResolved r) where
   pub list-early : not b ≡ true → (was : List ℕ) → ListsOf r was was (writing.Refused OutOfTurn)
   unfolding runStep
   list-early k was =
-      record { answer = sym (not-listed (length was) (view r) (not-resolved-yet r (sym e ∙ not-true b k) counts refl (λ h. refl))); rest = refl }
+      let o = not-resolved-yet r (sym e ∙ not-true b k) counts refl (λ h. refl) in
+      record { answer = sym (not-listed (length was) (view r) o); rest = refl; within = omega arith }
 
   module _ (k : not b ≡ false) where
     is-resolved : isResolved r ≡ true
@@ -47,4 +48,4 @@ module _ (r : Run) {b : Bool} (e : b ≡ isResolved r) where
 
     pub list-now : {was is : List ℕ} (a : Writing) → Lists (heldIn (r .held)) (sheetIn (r .sheet)) was is a → ListsOf r was is a
     unfolding listedIn
-    list-now a w = record { answer = w .answer ∙ rw (seen-resolved r is-resolved); rest = w .rest }
+    list-now a w = record { answer = w .answer ∙ rw (seen-resolved r is-resolved); rest = w .rest; within = w .within }

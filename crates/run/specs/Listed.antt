@@ -2,7 +2,7 @@
 -- run holds and the sheet of its survivors.
 use mathlib.Core.Path.{_≡_}
 use mathlib.Core.List.{List}
-use Prim.Native.Nat.{ℕ}
+use Prim.Native.Nat.{ℕ, _≤_}
 use lib.ListN.{length, drop}
 use Rattle.columns.specs.Refusal.{Verdict, refused}
 use Rattle.columns.specs.declared.refusal.Refusal.the-variants.{OutOfTurn}
@@ -21,7 +21,8 @@ listedIn room (taking h) = refused OutOfTurn
 listedIn room (resolved h s) = listed room (archiveHeld h) (summaryOf s)
 listedIn room spoiled = refused OutOfTurn
 
--- the answer for as much room as was lent; past the bytes written all is as it was
+-- the answer for as much room as was lent: no more bytes than that, and past them all is as it was
 pub record ListsOf (run : Run) (was is : List ℕ) (r : Writing) : Type 0 where
   pub answer : verdictOf r is ≡ listedIn (length was) (view run)
   pub rest : drop (lengthOf r) is ≡ drop (lengthOf r) was
+  pub within : lengthOf r ≤ length was

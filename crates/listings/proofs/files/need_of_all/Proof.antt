@@ -4,10 +4,10 @@ use Prim.Native.Nat.{_+_, _-_, _*_, _≤_}
 use Rattle.cleaning.specs.Sections.{sectionRules}
 use Rattle.held.specs.View.{sheetIn}
 use Rattle.writing.proofs.Rest.{rulesFrom, turn-counted, turn-rules, turn-broken}
-use Rattle.writing.proofs.Whole.{all-rules}
+use Rattle.writing.proofs.Whole.{groups-few, all-rules}
 use Rattle.listings.specs.Need.{filesNeed}
 use Rattle.listings.specs.Groups.{sectionFiles}
-use Rattle.listings.proofs.OverGroups.{needFrom, groups-few, all-need, turn-need, need-known, need-refused}
+use Rattle.listings.proofs.OverGroups.{needFrom, all-need, turn-need, need-known, need-refused}
 use borrow.Author.Needs.{needs}
 use Rattle.listings.proofs.files.need_of_all.Statement.{statement}
 use Rattle.listings.proofs.files.need_of_all.Tie as tie

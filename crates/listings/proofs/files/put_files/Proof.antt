@@ -7,10 +7,11 @@ use Rattle.lists.specs.Lists.{flat}
 use Rattle.cleaning.specs.Listing.{fileLines}
 use Rattle.held.specs.View.{sheetIn}
 use Rattle.writing.proofs.Rest.{rulesFrom}
+use Rattle.writing.proofs.Whole.{groups-few, no-rules, file-counted, rest-rules}
 use Rattle.listing_lines.proofs.Columns.{Going}
 use Rattle.listings.specs.Need.{filesNeed}
 use Rattle.listings.specs.Groups.{sectionFiles}
-use Rattle.listings.proofs.OverGroups.{linesFrom, needFrom, groups-few, no-rules, all-room, all-lines, lines-counted, lines-room, rules-left, need-left, lines-left, lines-done}
+use Rattle.listings.proofs.OverGroups.{linesFrom, needFrom, all-room, all-lines, lines-room, need-left, lines-left, lines-done}
 use borrow.Author.Needs.{needs}
 use Rattle.listings.proofs.files.put_files.Statement.{statement}
 use Rattle.listings.proofs.files.put_files.Tie as tie
@@ -34,7 +35,7 @@ group-file-requires : tie.Need-group-file-requires Inv-loop μ-loop
 group-file-requires c κs = search needs
 
 put-lines-requires : tie.Need-put-lines-requires Inv-loop μ-loop
-put-lines-requires c κs = search (needs, lines-counted, lines-room)
+put-lines-requires c κs = search (needs, file-counted, lines-room)
 
 add-g : tie.Need-add-g Inv-loop μ-loop
 add-g c = search needs
@@ -43,7 +44,7 @@ loop-less : tie.Need-loop-less Inv-loop μ-loop
 loop-less c = search needs
 
 loop-again : tie.Need-loop-again Inv-loop μ-loop
-loop-again c = (search needs, search needs, search needs, search (needs, rules-left), search needs, search (needs, need-left), search (needs, lines-left))
+loop-again c = (search needs, search needs, search needs, search (needs, rest-rules), search needs, search (needs, need-left), search (needs, lines-left))
 
 same-length : tie.Need-same-length Inv-loop μ-loop
 same-length c = search needs
