@@ -20,6 +20,13 @@ pub fn output_room() -> [u8; 196448]
     [0; 196448]
 }
 
+// Room for a listing: none is longer.
+pub fn text_room() -> [u8; 437792]
+    ensures { λ r. ⌜ 437792 ≡ length r ⌝ }
+{
+    [0; 437792]
+}
+
 // A number of buf's bytes: n, which is never more than they are.
 pub fn within(n: usize, buf: &[u8]) -> usize
     ensures { λ r. ⌜ Counts r (now (buf .entry)) ⌝ }
