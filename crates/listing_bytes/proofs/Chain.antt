@@ -1,20 +1,18 @@
 -- One step after the other: what each return prints.
 use mathlib.Core.Path.{_≡_, refl, sym, ap, ap₂, subst, _∙_}
-use mathlib.Core.List.{List, [], _++_}
+use mathlib.Core.List.{List, _++_}
 use Prim.Native.Nat.{ℕ, _+_, _≤_, _<_}
 use native.Mathlib.Omega.{arith}
-use lib.Dec.{ltb}
 use lib.ListN.{length, take, drop, getD}
-use lib.Seq.{sets, sets-eq, take-at, drop-at, length-take-le}
+use lib.Seq.{sets-eq, take-at, drop-at, length-take-le}
 use mir.Syntax.{w8}
 use mir.Val.{Fits}
 use borrow.Author.Tests.{lt-ltb, le-ltb}
-use Rattle.columns.specs.Refusal as verdict
 use Rattle.columns.specs.declared.refusal.Refusal.{Refusal}
 use Rattle.columns.specs.declared.refusal.Refusal.the-variants.{SliceShort}
 use Rattle.cleaning.specs.Step.{takes, resolves}
-use Rattle.cleaning.specs.Runs.{RunState, freshRun, runStep}
-use Rattle.cleaning.specs.Listing.{refusedLine, afterwards, listing, cleaning}
+use Rattle.cleaning.specs.Runs.{freshRun, runStep}
+use Rattle.cleaning.specs.Listing.{refusedLine, afterwards, listing}
 use Rattle.taking.proofs.Answers.{files-fit}
 use Rattle.writing.specs.declared.Writing.{Writing}
 use Rattle.writing.specs.declared.Writing.the-variants.{Length, Refused}
@@ -25,7 +23,7 @@ use Rattle.run.specs.Listed.{ListsOf}
 use Rattle.run.specs.declared.Run.{Run}
 use Rattle.run.specs.declared.Stepped.{Stepped}
 use Rattle.run.specs.declared.Reply.the-variants as reply
-use Rattle.listing_bytes.specs.Prints.{Prints, said, listedText, resolvedText, ListsWhen, ListingIn}
+use Rattle.listing_bytes.specs.Prints.{Prints, said, listedText, resolvedText, ListingIn}
 use Rattle.listing_bytes.proofs.OverSources.{bytes-say}
 
 pub line-printed : {text was is : List ℕ} {r size : ℕ} → Wrote text size was 0 is r → size ≤ length was → Prints text was is (Length r)

@@ -9,7 +9,7 @@ use lib.Dec.{ltb}
 use lib.ListN.{length}
 use borrow.Author.Tests.{le-ltb, ltb-false, not-false}
 use Rattle.lists.specs.Lists.{isEmpty, last, Each}
-use Rattle.columns.specs.Limits.{maxNumbers, kinds}
+use Rattle.columns.specs.Limits.{maxNumbers}
 use Rattle.columns.specs.Refusal.{unless, refuse, firstOf}
 use Rattle.columns.specs.declared.refusal.Refusal.{Refusal}
 use Rattle.columns.specs.declared.refusal.Refusal.the-variants.{OverRecords, OverNumbers, GroupOrder, NoSurvivor}
@@ -18,7 +18,7 @@ use Rattle.archive.specs.File.{File}
 use Rattle.archive.specs.Fits.{FileFits}
 use Rattle.archive.specs.Reader.{Parsed, broken, got}
 use Rattle.archive.specs.Parse.{parse}
-use Rattle.cleaning.specs.Source.{Source, sourceOf}
+use Rattle.cleaning.specs.Source.{sourceOf}
 use Rattle.cleaning.specs.Taking.{overRecords, overNumbers, filesRules, takeRules, takenFrom}
 use Rattle.cleaning.specs.Archive.{Taken, Archive, archiveOf}
 use Rattle.cleaning.specs.Memo.{tables}
@@ -33,7 +33,7 @@ use Rattle.cleaning.specs.Runs.{freshRun, slotted, runStep}
 use Rattle.cleaning.specs.Listing.{refusedLine, listingText, afterwards, writing, writingFrom, cleaning}
 use Rattle.cleaning.proofs.Taken.{Followed, taken-followed}
 use Rattle.cleaning.proofs.Invariant.{Inv}
-use Rattle.cleaning.proofs.Holding.{hold, holdOutcome, run-step}
+use Rattle.cleaning.proofs.Holding.{hold, run-step}
 use Rattle.cleaning.proofs.HeldArchive.{archive-held}
 use Rattle.cleaning.proofs.HeldRows.{rows-held}
 use Rattle.cleaning.proofs.HeldColumns.{tables-length}

@@ -1,20 +1,19 @@
 -- A listing of sources within the limits of a run takes no more than 437,792 bytes.
-use mathlib.Core.Path.{_≡_, refl, sym, _∙_, subst}
+use mathlib.Core.Path.{_≡_, refl, sym, subst}
 use mathlib.Core.Bool.{true, false}
-use mathlib.Core.List.{List, [], _∷_, map}
+use mathlib.Core.List.{List, [], _∷_}
 use mathlib.Core.Option.{none}
-use Prim.Native.Nat.{ℕ, _+_, _*_, _≤_}
+use Prim.Native.Nat.{_+_, _*_, _≤_}
 use native.Mathlib.Omega.{arith}
 use lib.ListN.{length, length-map}
-use Rattle.lists.specs.Lists.{isEmpty, sum, upFrom, Each}
+use Rattle.lists.specs.Lists.{isEmpty, sum, Each}
 use Rattle.lists.proofs.Flat.{length-upFrom}
-use Rattle.columns.specs.Limits.{maxNumbers, maxGroups}
+use Rattle.columns.specs.Limits.{maxNumbers}
 use Rattle.archive.specs.File.{File}
-use Rattle.cleaning.specs.Source.{Source}
-use Rattle.cleaning.specs.Archive.{Taken, Archive, archiveOf}
+use Rattle.cleaning.specs.Archive.{Taken, archiveOf}
 use Rattle.cleaning.specs.Memo.{tables}
 use Rattle.cleaning.specs.Resolving.{entries, groupsSurvive}
-use Rattle.cleaning.specs.Summary.{Summary, summary, tabled}
+use Rattle.cleaning.specs.Summary.{Summary, tabled}
 use Rattle.cleaning.specs.Writing.{outputOf, outputs, groupNumbers}
 use Rattle.cleaning.proofs.Taken.{Followed}
 use Rattle.cleaning.proofs.Events.{valid-sources}
@@ -24,7 +23,7 @@ use Rattle.cleaning.proofs.Good.{Good}
 use Rattle.cleaning.proofs.Goodness.{good-sources}
 use Rattle.cleaning.proofs.Tabled.{tabled-summary}
 use Rattle.cleaning.proofs.OutputLimits.{few-events, few-forward, few-reverse, few-inbound}
-use Rattle.listing_text.specs.Files.{deltasOf, filesRoom, listingRoom}
+use Rattle.listing_text.specs.Files.{filesRoom, listingRoom}
 use Rattle.listings.specs.Need.{fileNeed, filesNeed, listingNeed}
 
 needs-sum : (fs : List File)

@@ -3,7 +3,7 @@ use mathlib.Core.Path.{_≡_, sym, _∙_}
 use mathlib.Core.List.{List, [], _++_}
 use Prim.Native.Nat.{ℕ, _+_, _≤_}
 use native.Mathlib.Omega.{arith}
-use lib.ListN.{length, length-append}
+use lib.ListN.{length-append}
 use Rattle.bigend.proofs.Several.{sets-append}
 use Rattle.listing_numbers.specs.Wrote.{Wrote}
 use Rattle.listing_lines.proofs.Columns.{Going}

@@ -1,25 +1,24 @@
 -- What a listing answers: the files of a sheet are the outputs of its summary, and each way out is the verdict.
 use mathlib.Core.Path.{_≡_, refl, sym, ap, _∙_}
-use mathlib.Core.List.{List, [], _∷_, _++_, map}
-use mathlib.Core.Option.{none, some}
+use mathlib.Core.List.{List, [], _∷_, _++_}
+use mathlib.Core.Option.{none}
 use Prim.Native.Nat.{ℕ, _+_, _*_, _≤_, _<_}
 use native.Mathlib.Omega.{arith}
 use lib.Dec.{ltb}
 use lib.ListN.{length, take, drop}
-use lib.Seq.{sets, sets-eq, take-at, drop-at}
+use lib.Seq.{sets-eq, take-at, drop-at}
 use mir.Syntax.{w64}
 use mir.Val.{Fits}
 use borrow.Author.Tests.{lt-ltb, le-ltb}
 use Rattle.lists.specs.Lists.{upFrom}
 use Rattle.lists.proofs.Flat.{map-ext}
 use Rattle.lists.proofs.Filters.{each-below}
-use Rattle.columns.specs.Refusal.{Verdict, refused, accepted, unless, refuse, firstOf}
+use Rattle.columns.specs.Refusal.{accepted, unless, refuse, firstOf}
 use Rattle.columns.specs.declared.refusal.Refusal.{Refusal}
 use Rattle.columns.specs.declared.refusal.Refusal.the-variants.{SliceShort}
 use Rattle.rules.specs.declared.slots.Ruling.the-variants.{Kept, Broken}
-use Rattle.cleaning.specs.Archive.{Archive}
 use Rattle.cleaning.specs.Sections.{Tidy, Filled, sectionFile, sectionRules}
-use Rattle.cleaning.specs.Writing.{outputOf, outputs, groupNumbers, writeRules}
+use Rattle.cleaning.specs.Writing.{outputOf, outputs, groupNumbers}
 use Rattle.cleaning.specs.Listing.{listingText}
 use Rattle.cleaning.specs.Sheet as plain
 use Rattle.cleaning.specs.Sheet.{groupsOfSheet, summaryOf}
@@ -34,7 +33,7 @@ use Rattle.resolution.specs.Outcome.{archiveIn}
 use Rattle.writing.proofs.Rest.{kept-none, broken-some}
 use Rattle.writing.specs.declared.Writing.the-variants.{Length, Refused}
 use Rattle.listing_numbers.specs.Wrote.{Wrote}
-use Rattle.listings.specs.Need.{filesNeed, listingNeed}
+use Rattle.listings.specs.Need.{listingNeed}
 use Rattle.listings.specs.Groups.{sectionFiles, NeededBy}
 use Rattle.listings.specs.Listed.{Ready, listed, Lists}
 use Rattle.listings.specs.declared.files.Needed.{Needed}

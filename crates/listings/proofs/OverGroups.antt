@@ -26,7 +26,6 @@ use Rattle.listing_numbers.specs.Wrote.{Wrote}
 use Rattle.listing_lines.proofs.Columns.{Going}
 use Rattle.listings.specs.Need.{fileNeed, filesNeed}
 use Rattle.listings.specs.Groups.{sectionFiles, NeededBy}
-use Rattle.listings.specs.declared.files.Needed.{Needed}
 use Rattle.listings.proofs.Along.{part-more, parts-end}
 
 -- ── the rest ─────────────────────────────────────────────────────────────────────────────────

@@ -1,6 +1,6 @@
 -- Document 01, the worked run: a line for each event, out of an archive and out of columns.
 use mathlib.Core.List.{List}
-use Prim.Native.Nat.{ℕ, _+_, _-_}
+use Prim.Native.Nat.{ℕ, _+_}
 use lib.ListN.{length, getD}
 use Rattle.lists.specs.Lists.{flat, upFrom}
 use Rattle.cleaning.specs.Archive.{Archive}

@@ -60,7 +60,14 @@ fn put_lines(out: &mut [u8], at: usize, f: OutFile) -> usize
 {
     lines_long(f);
     let sets = f.sets;
-    put_file(out, at, f.head.group as u64, f.head.first, f.rows.count, sets)
+    put_file(
+        out,
+        at,
+        f.head.group as u64,
+        f.head.first,
+        f.rows.count,
+        sets,
+    )
 }
 
 // ── all files ────────────────────────────────────────────────────────────────────────────────

@@ -1,6 +1,6 @@
 -- `listings::maps::put_rows` meets its contract.
 use mathlib.Core.Path.{_≡_}
-use Prim.Native.Nat.{_+_, _-_, _*_, _≤_}
+use Prim.Native.Nat.{_-_, _*_, _≤_}
 use lib.ListN.{length}
 use Rattle.listing_lines.proofs.Columns.{Going}
 use Rattle.listings.specs.Rows.{rowsText}
