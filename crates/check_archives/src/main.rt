@@ -145,7 +145,10 @@ fn check_all(n: usize) -> Tally {
 fn main() {
     let n = os::arg_count();
     if n < 2 {
-        io::write_all(STDOUT_FILENO, b"check_archives ARCHIVE..: says of each archive whether it is accepted\n");
+        io::write_all(
+            STDOUT_FILENO,
+            b"check_archives ARCHIVE..: says of each archive whether it is accepted\n",
+        );
         return;
     }
     let t = check_all(n);
