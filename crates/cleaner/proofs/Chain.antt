@@ -5,7 +5,7 @@ use Prim.Native.Nat.{ℕ}
 use native.Mathlib.Omega.{arith}
 use lib.ListN.{length}
 use Rattle.columns.specs.declared.refusal.Refusal.{Refusal}
-use Rattle.cleaning.specs.Step.{Call, takes, resolves, writes, Answer, refused}
+use Rattle.cleaning.specs.Step.{Call, takes, resolves, Answer, refused}
 use Rattle.cleaning.specs.Runs.{RunState, freshRun, runStep}
 use Rattle.writing.specs.declared.Writing.{Writing}
 use Rattle.writing.specs.declared.Writing.the-variants.{Refused}
@@ -13,7 +13,6 @@ use Rattle.run.specs.View.{view}
 use Rattle.run.specs.Contracts.{replied, Steps, Writes}
 use Rattle.run.specs.declared.Run.{Run}
 use Rattle.run.specs.declared.Stepped.{Stepped}
-use Rattle.run.specs.declared.Reply.{Reply}
 use Rattle.run.specs.declared.Reply.the-variants as reply
 use Rattle.cleaner.specs.Cleans.{after, writtenFrom, resolvedFrom, cleanedFrom, Gives}
 

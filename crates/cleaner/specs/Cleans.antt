@@ -4,7 +4,7 @@ use mathlib.Core.List.{List}
 use Prim.Native.Nat.{ℕ, _≤_}
 use lib.ListN.{length, drop}
 use Rattle.cleaning.specs.Step.{takes, resolves, writes, Answer, refused, done, wrote, told, counted}
-use Rattle.cleaning.specs.Runs.{RunState, freshRun, RunOutcome, runStep}
+use Rattle.cleaning.specs.Runs.{RunState, freshRun, runStep}
 use Rattle.writing.specs.Answers.{lengthOf, answerOf}
 use Rattle.writing.specs.declared.Writing.{Writing}
 

@@ -1,7 +1,7 @@
 -- The parts put together: the file of a group, and the group's rules.
 use mathlib.Core.Path.{_≡_, refl, sym, ap, ap₂, _∙_}
 use mathlib.Core.Bool.{true}
-use mathlib.Core.List.{List, map}
+use mathlib.Core.List.{map}
 use mathlib.Core.Option.{Option, none, some}
 use Prim.Native.Nat.{ℕ, suc, _+_, _-_, _≤_, _<_}
 use native.Mathlib.Omega.{arith}
@@ -10,10 +10,10 @@ use lib.ListN.{take}
 use borrow.Author.Tests.{leb-true}
 use Rattle.lists.specs.Lists.{part}
 use Rattle.lists.proofs.Tests.{both}
-use Rattle.columns.specs.Limits.{maxRecords, maxSubject}
+use Rattle.columns.specs.Limits.{maxSubject}
 use Rattle.columns.specs.Refusal.{unless}
 use Rattle.columns.specs.Reading.{labelsOf}
-use Rattle.columns.specs.Building.{Built, buildRules, builtOf}
+use Rattle.columns.specs.Building.{buildRules, builtOf}
 use Rattle.columns.specs.declared.refusal.Refusal.{Refusal}
 use Rattle.cleaning.specs.Sections.{between, coverWhere, unerasedRow, sectionStart, sectionRows, sectionUnresolved, sectionRoots, sectionGraph, sectionFileOf, sectionFile}
 use Rattle.rules.specs.Ruled.{ruling}
@@ -33,13 +33,12 @@ use Rattle.out_file.specs.declared.Head.{Head}
 use Rattle.out_file.specs.declared.Cover.{Cover}
 use Rattle.out_file.specs.declared.OutFile.{OutFile}
 use Rattle.out_file.specs.View.{setIn, builtIn, depthIn, coverIn, subjectIn, fileIn, Counted}
-use Rattle.group_parts.proofs.Sectioned.{depth-section, tags-section, group-few}
+use Rattle.group_parts.proofs.Sectioned.{depth-section, tags-section}
 use Rattle.group_cover.proofs.CoverSection.{cover-section}
 use Rattle.group_sets.specs.ByVerdict.{Holds, SetsBy}
 use Rattle.group_sets.specs.declared.GroupSets.{GroupSets}
 use Rattle.group_file.specs.Made.{SpanOf, FewEdges, Made}
-use Rattle.group_file.specs.declared.GroupFile.{GroupFile}
-use Rattle.group_file.proofs.Spans.{span-rises, span-rows}
+use Rattle.group_file.proofs.Spans.{span-rows}
 
 -- ── the file ─────────────────────────────────────────────────────────────────────────────────
 

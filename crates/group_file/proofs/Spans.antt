@@ -1,8 +1,8 @@
 -- The rows of a group: what holds of where they start and end.
-use mathlib.Core.Path.{_≡_, refl, sym, ap, ap₂, _∙_}
+use mathlib.Core.Path.{_≡_, refl, sym, ap₂, _∙_}
 use mathlib.Core.Bool.{true}
 use mathlib.Core.List.{List, map}
-use Prim.Native.Nat.{ℕ, suc, _+_, _-_, _^_, _≤_, _<_}
+use Prim.Native.Nat.{ℕ, _+_, _-_, _≤_, _<_}
 use native.Mathlib.Omega.{arith}
 use lib.ListN.{take}
 use mir.Syntax.{w64}
@@ -19,7 +19,7 @@ use Rattle.tidying.specs.Long.{LongSheet}
 use Rattle.tidying.proofs.Turns.{rows-few, children-few, roots-few, links-few}
 use Rattle.tidying.proofs.TidySheets.{counts}
 use Rattle.group_parts.specs.Parts.{lessBy}
-use Rattle.group_parts.proofs.Sectioned.{start-place, end-place, starts-rise, unresolved-section, roots-section, section-ends, section-room, group-few}
+use Rattle.group_parts.proofs.Sectioned.{start-place, end-place, starts-rise, unresolved-section, roots-section, section-ends}
 use Rattle.group_file.specs.Made.{SpanOf}
 
 module _ (s : Sheet) (l : LongSheet s) (k : sheetOk s ≡ true) where

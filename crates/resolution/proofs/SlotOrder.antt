@@ -1,5 +1,5 @@
 -- The new parents of every survivor are below its new number, slot by slot.
-use mathlib.Core.Path.{_≡_, refl, sym, ap, subst, _∙_}
+use mathlib.Core.Path.{_≡_, refl, sym, subst, _∙_}
 use mathlib.Core.Bool.{true}
 use mathlib.Core.List.{List, [], _∷_, map}
 use Prim.Native.Nat.{ℕ, zero, suc, _+_, _*_, _<_}
@@ -20,15 +20,13 @@ use Rattle.cleaning.specs.Memo.{tables}
 use Rattle.cleaning.specs.Held.{Held, archiveHeld}
 use Rattle.cleaning.specs.Survivors.{survivorSheet}
 use Rattle.cleaning.specs.Runs.{slotted}
-use Rattle.cleaning.specs.Sections.{Tidy}
 use Rattle.cleaning.proofs.Good.{RowsFrom}
 use Rattle.cleaning.proofs.Sides.{SlotBelow}
 use Rattle.cleaning.proofs.Parts.{parts-all}
-use Rattle.cleaning.proofs.HeldColumns.{events-length, tables-length, slotted-length}
+use Rattle.cleaning.proofs.HeldColumns.{tables-length}
 use Rattle.cleaning.proofs.SurvivorSheet.{summary-held}
 use Rattle.cleaning.proofs.Tabled.{tabled-summary}
 use Rattle.cleaning.proofs.NewLists.{lists-good}
-use Rattle.cleaning.proofs.TidySurvivors.{tidy-survivors}
 use Rattle.cleaning.proofs.Neat.{Neat, neat-valid, survivors-tidy}
 use Rattle.held.specs.Valid.{below, earlier}
 

@@ -1,6 +1,6 @@
 -- The columns of the survivors stand for the survivors' sheet and are valid and in order.
 use mathlib.Core.Path.{_≡_, refl, sym, ap, subst, _∙_}
-use mathlib.Core.Bool.{Bool, true, false, not}
+use mathlib.Core.Bool.{Bool, true, not}
 use mathlib.Core.List.{List, [], _∷_, map}
 use Prim.Native.Nat.{ℕ, _+_, _-_, _^_, _≤_}
 use native.Mathlib.Omega.{arith}
@@ -8,7 +8,7 @@ use lib.Dec.{eqb, leb, ltb}
 use lib.ListN.{length, getD, take, length-map}
 use lib.Seq.{length-take-le}
 use borrow.Author.Tests.{le-leb, lt-ltb}
-use Rattle.lists.specs.Lists.{all, filter, upFrom}
+use Rattle.lists.specs.Lists.{all, upFrom}
 use Rattle.lists.proofs.Tests.{both}
 use Rattle.columns.specs.Limits.{maxRecords, maxNumbers, maxGroups, maxSubject, end64}
 use Rattle.columns.specs.Building.{inFile}

@@ -29,7 +29,7 @@ use Rattle.resolution.specs.declared.Resolution.{Resolution}
 use Rattle.resolution.specs.declared.asked.Mapped.{Mapped}
 use Rattle.resolution.specs.declared.asked.Mapped.the-variants.{To, Nothing}
 use Rattle.writing.proofs.Rest.{kept-none, broken-some}
-use Rattle.writing.specs.Answers.{answerOf, Wrote}
+use Rattle.writing.specs.Answers.{Wrote}
 use Rattle.writing.specs.declared.Writing.{Writing}
 use Rattle.writing.specs.declared.Writing.the-variants as writing
 use Rattle.run.specs.View.{view, phased, holdable, writable, isTaking, isResolved}

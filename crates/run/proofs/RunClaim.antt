@@ -2,8 +2,7 @@
 use mathlib.Core.Path.{_≡_, sym, ap, subst, _∙_}
 use mathlib.Core.List.{List, _∷_, map}
 use Rattle.cleaning.specs.Step.{Call, Answer, fresh}
-use Rattle.cleaning.specs.Runs.{runStep}
-use Rattle.cleaning.specs.History.{Did, did, history, Wrote, cleaned}
+use Rattle.cleaning.specs.History.{Did, history, Wrote, cleaned}
 use Rattle.cleaning.specs.Accepted.{archiveOfFiles}
 use Rattle.cleaning.specs.Trace as steps
 use Rattle.cleaning.proofs.Claim.{fresh-history, claim-of-traces}

@@ -1,16 +1,13 @@
 -- What a run stands for after a call, out of what holds of its columns.
-use mathlib.Core.Path.{_≡_, sym, ap, subst, _∙_}
-use mathlib.Core.Bool.{true, _&&_}
+use mathlib.Core.Path.{_≡_, sym, subst}
+use mathlib.Core.Bool.{true}
 use Rattle.lists.proofs.Tests.{both}
 use Rattle.cleaning.specs.Held.{nothing}
-use Rattle.cleaning.specs.Sections.{Tidy}
-use Rattle.cleaning.specs.Runs.{taking, freshRun}
+use Rattle.cleaning.specs.Runs.{freshRun}
 use Rattle.cleaning.proofs.Neat.{Neat, neat-nothing}
-use Rattle.held.specs.declared.Sheet.{Sheet}
 use Rattle.held.specs.declared.Held.{Held}
-use Rattle.held.specs.View.{heldIn, sheetIn}
+use Rattle.held.specs.View.{heldIn}
 use Rattle.held.specs.Valid.{sheetOk, heldOk}
-use Rattle.tidying.specs.Ordered.{ordered}
 use Rattle.tidying.specs.Long.{LongHeld}
 use Rattle.tidying.proofs.TidySheets.{ordered-sheet}
 use Rattle.run.specs.declared.Run.{Run}

@@ -2,29 +2,22 @@
 use mathlib.Core.Path.{_≡_, refl, sym, ap, _∙_}
 use mathlib.Core.List.{List, [], _∷_, _++_, map}
 use mathlib.Core.Option.{Option, none, some}
-use Prim.Native.Nat.{ℕ, suc, _+_, _-_, _*_, _≤_, _<_}
+use Prim.Native.Nat.{ℕ, suc, _+_, _-_, _≤_, _<_}
 use native.Mathlib.Numerals.{add-one}
 use native.Mathlib.Omega.{arith}
 use lib.ListN.{length, length-append}
-use lib.Seq.{sets}
-use Rattle.lists.specs.Lists.{flat, upFrom}
+use Rattle.lists.specs.Lists.{upFrom}
 use Rattle.columns.specs.Refusal.{firstOf, firstIn}
 use Rattle.columns.specs.Building.{buildRules}
 use Rattle.columns.specs.declared.refusal.Refusal.{Refusal}
 use Rattle.archive.specs.Encode.{fileBytes, encode}
-use Rattle.archive.specs.File.{File}
-use Rattle.archive_stores.proofs.Chained.{then}
 use Rattle.cleaning.specs.Sheet.{Sheet}
-use Rattle.cleaning.specs.Sections.{sectionGraph, sectionFile, sectionRules, sectionBytes}
+use Rattle.cleaning.specs.Sections.{sectionGraph, sectionFile}
 use Rattle.rules.specs.Ruled.{ruling}
-use Rattle.rules.specs.declared.slots.Ruling.{Ruling}
 use Rattle.rules.specs.declared.slots.Ruling.the-variants.{Kept, Broken}
-use Rattle.out_file.specs.declared.OutFile.{OutFile}
 use Rattle.out_file.specs.View.{fileIn, Counted}
 use Rattle.group_file.specs.Made.{Made}
 use Rattle.group_file.specs.declared.GroupFile.{GroupFile}
-use Rattle.writing.specs.Answers.{MeasuredBy}
-use Rattle.writing.specs.declared.Measured.{Measured}
 
 -- ── the rest ─────────────────────────────────────────────────────────────────────────────────
 

@@ -3,10 +3,6 @@ use Rattle.run.proofs.Views.{fresh-run}
 use borrow.Author.Needs.{needs}
 use Rattle.run.proofs.new.Statement.{statement}
 use Rattle.run.proofs.new.Tie as tie
-use Rattle.run.proofs.new.Reads as reads
-use Rattle.run.proofs.new.Lts as lts
-use Rattle.held.proofs.empty.fresh.Reads as fresh-reads
-use Rattle.tidying.proofs.long.held_long.Reads as held-long-reads
 
 fresh-requires : tie.Need-fresh-requires
 fresh-requires c κs = search needs

@@ -1,3 +1,4 @@
+-- `writing::measure` meets its contract.
 use mathlib.Core.Path.{_≡_}
 use Prim.Native.Nat.{_+_, _-_, _*_, _≤_}
 use lib.ListN.{length}
@@ -8,11 +9,6 @@ use Rattle.writing.proofs.Whole.{groups-few, all-rules, all-length, mea
 use borrow.Author.Needs.{needs}
 use Rattle.writing.proofs.measure.Statement.{statement}
 use Rattle.writing.proofs.measure.Tie as tie
-use Rattle.writing.proofs.measure.Reads as reads
-use Rattle.writing.proofs.measure.Lts as lts
-use Rattle.file_writer.proofs.size_of_file.Reads as size-of-file-reads
-use Rattle.group_file.proofs.group_file.Reads as group-file-reads
-use Rattle.tidying.proofs.long.sheet_long.Reads as sheet-long-reads
 
 abbrev Inv-loop : tie.InvT-loop
 Inv-loop s n total₀ g₀ total g =
@@ -22,51 +18,39 @@ Inv-loop s n total₀ g₀ total g =
 abbrev μ-loop : tie.MeasureT-loop
 μ-loop s n total₀ g₀ total g = n - g
 
--- src/lib.rt:38:5
 sheet-long-requires : tie.Need-sheet-long-requires Inv-loop μ-loop
 sheet-long-requires c κs = search needs
 
--- src/lib.rt:42:5
 loop-holds : tie.Need-loop-holds Inv-loop μ-loop
 loop-holds c = search (needs, groups-few, all-rules, all-length)
 
--- src/lib.rt:43:13
 group-file-requires : tie.Need-group-file-requires Inv-loop μ-loop
 group-file-requires c κs = search needs
 
--- src/lib.rt:46:28
 enum-known-v : tie.Need-enum-known-v Inv-loop μ-loop
 enum-known-v c = search needs
 
--- src/lib.rt:47:17
 returns : tie.Need-returns Inv-loop μ-loop
 returns c = search (needs, measured-broken, turn-broken)
 
--- src/lib.rt:53:26
 enum-told : tie.Need-enum-told Inv-loop μ-loop
 enum-told c = search needs
 
--- src/lib.rt:53:26
 size-of-file-requires : tie.Need-size-of-file-requires Inv-loop μ-loop
 size-of-file-requires c κs = search (needs, turn-counted)
 
--- src/lib.rt:53:17
 add-total : tie.Need-add-total Inv-loop μ-loop
 add-total c = search needs
 
--- src/lib.rt:54:17
 add-g : tie.Need-add-g Inv-loop μ-loop
 add-g c = search needs
 
--- src/lib.rt:42:5
 loop-less : tie.Need-loop-less Inv-loop μ-loop
 loop-less c = search needs
 
--- src/lib.rt:42:5
 loop-again : tie.Need-loop-again Inv-loop μ-loop
 loop-again c = search (needs, turn-rules, turn-length)
 
--- src/lib.rt:34:1
 returns-2 : tie.Need-returns-2 Inv-loop μ-loop
 returns-2 c = search (needs, measured)
 

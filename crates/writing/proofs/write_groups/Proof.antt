@@ -1,3 +1,4 @@
+-- `writing::write_groups` meets its contract.
 use mathlib.Core.Path.{_≡_}
 use mathlib.Core.Option.{none}
 use Prim.Native.Nat.{_+_, _-_, _≤_}
@@ -10,11 +11,6 @@ use Rattle.writing.proofs.Whole.{groups-few, no-rules, all-room, none-w
 use borrow.Author.Needs.{needs}
 use Rattle.writing.proofs.write_groups.Statement.{statement}
 use Rattle.writing.proofs.write_groups.Tie as tie
-use Rattle.writing.proofs.write_groups.Reads as reads
-use Rattle.writing.proofs.write_groups.Lts as lts
-use Rattle.file_writer.proofs.write_file.Reads as write-file-reads
-use Rattle.group_file.proofs.group_file.Reads as group-file-reads
-use Rattle.tidying.proofs.long.sheet_long.Reads as sheet-long-reads
 
 abbrev Inv-loop : tie.InvT-loop
 Inv-loop s out₀ n at₀ g₀ out at g =
@@ -25,39 +21,30 @@ Inv-loop s out₀ n at₀ g₀ out at g =
 abbrev μ-loop : tie.MeasureT-loop
 μ-loop s out₀ n at₀ g₀ out at g = n - g
 
--- src/lib.rt:70:5
 sheet-long-requires : tie.Need-sheet-long-requires Inv-loop μ-loop
 sheet-long-requires c κs = search needs
 
--- src/lib.rt:74:5
 loop-holds : tie.Need-loop-holds Inv-loop μ-loop
 loop-holds c = search (needs, groups-few, no-rules, all-room, none-written)
 
--- src/lib.rt:75:13
 group-file-requires : tie.Need-group-file-requires Inv-loop μ-loop
 group-file-requires c κs = search needs
 
--- src/lib.rt:76:9
 write-file-requires : tie.Need-write-file-requires Inv-loop μ-loop
 write-file-requires c κs = search (needs, file-counted, file-room)
 
--- src/lib.rt:77:9
 add-g : tie.Need-add-g Inv-loop μ-loop
 add-g c = search needs
 
--- src/lib.rt:74:5
 loop-less : tie.Need-loop-less Inv-loop μ-loop
 loop-less c = search needs
 
--- src/lib.rt:74:5
 loop-again : tie.Need-loop-again Inv-loop μ-loop
 loop-again c = (search needs, search needs, search needs, search (needs, rest-rules), search needs, search (needs, rest-room), search (needs, rest-written))
 
--- src/lib.rt:65:1
 same-length : tie.Need-same-length Inv-loop μ-loop
 same-length c = search needs
 
--- src/lib.rt:65:1
 returns : tie.Need-returns Inv-loop μ-loop
 returns c = search (needs, all-written)
 

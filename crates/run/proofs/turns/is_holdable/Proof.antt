@@ -3,10 +3,6 @@ use Rattle.run.proofs.InTurn.{not-held, held-counts, held-order}
 use borrow.Author.Needs.{needs}
 use Rattle.run.proofs.turns.is_holdable.Statement.{statement}
 use Rattle.run.proofs.turns.is_holdable.Tie as tie
-use Rattle.run.proofs.turns.is_holdable.Reads as reads
-use Rattle.run.proofs.turns.is_holdable.Lts as lts
-use Rattle.held.proofs.valid.ok.Reads as ok-reads
-use Rattle.tidying.proofs.is_ordered.Reads as is-ordered-reads
 
 ok-requires : tie.Need-ok-requires
 ok-requires c κs = search needs

@@ -1,12 +1,7 @@
 -- `run::turns::is_in_order` meets its contract.
 use Rattle.run.proofs.InTurn.{sheet-counts, not-ordered, then-filled}
-use borrow.Author.Needs.{needs}
 use Rattle.run.proofs.turns.is_in_order.Statement.{statement}
 use Rattle.run.proofs.turns.is_in_order.Tie as tie
-use Rattle.run.proofs.turns.is_in_order.Reads as reads
-use Rattle.run.proofs.turns.is_in_order.Lts as lts
-use Rattle.tidying.proofs.is_filled.Reads as is-filled-reads
-use Rattle.tidying.proofs.is_ordered.Reads as is-ordered-reads
 
 is-ordered-requires : tie.Need-is-ordered-requires
 is-ordered-requires c κs = search sheet-counts

@@ -3,10 +3,6 @@ use Rattle.run.proofs.InTurn.{not-resolved, not-holdable, resolved-if}
 use borrow.Author.Needs.{needs}
 use Rattle.run.proofs.turns.is_resolved.Statement.{statement}
 use Rattle.run.proofs.turns.is_resolved.Tie as tie
-use Rattle.run.proofs.turns.is_resolved.Reads as reads
-use Rattle.run.proofs.turns.is_resolved.Lts as lts
-use Rattle.run.proofs.turns.is_holdable.Reads as is-holdable-reads
-use Rattle.run.proofs.turns.is_writable.Reads as is-writable-reads
 
 returns : tie.Need-returns
 returns c = search not-resolved

@@ -3,9 +3,6 @@ use Rattle.run.proofs.InTurn.{other-phase, taking-if}
 use borrow.Author.Needs.{needs}
 use Rattle.run.proofs.turns.is_taking.Statement.{statement}
 use Rattle.run.proofs.turns.is_taking.Tie as tie
-use Rattle.run.proofs.turns.is_taking.Reads as reads
-use Rattle.run.proofs.turns.is_taking.Lts as lts
-use Rattle.run.proofs.turns.is_holdable.Reads as is-holdable-reads
 
 returns : tie.Need-returns
 returns c = search other-phase

@@ -3,10 +3,6 @@ use Rattle.run.proofs.InTurn.{not-sheet, sheet-valid}
 use borrow.Author.Needs.{needs}
 use Rattle.run.proofs.turns.is_writable.Statement.{statement}
 use Rattle.run.proofs.turns.is_writable.Tie as tie
-use Rattle.run.proofs.turns.is_writable.Reads as reads
-use Rattle.run.proofs.turns.is_writable.Lts as lts
-use Rattle.held.proofs.valid.sheet_ok.Reads as sheet-ok-reads
-use Rattle.run.proofs.turns.is_in_order.Reads as is-in-order-reads
 
 sheet-ok-requires : tie.Need-sheet-ok-requires
 sheet-ok-requires c κs = search needs
