@@ -1,0 +1,45 @@
+// Whole archives for programs in C or Rust, answered by numbers. A slice is a pointer and a length in elements. `refusal` is document 01's number,
+// or 0 where the call is accepted.
+use columns::refusal::number;
+use writing::Writing;
+ghost use mathlib.Core.Path.{_≡_};
+ghost use Rattle.cleaner.specs.Cleans.{cleanedFrom};
+ghost use Rattle.ffi_archives.specs.Whole.{numbered, listedFrom, GivesBy};
+
+// How many bytes were written.
+#[repr(C)]
+pub struct Answer {
+    pub refusal: u64,
+    pub length: usize,
+}
+
+fn answer_of(writing: Writing) -> Answer
+    ensures { λ r. ⌜ r ≡ numbered writing ⌝ }
+{
+    match writing {
+        Writing::Length(n) => Answer {
+            refusal: 0,
+            length: n,
+        },
+        Writing::Refused(why) => Answer {
+            refusal: number(why),
+            length: 0,
+        },
+    }
+}
+
+// An archive cleaned into lent bytes: taken alone by a fresh run, resolved and written.
+#[no_mangle]
+pub extern "C" fn ridgeoven_clean(bytes: &[u8], out: &mut [u8]) -> Answer
+    ensures { λ r. ⌜ GivesBy (cleanedFrom (now (bytes .entry))) (now (out .entry)) (now (out .exit)) r ⌝ }
+{
+    answer_of(cleaner::clean(bytes, out))
+}
+
+// What the listing program prints of an archive, in lent bytes.
+#[no_mangle]
+pub extern "C" fn ridgeoven_list(bytes: &[u8], out: &mut [u8]) -> Answer
+    ensures { λ r. ⌜ GivesBy (listedFrom (now (bytes .entry))) (now (out .entry)) (now (out .exit)) r ⌝ }
+{
+    answer_of(listing_bytes::listing(bytes, out))
+}
