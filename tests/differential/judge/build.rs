@@ -1,17 +1,18 @@
-//! With the feature `port`: links the proved library that `rt staticlib ffi` writes.
+//! Links what `rt staticlib` writes of the proved library: `ffi` with the feature `port`, `ffi_archives` with `archives`.
 
 use std::env;
 use std::path::PathBuf;
 
 fn main() {
     println!("cargo:rerun-if-env-changed=RIDGEOVEN_LIB");
-    if env::var_os("CARGO_FEATURE_PORT").is_none() {
-        return;
-    }
     let folder = env::var_os("RIDGEOVEN_LIB").map(PathBuf::from).unwrap_or_else(|| {
         PathBuf::from(env::var_os("CARGO_MANIFEST_DIR").expect("cargo sets it")).join("../../../target/staticlib")
     });
-    println!("cargo:rerun-if-changed={}", folder.join("libffi.a").display());
-    println!("cargo:rustc-link-search=native={}", folder.display());
-    println!("cargo:rustc-link-lib=static=ffi");
+    for (feature, name) in [("CARGO_FEATURE_PORT", "ffi"), ("CARGO_FEATURE_ARCHIVES", "ffi_archives")] {
+        if env::var_os(feature).is_some() {
+            println!("cargo:rerun-if-changed={}", folder.join(format!("lib{name}.a")).display());
+            println!("cargo:rustc-link-search=native={}", folder.display());
+            println!("cargo:rustc-link-lib=static={name}");
+        }
+    }
 }

@@ -27,6 +27,14 @@ pub fn clean(bytes: &[u8]) -> Result<Cleaned, Number> {
     Ok(Cleaned { listing: listing(&files, &renumbering, &outputs), bytes: write::archive(&outputs) })
 }
 
+/// The cleaned bytes of an archive that is accepted, without taking's rules: the least that the original does for them.
+#[cfg(feature = "archives")]
+pub fn renumbered(bytes: &[u8]) -> Vec<u8> {
+    let files = crate::read::archive(bytes).expect("an archive");
+    let renumbering = grouped(&files).and_then(renumber_graph).expect("sound files");
+    write::archive(&outputs(&renumbering).expect("sound outputs"))
+}
+
 /// What the listing program prints, and the cleaned bytes where the run is accepted. Only the listing has a limit on its input.
 pub fn answers(bytes: &[u8]) -> (String, Option<Vec<u8>>) {
     let refused = |number: Number| format!("refused {number}\n");

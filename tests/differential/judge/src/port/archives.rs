@@ -1,14 +1,14 @@
 //! Whole archives asked of the proved library (feature `archives`): its cleaned bytes and its listing beside those of the run over the
 //! original, and twins, which differ only in what was erased and must be cleaned to the same bytes.
 
-use super::boundary::{Answer, ridgeoven_clean, ridgeoven_listing};
+use super::boundary::{Answer, ridgeoven_clean, ridgeoven_list};
 use super::lent::Lent;
 use crate::cleaning;
 use crate::refusals::Number;
 
-/// No output is longer: the cleaned bytes, and the listing's, whose longest column of 4,096 numbers has 20 digits and a space each.
-const CLEANED: usize = 196_448;
-const LISTED: usize = 1 << 20;
+/// No cleaned archive is longer, and a listing is made from so many bytes on.
+pub const CLEANED: usize = 196_448;
+const LISTED: usize = 437_792;
 
 type Call = unsafe extern "C" fn(*const u8, usize, *mut u8, usize) -> Answer;
 
@@ -36,7 +36,7 @@ pub fn differs(bytes: &[u8]) -> Option<String> {
         Ok(_) => {}
     }
     let (listing, _) = cleaning::answers(bytes);
-    let listed = match asked(ridgeoven_listing, LISTED, bytes) {
+    let listed = match asked(ridgeoven_list, LISTED, bytes) {
         Err(wrong) => return Some(format!("listing: {wrong}")),
         Ok(Ok(listed)) => String::from_utf8_lossy(&listed).into_owned(),
         Ok(Err(number)) => format!("refused {number}\n"),

@@ -4,8 +4,14 @@ use super::boundary::{
     ridgeoven_build, ridgeoven_children, ridgeoven_cover_build, ridgeoven_cover_read, ridgeoven_cover_store, ridgeoven_parents,
     ridgeoven_read_granule, ridgeoven_sums, ridgeoven_walk, ridgeoven_write_edges, ridgeoven_write_rows,
 };
+#[cfg(feature = "archives")]
+use super::archives::CLEANED;
+#[cfg(feature = "archives")]
+use super::boundary::ridgeoven_clean;
 use crate::archive::{File, Row, Set};
 use crate::blocks;
+#[cfg(feature = "archives")]
+use crate::cleaning;
 use crate::questions::OneFile;
 use crate::random::Random;
 use crate::{sources, write};
@@ -100,15 +106,15 @@ impl Inputs {
     }
 
     /// The file as an archive.
-    fn archive(&self) -> Vec<u8> {
-        let rows = (0..self.rows as u64).map(|tag| Row { erased: false, tag }).collect();
+    fn archive(&self, erased: fn(u64) -> bool) -> Vec<u8> {
+        let rows = (0..self.rows as u64).map(|tag| Row { erased: erased(tag), tag }).collect();
         let (subject, sets) = (b"a".to_vec(), self.sets.clone());
         write::archive(&[File { first: FIRST, group: 0, subject, depth: None, sets, rows, unresolved: Vec::new(), roots: Vec::new(), cover: None }])
     }
 
     /// The original decodes the three sets, the port reads the whole archive that holds them.
     fn archive_read(&self) -> [f64; 2] {
-        let (block, bytes) = (blocks::granule(&self.sets, None), self.archive());
+        let (block, bytes) = (blocks::granule(&self.sets, None), self.archive(|_| false));
         let rust = best(|| drop(black_box(self.decoded(&block))));
         let port = best(|| assert_eq!(unsafe { ridgeoven_sums(bytes.as_ptr(), bytes.len()) }.refusal, 0));
         [rust, port]
@@ -134,7 +140,23 @@ impl Inputs {
             assert_eq!(answer.refusal, 0);
             end = answer.length;
         });
-        assert!(self.archive().windows(end).any(|part| part == &out[..end]));
+        assert!(self.archive(|_| false).windows(end).any(|part| part == &out[..end]));
+        [rust, port]
+    }
+
+    /// Both read the archive, renumber it and write it; the original is spared taking's rules. The bytes are the same.
+    #[cfg(feature = "archives")]
+    fn cleaned(&self, erased: fn(u64) -> bool) -> [f64; 2] {
+        let bytes = self.archive(erased);
+        let mut out = vec![0u8; CLEANED];
+        let mut length = 0;
+        let rust = best(|| drop(black_box(cleaning::renumbered(&bytes))));
+        let port = best(|| {
+            let answer = unsafe { ridgeoven_clean(bytes.as_ptr(), bytes.len(), out.as_mut_ptr(), out.len()) };
+            assert_eq!(answer.refusal, 0);
+            length = answer.length;
+        });
+        assert!(cleaning::renumbered(&bytes) == out[..length]);
         [rust, port]
     }
 
@@ -335,6 +357,12 @@ pub fn table() {
         line("read a granule", shape, &sizes.each_ref().map(Inputs::read));
         line("read an archive", shape, &sizes.each_ref().map(Inputs::archive_read));
         line("write its edges and rows", shape, &sizes.each_ref().map(Inputs::archive_written));
+        #[cfg(feature = "archives")]
+        for (part, erased) in [("no row erased", (|_| false) as fn(u64) -> bool), ("every fourth row erased", |row| row % 4 == 1)] {
+            if each == 1 || !erased(1) {
+                line("clean an archive", &format!("{shape}, {part}"), &sizes.each_ref().map(|one| one.cleaned(erased)));
+            }
+        }
         line("parents", shape, &sizes.each_ref().map(Inputs::parents));
         line("children", shape, &sizes.each_ref().map(Inputs::children));
         line("walk", shape, &sizes.each_ref().map(Inputs::walk));

@@ -1,5 +1,6 @@
-//! The functions of the proved library's crate `ffi`. A slice is two parameters, its pointer and its length. Every function answers
-//! a record whose first part is a refusal's number, or 0; outputs are lent. The README beside the workspace says what each is given.
+//! The functions of the proved library's crates `ffi` and `ffi_archives`. A slice is two parameters, its pointer and its length. Every
+//! function answers a record whose first part is a refusal's number, or 0; outputs are lent. The README beside the workspace says what
+//! each is given.
 
 /// How many entries were written.
 #[repr(C)]
@@ -191,5 +192,5 @@ unsafe extern "C" {
     pub fn ridgeoven_clean(bytes: *const u8, bytes_len: usize, out: *mut u8, out_len: usize) -> Answer;
 
     #[cfg(feature = "archives")]
-    pub fn ridgeoven_listing(bytes: *const u8, bytes_len: usize, out: *mut u8, out_len: usize) -> Answer;
+    pub fn ridgeoven_list(bytes: *const u8, bytes_len: usize, out: *mut u8, out_len: usize) -> Answer;
 }
