@@ -1,0 +1,13 @@
+//! Links what `rt staticlib ffi_archives` writes, from `target/staticlib` or the folder that `RIDGEOVEN_LIB` names.
+
+use std::env;
+use std::path::PathBuf;
+
+fn main() {
+    println!("cargo:rerun-if-env-changed=RIDGEOVEN_LIB");
+    let here = PathBuf::from(env::var_os("CARGO_MANIFEST_DIR").expect("cargo sets it"));
+    let folder = env::var_os("RIDGEOVEN_LIB").map_or_else(|| here.join("../../target/staticlib"), PathBuf::from);
+    println!("cargo:rerun-if-changed={}", folder.join("libffi_archives.a").display());
+    println!("cargo:rustc-link-search=native={}", folder.display());
+    println!("cargo:rustc-link-lib=static=ffi_archives");
+}

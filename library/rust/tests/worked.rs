@@ -1,0 +1,38 @@
+//! Document 01's worked archive, and what is refused.
+
+use ridgeoven::{CLEANED_MAX, Refusal, clean, clean_to_vec, list, list_to_vec};
+
+const ARCHIVE: &[u8] = include_bytes!("../../../crates/clean/stdin");
+const CLEANED: &[u8] = include_bytes!("../../../crates/clean/stdout");
+const LISTED: &[u8] = include_bytes!("../../../crates/listing/stdout");
+
+#[test]
+fn worked_archive() {
+    assert_eq!(clean_to_vec(ARCHIVE).as_deref(), Ok(CLEANED));
+    assert_eq!(list_to_vec(ARCHIVE).as_deref(), Ok(LISTED));
+}
+
+#[test]
+fn nothing_past_the_answer() {
+    let mut out = [0x5a; CLEANED_MAX];
+    assert_eq!(clean(ARCHIVE, &mut out), Ok(CLEANED.len()));
+    assert_eq!(&out[..CLEANED.len()], CLEANED);
+    assert!(out[CLEANED.len()..].iter().all(|byte| *byte == 0x5a));
+}
+
+#[test]
+fn room() {
+    let mut exact = vec![0; CLEANED.len()];
+    assert_eq!(clean(ARCHIVE, &mut exact), Ok(CLEANED.len()));
+    let mut short = vec![0x5a; CLEANED.len() - 1];
+    assert_eq!(clean(ARCHIVE, &mut short), Err(Refusal(41)));
+    assert_eq!(list(ARCHIVE, &mut short), Err(Refusal(41)));
+    assert!(short.iter().all(|byte| *byte == 0x5a));
+}
+
+#[test]
+fn refused() {
+    assert_eq!(clean_to_vec(&ARCHIVE[..ARCHIVE.len() - 1]), Err(Refusal(23)));
+    assert_eq!(list_to_vec(&ARCHIVE[..ARCHIVE.len() - 1]).as_deref(), Ok(&b"refused 23\n"[..]));
+    assert_eq!(Refusal(23).to_string(), "refused 23");
+}
