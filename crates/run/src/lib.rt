@@ -15,6 +15,7 @@ ghost use Rattle.run.specs.View.{view};
 ghost use Rattle.run.specs.Contracts.{Steps, Writes, Maps, Counts};
 
 // The sources taken, and once resolved the survivors.
+#[repr(C)]
 pub struct Run {
     phase: u64,
     held: Held,

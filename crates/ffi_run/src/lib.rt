@@ -1,0 +1,101 @@
+// A run for programs in C or Rust, step by step: a run is a value, given and given back. `refusal` is document 01's number, or 0.
+use columns::refusal::number;
+use run::Number;
+use run::Reply;
+use run::Run;
+use run::Stepped;
+ghost use mathlib.Core.Path.{_≡_};
+ghost use Rattle.cleaning.specs.Step.{takes, resolves, maps};
+ghost use Rattle.cleaning.specs.Runs.{freshRun, runStep};
+ghost use Rattle.run.specs.View.{view};
+ghost use Rattle.ffi_run.specs.Steps.{replyNumber, StepsBy, toldOf, numberedBy};
+
+// The run after a call.
+#[repr(C)]
+pub struct Step {
+    pub run: Run,
+    pub refusal: u64,
+}
+
+// The new number of an event: `known` is 0 where it is erased or no event has the number.
+#[repr(C)]
+pub struct Renumbered {
+    pub refusal: u64,
+    pub known: u64,
+    pub number: u64,
+}
+
+fn reply_number(reply: Reply) -> u64
+    ensures { λ r. ⌜ r ≡ replyNumber reply ⌝ }
+{
+    match reply {
+        Reply::Done => 0,
+        Reply::Refused(why) => number(why),
+    }
+}
+
+fn renumbered_of(answer: Number) -> Renumbered
+    ensures { λ r. ⌜ r ≡ numberedBy answer ⌝ }
+{
+    match answer {
+        Number::To(n) => Renumbered {
+            refusal: 0,
+            known: 1,
+            number: n,
+        },
+        Number::Nothing => Renumbered {
+            refusal: 0,
+            known: 0,
+            number: 0,
+        },
+        Number::Refused(why) => Renumbered {
+            refusal: number(why),
+            known: 0,
+            number: 0,
+        },
+    }
+}
+
+// A run that has taken nothing.
+#[no_mangle]
+pub extern "C" fn ridgeoven_new() -> Run
+    ensures { λ r. ⌜ view r ≡ freshRun ⌝ }
+{
+    run::new()
+}
+
+// Takes the files of an archive, after those taken before. After a refusal the run is the one that was given.
+#[no_mangle]
+pub extern "C" fn ridgeoven_take(run: Run, bytes: &[u8]) -> Step
+    ensures { λ r. ⌜ StepsBy (takes (now (bytes .entry))) run r ⌝ }
+{
+    let q = run::take(run, bytes);
+    let a = q.reply;
+    let s = q.run;
+    Step {
+        run: s,
+        refusal: reply_number(a),
+    }
+}
+
+// Ends the taking of sources.
+#[no_mangle]
+pub extern "C" fn ridgeoven_resolve(run: Run) -> Step
+    ensures { λ r. ⌜ StepsBy resolves run r ⌝ }
+{
+    let q = run::resolve(run);
+    let a = q.reply;
+    let s = q.run;
+    Step {
+        run: s,
+        refusal: reply_number(a),
+    }
+}
+
+// The new number of an old one, in a resolved run.
+#[no_mangle]
+pub extern "C" fn ridgeoven_new_number(run: Run, old: u64) -> Renumbered
+    ensures { λ r. ⌜ r ≡ toldOf ((runStep (view run) (maps old)) .answer) ⌝ }
+{
+    renumbered_of(run::new_number(run, old))
+}
