@@ -11,8 +11,11 @@ use Rattle.run.specs.declared.Reply.{Reply}
 use Rattle.run.specs.declared.Reply.the-variants as reply
 use Rattle.run.specs.declared.Number.{Number}
 use Rattle.run.specs.declared.Number.the-variants as number
+use Rattle.run.specs.declared.Count.{Count}
+use Rattle.run.specs.declared.Count.the-variants as count
 use Rattle.ffi_run.specs.declared.Step.{Step}
 use Rattle.ffi_run.specs.declared.Renumbered.{Renumbered}
+use Rattle.ffi_run.specs.declared.Reparented.{Reparented}
 
 unfoldable pub replyNumber : Reply → ℕ
 replyNumber reply.Done = 0
@@ -22,6 +25,10 @@ unfoldable pub numberedBy : Number → Renumbered
 numberedBy (number.To n) = record { refusal = 0; known = 1; number = n }
 numberedBy number.Nothing = record { refusal = 0; known = 0; number = 0 }
 numberedBy (number.Refused x) = record { refusal = numberOf x; known = 0; number = 0 }
+
+unfoldable pub countedBy : Count → Reparented
+countedBy (count.Of n) = record { refusal = 0; count = n }
+countedBy (count.Refused x) = record { refusal = numberOf x; count = 0 }
 
 -- the number of an answer's refusal, or 0
 unfoldable pub refusalOf : Answer → ℕ
@@ -39,6 +46,14 @@ toldOf (wrote w) = record { refusal = 0; known = 0; number = 0 }
 toldOf (told none) = record { refusal = 0; known = 0; number = 0 }
 toldOf (told (some n)) = record { refusal = 0; known = 1; number = n }
 toldOf (counted n) = record { refusal = 0; known = 0; number = 0 }
+
+-- a count
+unfoldable pub countOf : Answer → Reparented
+countOf (refused x) = record { refusal = numberOf x; count = 0 }
+countOf done = record { refusal = 0; count = 0 }
+countOf (wrote w) = record { refusal = 0; count = 0 }
+countOf (told n) = record { refusal = 0; count = 0 }
+countOf (counted n) = record { refusal = 0; count = n }
 
 -- the run and the refusal are those of the step; a refused one gives back the run that it was given
 pub record StepsBy (c : Call) (before : Run) (r : Step) : Type 0 where

@@ -1,14 +1,15 @@
 // A run for programs in C or Rust, step by step: a run is a value, given and given back. `refusal` is document 01's number, or 0.
 use columns::refusal::number;
+use run::Count;
 use run::Number;
 use run::Reply;
 use run::Run;
 use run::Stepped;
 ghost use mathlib.Core.Path.{_≡_};
-ghost use Rattle.cleaning.specs.Step.{takes, resolves, maps};
+ghost use Rattle.cleaning.specs.Step.{takes, resolves, maps, counts};
 ghost use Rattle.cleaning.specs.Runs.{freshRun, runStep};
 ghost use Rattle.run.specs.View.{view};
-ghost use Rattle.ffi_run.specs.Steps.{replyNumber, StepsBy, toldOf, numberedBy};
+ghost use Rattle.ffi_run.specs.Steps.{replyNumber, StepsBy, toldOf, numberedBy, countOf, countedBy};
 
 // The run after a call.
 #[repr(C)]
@@ -23,6 +24,13 @@ pub struct Renumbered {
     pub refusal: u64,
     pub known: u64,
     pub number: u64,
+}
+
+// How many survivors are reparented.
+#[repr(C)]
+pub struct Reparented {
+    pub refusal: u64,
+    pub count: usize,
 }
 
 fn reply_number(reply: Reply) -> u64
@@ -52,6 +60,21 @@ fn renumbered_of(answer: Number) -> Renumbered
             refusal: number(why),
             known: 0,
             number: 0,
+        },
+    }
+}
+
+fn reparented_of(answer: Count) -> Reparented
+    ensures { λ r. ⌜ r ≡ countedBy answer ⌝ }
+{
+    match answer {
+        Count::Of(n) => Reparented {
+            refusal: 0,
+            count: n,
+        },
+        Count::Refused(why) => Reparented {
+            refusal: number(why),
+            count: 0,
         },
     }
 }
@@ -98,4 +121,12 @@ pub extern "C" fn ridgeoven_new_number(run: Run, old: u64) -> Renumbered
     ensures { λ r. ⌜ r ≡ toldOf ((runStep (view run) (maps old)) .answer) ⌝ }
 {
     renumbered_of(run::new_number(run, old))
+}
+
+// How many survivors name an erased parent, in a resolved run.
+#[no_mangle]
+pub extern "C" fn ridgeoven_reparented(run: Run) -> Reparented
+    ensures { λ r. ⌜ r ≡ countOf ((runStep (view run) counts) .answer) ⌝ }
+{
+    reparented_of(run::reparented(run))
 }
