@@ -15,7 +15,10 @@ use Rattle.cleaning.specs.Listing.{listing}
 use Rattle.listing_text.specs.Files.{listingRoom}
 use Rattle.writing.specs.declared.Writing.{Writing}
 use Rattle.writing.specs.declared.Writing.the-variants.{Length, Refused}
-use Rattle.cleaner.specs.Cleans.{Gives}
+use Rattle.cleaner.specs.Cleans.{writtenFrom, Gives}
+use Rattle.run.specs.View.{view}
+use Rattle.run.specs.Contracts.{Writes}
+use Rattle.run.specs.declared.Run.{Run}
 use Rattle.listing_bytes.specs.Prints.{ListsWhen, ListingIn}
 use Rattle.ffi_archives.specs.Whole.{numbered, bytesOf, refusalOf, listedFrom, GivesBy}
 use Rattle.ffi_archives.specs.declared.Answer.{Answer}
@@ -43,6 +46,12 @@ gives-by {answer} {was} {is} {r} (Refused x) g e same = rw e (record {
   rest = g .rest;
   within = g .within;
 })
+
+-- a run's write
+pub writes-by : (run : Run) {was is : List ℕ} {r : Answer} (w : Writing)
+    → Writes run was is w → r ≡ numbered w → length is ≡ length was → GivesBy (writtenFrom (view run)) was is r
+unfolding writtenFrom
+writes-by run w m e same = gives-by w (record { answers = sym (ap (λ o. o .answer) (m .step)); rest = m .rest; within = m .within }) e same
 
 -- the listing, by whether there is room for it
 module _ (bytes was is : List ℕ) (w : Writing) where

@@ -1,9 +1,11 @@
 // Whole archives for programs in C or Rust, answered by numbers. A slice is a pointer and a length in elements. `refusal` is document 01's number,
 // or 0 where the call is accepted.
 use columns::refusal::number;
+use run::Run;
 use writing::Writing;
 ghost use mathlib.Core.Path.{_≡_};
-ghost use Rattle.cleaner.specs.Cleans.{cleanedFrom};
+ghost use Rattle.cleaner.specs.Cleans.{writtenFrom, cleanedFrom};
+ghost use Rattle.run.specs.View.{view};
 ghost use Rattle.ffi_archives.specs.Whole.{numbered, listedFrom, GivesBy};
 
 // How many bytes were written.
@@ -34,6 +36,14 @@ pub extern "C" fn ridgeoven_clean(bytes: &[u8], out: &mut [u8]) -> Answer
     ensures { λ r. ⌜ GivesBy (cleanedFrom (now (bytes .entry))) (now (out .entry)) (now (out .exit)) r ⌝ }
 {
     answer_of(cleaner::clean(bytes, out))
+}
+
+// The cleaned archive of a resolved run in lent bytes, as often as wanted.
+#[no_mangle]
+pub extern "C" fn ridgeoven_write(run: Run, out: &mut [u8]) -> Answer
+    ensures { λ r. ⌜ GivesBy (writtenFrom (view run)) (now (out .entry)) (now (out .exit)) r ⌝ }
+{
+    answer_of(run::write(run, out))
 }
 
 // What the listing program prints of an archive, in lent bytes.
