@@ -1,4 +1,4 @@
-/* Cleans room archives. Both functions are proved; what each promises is its contract in crates/ffi_archives/src/lib.rt.
+/* Cleans room archives. Every function is proved; what each promises is its contract in crates/ffi_archives and crates/ffi_run.
  *
  * A call is refused by number: 1 to 27 for the archive, 41 where out has too little room, 42 and 43 where the archive is over the
  * limits; 0 where it is accepted. A refused call writes nothing, and an accepted one nothing past its length. Nothing is allocated
@@ -35,6 +35,45 @@ ridgeoven_answer ridgeoven_clean(const uint8_t *bytes, size_t length, uint8_t *o
 /* The listing of an archive's cleaning into out, of room bytes: the map of numbers, the edge columns of the cleaned files, the number
  * of reparented events. Where the archive is refused its text is "refused N" and a line's end. */
 ridgeoven_answer ridgeoven_list(const uint8_t *bytes, size_t length, uint8_t *out, size_t room);
+
+/* ── step by step ──────────────────────────────────────────────────────────────────────────────
+ * A run is a value, given and given back: a host may take several archives into it, ask after resolving, and write more than once. A
+ * run that no call gave answers 40 to every call, and so does a call out of turn. After a refusal the run is the one that was given. */
+
+#define RIDGEOVEN_RUN_WORDS 40992
+
+/* What a run holds is the library's own. */
+typedef struct ridgeoven_run {
+    uint64_t words[RIDGEOVEN_RUN_WORDS];
+} ridgeoven_run;
+
+typedef struct ridgeoven_step {
+    ridgeoven_run run;
+    uint64_t refusal;
+} ridgeoven_step;
+
+/* The new number of an event: known is 0 where it is erased or no event has the number. */
+typedef struct ridgeoven_number {
+    uint64_t refusal;
+    uint64_t known;
+    uint64_t number;
+} ridgeoven_number;
+
+/* A run that has taken nothing. */
+ridgeoven_run ridgeoven_new(void);
+
+/* Takes the files of an archive, after those taken before. */
+ridgeoven_step ridgeoven_take(ridgeoven_run run, const uint8_t *bytes, size_t length);
+
+/* Ends the taking: the survivors get their new numbers and parents. */
+ridgeoven_step ridgeoven_resolve(ridgeoven_run run);
+
+/* Writes the cleaned archive of a resolved run. */
+ridgeoven_answer ridgeoven_write(ridgeoven_run run, uint8_t *out, size_t room);
+
+/* Of a resolved run: the new number of an old one, and how many survivors name an erased parent. */
+ridgeoven_number ridgeoven_new_number(ridgeoven_run run, uint64_t old);
+ridgeoven_answer ridgeoven_reparented(ridgeoven_run run);
 
 #ifdef __cplusplus
 }

@@ -1,0 +1,39 @@
+/* Cleans an archive from standard input to standard output step by step, and says on standard error where a number went. */
+#include <stdio.h>
+#include <stdlib.h>
+
+#include "ridgeoven.h"
+
+static uint8_t archive[1 << 20];
+static uint8_t cleaned[RIDGEOVEN_CLEANED_MAX];
+static ridgeoven_step step;
+
+static void accepted(uint64_t refusal) {
+    if (refusal != 0) {
+        fprintf(stderr, "refused %llu\n", (unsigned long long)refusal);
+        exit(1);
+    }
+}
+
+int main(int count, char **words) {
+    size_t length = fread(archive, 1, sizeof archive, stdin);
+    step = ridgeoven_take(ridgeoven_new(), archive, length);
+    accepted(step.refusal);
+    step = ridgeoven_resolve(step.run);
+    accepted(step.refusal);
+    for (int i = 1; i < count; i++) {
+        uint64_t old = strtoull(words[i], NULL, 10);
+        ridgeoven_number new = ridgeoven_new_number(step.run, old);
+        accepted(new.refusal);
+        if (new.known)
+            fprintf(stderr, "%llu is now %llu\n", (unsigned long long)old, (unsigned long long)new.number);
+        else
+            fprintf(stderr, "%llu is gone\n", (unsigned long long)old);
+    }
+    ridgeoven_answer changed = ridgeoven_reparented(step.run);
+    accepted(changed.refusal);
+    fprintf(stderr, "reparented: %zu\n", changed.length);
+    ridgeoven_answer written = ridgeoven_write(step.run, cleaned, sizeof cleaned);
+    accepted(written.refusal);
+    return fwrite(cleaned, 1, written.length, stdout) == written.length && fflush(stdout) == 0 ? 0 : 2;
+}
