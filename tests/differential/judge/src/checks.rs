@@ -14,6 +14,8 @@ pub const ALL: &[(&str, Check)] = &[
     ("the port answers what the original does", port),
     #[cfg(feature = "archives")]
     ("the port cleans archives that differ in what was erased to the same bytes", port_twins),
+    #[cfg(feature = "archives")]
+    ("the port's run answers every call as the original's does", port_runs),
 ];
 
 /// The first check that an archive fails.
@@ -70,6 +72,11 @@ fn port(bytes: &[u8]) -> Option<String> {
 fn port_twins(bytes: &[u8]) -> Option<String> {
     cleaning::clean(bytes).ok()?;
     crate::port::archives::twin_differs(bytes, &twin(bytes)?)
+}
+
+#[cfg(feature = "archives")]
+fn port_runs(bytes: &[u8]) -> Option<String> {
+    crate::port::runs::differs(bytes)
 }
 
 /// Other tags and labels, no roots and no unresolved references where rows are erased; other reverse and inbound sets.

@@ -35,6 +35,49 @@ pub fn renumbered(bytes: &[u8]) -> Vec<u8> {
     write::archive(&outputs(&renumbering).expect("sound outputs"))
 }
 
+/// A run over the original, call by call: the sources taken, and once resolved their renumbering.
+#[cfg(feature = "archives")]
+#[derive(Default)]
+pub struct Run {
+    files: Vec<File>,
+    renumbering: Option<GraphRenumbering>,
+}
+
+#[cfg(feature = "archives")]
+impl Run {
+    pub fn take(&mut self, bytes: &[u8]) -> Result<(), Number> {
+        self.unresolved()?;
+        self.files.extend(taking::take_after(&self.files, bytes)?);
+        Ok(())
+    }
+
+    pub fn resolve(&mut self) -> Result<(), Number> {
+        self.unresolved()?;
+        self.renumbering = Some(resolve(&self.files)?);
+        Ok(())
+    }
+
+    pub fn write(&self) -> Result<Vec<u8>, Number> {
+        Ok(write::archive(&outputs(self.resolved()?)?))
+    }
+
+    pub fn new_number(&self, old: u64) -> Result<Option<u64>, Number> {
+        Ok(self.resolved()?.sn_map.get(&old).copied().flatten())
+    }
+
+    pub fn reparented(&self) -> Result<usize, Number> {
+        self.resolved().map(|_| counting::reparented(&self.files))
+    }
+
+    fn unresolved(&self) -> Result<(), Number> {
+        if self.renumbering.is_some() { Err(40) } else { Ok(()) }
+    }
+
+    fn resolved(&self) -> Result<&GraphRenumbering, Number> {
+        self.renumbering.as_ref().ok_or(40)
+    }
+}
+
 /// What the listing program prints, and the cleaned bytes where the run is accepted. Only the listing has a limit on its input.
 pub fn answers(bytes: &[u8]) -> (String, Option<Vec<u8>>) {
     let refused = |number: Number| format!("refused {number}\n");

@@ -16,9 +16,14 @@ const NUMBERS: usize = 4096;
 
 /// The files of an archive's bytes, or the first rule that they break.
 pub fn take(bytes: &[u8]) -> Result<Vec<File>, Number> {
+    take_after(&[], bytes)
+}
+
+/// The same after files that were taken before.
+pub fn take_after(taken: &[File], bytes: &[u8]) -> Result<Vec<File>, Number> {
     let files = read::archive(bytes).ok_or(23)?;
-    limits(&files)?;
-    let mut before = None;
+    limits(&[taken, &files].concat())?;
+    let mut before = taken.last();
     for file in &files {
         rules(before, file)?;
         before = Some(file);

@@ -1,4 +1,4 @@
-//! The functions of the proved library's crates `ffi` and `ffi_archives`. A slice is two parameters, its pointer and its length. Every
+//! The functions of the proved library's crates `ffi`, `ffi_archives` and `ffi_run`. A slice is two parameters, its pointer and its length. Every
 //! function answers a record whose first part is a refusal's number, or 0; outputs are lent. The README beside the workspace says what
 //! each is given.
 
@@ -64,6 +64,37 @@ pub struct Sums {
     pub forward: usize,
     pub reverse: usize,
     pub inbound: usize,
+}
+
+/// A run is the library's own, given and given back by value.
+#[cfg(feature = "archives")]
+#[derive(Clone, Copy)]
+#[repr(C)]
+pub struct Run([u64; 40_992]);
+
+#[cfg(feature = "archives")]
+#[repr(C)]
+pub struct Step {
+    pub run: Run,
+    pub refusal: u64,
+}
+
+#[cfg(feature = "archives")]
+#[repr(C)]
+pub struct Renumbered {
+    pub refusal: u64,
+    pub known: u64,
+    pub number: u64,
+}
+
+#[cfg(feature = "archives")]
+unsafe extern "C" {
+    pub fn ridgeoven_new() -> Run;
+    pub fn ridgeoven_take(run: Run, bytes: *const u8, bytes_len: usize) -> Step;
+    pub fn ridgeoven_resolve(run: Run) -> Step;
+    pub fn ridgeoven_write(run: Run, out: *mut u8, out_len: usize) -> Answer;
+    pub fn ridgeoven_new_number(run: Run, old: u64) -> Renumbered;
+    pub fn ridgeoven_reparented(run: Run) -> Answer;
 }
 
 unsafe extern "C" {

@@ -6,6 +6,8 @@ pub mod bench;
 mod boundary;
 mod lent;
 pub mod questions;
+#[cfg(feature = "archives")]
+pub mod runs;
 pub mod smallest;
 
 use crate::cases::{Part, line};
