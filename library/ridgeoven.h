@@ -20,6 +20,9 @@ extern "C" {
 /* No listing is longer; one is made only where there is so much room. */
 #define RIDGEOVEN_LISTING_ROOM 437792
 
+/* No refusal's words are longer; they are told only where there is so much room. */
+#define RIDGEOVEN_WORDS_ROOM 120
+
 /* A call uses less stack (4,326,192 bytes as compiled for x86-64). */
 #define RIDGEOVEN_STACK (5 << 20)
 
@@ -35,6 +38,9 @@ ridgeoven_answer ridgeoven_clean(const uint8_t *bytes, size_t length, uint8_t *o
 /* The listing of an archive's cleaning into out, of room bytes: the map of numbers, the edge columns of the cleaned files, the number
  * of reparented events. Where the archive is refused its text is "refused N" and a line's end. */
 ridgeoven_answer ridgeoven_list(const uint8_t *bytes, size_t length, uint8_t *out, size_t room);
+
+/* What the number of a refusal means, into out, of room bytes and without a 0 after it; a number that is no refusal's has no words. */
+ridgeoven_answer ridgeoven_words(uint64_t refusal, uint8_t *out, size_t room);
 
 /* ── step by step ──────────────────────────────────────────────────────────────────────────────
  * A run is a value, given and given back: a host may take several archives into it, ask after resolving, and write more than once. A

@@ -14,7 +14,9 @@ int main(void) {
     }
     ridgeoven_answer answer = ridgeoven_clean(archive, length, cleaned, sizeof cleaned);
     if (answer.refusal != 0) {
-        fprintf(stderr, "refused %llu\n", (unsigned long long)answer.refusal);
+        uint8_t words[RIDGEOVEN_WORDS_ROOM];
+        size_t said = ridgeoven_words(answer.refusal, words, sizeof words).length;
+        fprintf(stderr, "refused %llu: %.*s\n", (unsigned long long)answer.refusal, (int)said, (const char *)words);
         return 1;
     }
     return fwrite(cleaned, 1, answer.length, stdout) == answer.length && fflush(stdout) == 0 ? 0 : 2;

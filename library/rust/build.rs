@@ -1,4 +1,4 @@
-//! Links what `rt staticlib ffi_archives` writes, from `target/staticlib` or the folder that `RIDGEOVEN_LIB` names.
+//! Links what `library/build` writes, from `target/staticlib` or the folder that `RIDGEOVEN_LIB` names.
 
 use std::env;
 use std::path::PathBuf;
@@ -7,7 +7,9 @@ fn main() {
     println!("cargo:rerun-if-env-changed=RIDGEOVEN_LIB");
     let here = PathBuf::from(env::var_os("CARGO_MANIFEST_DIR").expect("cargo sets it"));
     let folder = env::var_os("RIDGEOVEN_LIB").map_or_else(|| here.join("../../target/staticlib"), PathBuf::from);
-    println!("cargo:rerun-if-changed={}", folder.join("libffi_archives.a").display());
     println!("cargo:rustc-link-search=native={}", folder.display());
-    println!("cargo:rustc-link-lib=static=ffi_archives");
+    for name in ["ffi_archives", "ffi_run"] {
+        println!("cargo:rerun-if-changed={}", folder.join(format!("lib{name}.a")).display());
+        println!("cargo:rustc-link-lib=static={name}");
+    }
 }

@@ -1,12 +1,14 @@
 -- What cleaning and listing promise, said by numbers.
 use mathlib.Core.Bool.{Bool, true, false, cond}
-use mathlib.Core.List.{List}
+use mathlib.Core.List.{List, [], _++_}
 use mathlib.Core.Path.{_≡_, refl, ap, sym, subst, _∙_}
-use Prim.Native.Nat.{ℕ, _≤_}
+use Prim.Native.Nat.{ℕ, _≤_, _<_}
+use native.Mathlib.Nat.{zero-add}
 use native.Mathlib.Omega.{arith}
 use lib.Dec.{ltb}
-use lib.ListN.{length}
-use lib.Seq.{length-take-le}
+use borrow.Author.Tests.{lt-ltb, le-ltb}
+use lib.ListN.{length, getD, take, drop}
+use lib.Seq.{sets, sets-eq, length-take-le, take-append-seam, drop-append-seam}
 use Rattle.columns.specs.Refusal.{numberOf}
 use Rattle.columns.specs.declared.refusal.Refusal.{Refusal}
 use Rattle.columns.specs.declared.refusal.Refusal.the-variants.{SliceShort}
@@ -19,8 +21,10 @@ use Rattle.cleaner.specs.Cleans.{writtenFrom, Gives}
 use Rattle.run.specs.View.{view}
 use Rattle.run.specs.Contracts.{Writes}
 use Rattle.run.specs.declared.Run.{Run}
+use Rattle.listing_numbers.specs.Wrote.{Wrote}
+use Rattle.words.specs.Words.{table}
 use Rattle.listing_bytes.specs.Prints.{ListsWhen, ListingIn}
-use Rattle.ffi_archives.specs.Whole.{numbered, bytesOf, refusalOf, listedFrom, GivesBy}
+use Rattle.ffi_archives.specs.Whole.{numbered, bytesOf, refusalOf, listedFrom, wordsFrom, GivesBy}
 use Rattle.ffi_archives.specs.declared.Answer.{Answer}
 
 -- a refused arm
@@ -64,3 +68,31 @@ module _ (bytes was is : List ℕ) (w : Writing) where
   listed-by l e same =
       let g = when-room (ltb (length was) listingRoom) (l .lists) in
       gives-by w (record { answers = g .answers; rest = g .rest; within = g .within }) e same
+
+-- the words of a number, by whether there is room for them
+module _ (n : ℕ) (was : List ℕ) where
+  by-room : (b : Bool) → ltb (length was) 120 ≡ b → cond b (step.refused SliceShort) (step.wrote (getD table n [])) ≡ wordsFrom n (length was)
+  unfolding wordsFrom
+  by-room b e = sym (ap (λ b. cond b (step.refused SliceShort) (step.wrote (getD table n []))) e)
+
+  pub short-by : {r : Answer} → length was < 120 → r ≡ numbered (Refused SliceShort) → GivesBy (wordsFrom n) was was r
+  short-by h e = gives-by (Refused SliceShort) (record { answers = by-room true (lt-ltb (length was) 120 h); rest = refl; within = omega arith }) e refl
+
+  module _ {is : List ℕ} (h : 120 ≤ length was) {m : ℕ} (w : Wrote (getD table n []) 120 was 0 is m) where
+    made : is ≡ getD table n [] ++ drop (length (getD table n [])) was
+    made = w .stored ∙ sets-eq (getD table n []) was 0 (omega (arith, w .short)) ∙ ap (λ k. getD table n [] ++ drop k was) (zero-add (length (getD table n [])))
+
+    all-of : m ≡ length (getD table n [])
+    all-of = omega (arith, w .next)
+
+    front : take m is ≡ getD table n []
+    front = ap (λ k. take k is) all-of ∙ ap (take (length (getD table n []))) made ∙ take-append-seam (getD table n []) (drop (length (getD table n [])) was)
+
+    behind : drop m is ≡ drop m was
+    behind = ap (λ k. drop k is) all-of ∙ ap (drop (length (getD table n []))) made ∙ drop-append-seam (getD table n []) (drop (length (getD table n [])) was)
+        ∙ ap (λ k. drop k was) (sym all-of)
+
+    pub told-by : {r : Answer} → r ≡ numbered (Length m) → length is ≡ length was → GivesBy (wordsFrom n) was is r
+    told-by e same =
+        gives-by (Length m)
+        (record { answers = ap step.wrote front ∙ by-room false (le-ltb (length was) 120 h); rest = behind; within = omega (arith, w .next, w .short) }) e same

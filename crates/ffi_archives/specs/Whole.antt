@@ -1,15 +1,16 @@
--- What cleaning and listing an archive answer by numbers: a refusal is document 01's number and nothing else, an answer 0 and how many bytes were written.
+-- What cleaning and listing an archive, and the words of a refusal, answer by numbers: a refusal is document 01's number and nothing else, an answer 0 and how many bytes were written.
 use mathlib.Core.Bool.{Bool, true, false, cond}
 use mathlib.Core.List.{List, []}
 use mathlib.Core.Path.{_≡_}
 use Prim.Native.Nat.{ℕ, _≤_}
 use lib.Dec.{ltb}
-use lib.ListN.{length, take, drop}
+use lib.ListN.{length, getD, take, drop}
 use Rattle.columns.specs.Refusal.{numberOf}
 use Rattle.columns.specs.declared.refusal.Refusal.the-variants.{SliceShort}
 use Rattle.cleaning.specs.Step as step
 use Rattle.cleaning.specs.Listing.{listing}
 use Rattle.listing_text.specs.Files.{listingRoom}
+use Rattle.words.specs.Words.{table}
 use Rattle.writing.specs.declared.Writing.{Writing}
 use Rattle.writing.specs.declared.Writing.the-variants.{Length, Refused}
 use Rattle.ffi_archives.specs.declared.Answer.{Answer}
@@ -38,6 +39,10 @@ refusalOf (step.counted n) = 0
 -- the listing into so much room: 41 where there is less than a listing may take
 unfoldable pub listedFrom : List ℕ → ℕ → step.Answer
 listedFrom bytes room = cond (ltb room listingRoom) (step.refused SliceShort) (step.wrote (listing bytes))
+
+-- what a number means into so much room: 41 where there is less than the longest words take
+unfoldable pub wordsFrom : ℕ → ℕ → step.Answer
+wordsFrom n room = cond (ltb room 120) (step.refused SliceShort) (step.wrote (getD table n []))
 
 -- the answer for as much room as was lent: its number, its bytes from the first on, and past them all is as it was
 pub record GivesBy (answer : ℕ → step.Answer) (was is : List ℕ) (r : Answer) : Type 0 where

@@ -1,12 +1,13 @@
 // Whole archives for programs in C or Rust, answered by numbers. A slice is a pointer and a length in elements. `refusal` is document 01's number,
 // or 0 where the call is accepted.
+use columns::refusal::Refusal;
 use columns::refusal::number;
 use run::Run;
 use writing::Writing;
 ghost use mathlib.Core.Path.{_≡_};
 ghost use Rattle.cleaner.specs.Cleans.{writtenFrom, cleanedFrom};
 ghost use Rattle.run.specs.View.{view};
-ghost use Rattle.ffi_archives.specs.Whole.{numbered, listedFrom, GivesBy};
+ghost use Rattle.ffi_archives.specs.Whole.{numbered, listedFrom, wordsFrom, GivesBy};
 
 // How many bytes were written.
 #[repr(C)]
@@ -52,4 +53,16 @@ pub extern "C" fn ridgeoven_list(bytes: &[u8], out: &mut [u8]) -> Answer
     ensures { λ r. ⌜ GivesBy (listedFrom (now (bytes .entry))) (now (out .entry)) (now (out .exit)) r ⌝ }
 {
     answer_of(listing_bytes::listing(bytes, out))
+}
+
+// What the number of a refusal means, in lent bytes; a number that is no refusal's has no words.
+#[no_mangle]
+pub extern "C" fn ridgeoven_words(refusal: u64, out: &mut [u8]) -> Answer
+    ensures { λ r. ⌜ GivesBy (wordsFrom refusal) (now (out .entry)) (now (out .exit)) r ⌝ }
+{
+    if out.len() < 120 {
+        return answer_of(Writing::Refused(Refusal::SliceShort));
+    }
+    let n = words::words_of_number(refusal, out, 0);
+    answer_of(Writing::Length(n))
 }

@@ -7,7 +7,7 @@ use native.Mathlib.Nat.{not-suc-le-zero, le-of-suc-le-suc}
 use native.Mathlib.Numerals.{add-one}
 use native.Mathlib.Omega.{arith}
 use lib.Dec.{leb}
-use lib.ListN.{length, getD, take, drop}
+use lib.ListN.{length, getD, take, drop, List·getD-eq-default}
 use borrow.Author.Tests.{leb-true}
 use Rattle.lists.specs.Lists.{joined, starts, part, sum, all}
 use Rattle.lists.specs.Text.{text}
@@ -102,9 +102,23 @@ placed SliceShort = (omega arith, refl)
 placed OverRecords = (omega arith, refl)
 placed OverNumbers = (omega arith, refl)
 
-module _ (x : Refusal) {n i : ℕ} (e : n ≡ numberOf x) (f : i ≡ n) where
-  pub is-number : i < 44
-  is-number = omega (arith, placed x .0)
+pub told : (x : Refusal) {n : ℕ} {was is : List ℕ} {at r : ℕ} → n ≡ numberOf x → Wrote (getD table n []) 120 was at is r → Wrote (wordsOf x) 120 was at is r
+told x e w = renamed w (rw e (placed x .1)) (omega arith)
 
-  pub told : {was is : List ℕ} {at r : ℕ} → Wrote (getD table i []) 120 was at is r → Wrote (wordsOf x) 120 was at is r
-  told w = renamed w (rw (f, e) (placed x .1)) (omega arith)
+-- ── the words of a number ────────────────────────────────────────────────────────────────────
+
+module _ {n i : ℕ} (e : i ≡ n) where
+  pub is-number : n ≤ 43 → i < 44
+  is-number h = omega arith
+
+  pub by-number : {was is : List ℕ} {at r : ℕ} → Wrote (getD table i []) 120 was at is r → Wrote (getD table n []) 120 was at is r
+  by-number w = rw e at w
+
+-- ── other numbers ────────────────────────────────────────────────────────────────────────────
+
+no-words : (n : ℕ) → 43 < n → getD table n [] ≡ []
+unfolding table
+no-words n h = List·getD-eq-default table [] {n = n} h
+
+pub untold : (n : ℕ) → 43 < n → (was : List ℕ) (at : ℕ) → Wrote (getD table n []) 120 was at was at
+untold n h was at = rw (no-words n h) (record { stored = refl; next = omega arith; short = omega arith })

@@ -83,11 +83,14 @@ fn put_some(out: &mut [u8], at: usize, all: &[u8], i: usize) -> usize
     put_word(out, at, &all[a..e])
 }
 
-// The words of a refusal, from `at` on; answers the place after them.
-pub fn words(refusal: Refusal, out: &mut [u8], at: usize) -> usize
+// The words of a number, from `at` on; a number that is no refusal's has none. Answers the place after them.
+pub fn words_of_number(number: u64, out: &mut [u8], at: usize) -> usize
     requires { ⌜ at + 120 ≤ length (now out) ⌝ }
-    ensures { λ r. ⌜ Wrote (wordsOf refusal) 120 (now (out .entry)) at (now (out .exit)) r ⌝ }
+    ensures { λ r. ⌜ Wrote (getD table number []) 120 (now (out .entry)) at (now (out .exit)) r ⌝ }
 {
+    if 43 < number {
+        return at;
+    }
     let all = b"\
         the subject is not 1 to 255 bytes long\
         the edge entries are not as many as the rows, or their offsets do not rise from 0 to the number of targets\
@@ -120,5 +123,13 @@ pub fn words(refusal: Refusal, out: &mut [u8], at: usize) -> usize
         a slice that was lent is too short, or what the listing reads is too long\
         there are more than 1,024 events, roots, unresolved references, ranges or links, or more than 16 groups\
         there are more than 4,096 numbers in a column, in one set of all files, or in all new lists together";
-    put_some(out, at, all, index(number(refusal)))
+    put_some(out, at, all, index(number))
+}
+
+// The words of a refusal, from `at` on; answers the place after them.
+pub fn words(refusal: Refusal, out: &mut [u8], at: usize) -> usize
+    requires { ⌜ at + 120 ≤ length (now out) ⌝ }
+    ensures { λ r. ⌜ Wrote (wordsOf refusal) 120 (now (out .entry)) at (now (out .exit)) r ⌝ }
+{
+    words_of_number(number(refusal), out, at)
 }

@@ -5,7 +5,16 @@
 //! assert_eq!(nothing, Err(ridgeoven::Refusal(24)));
 //! ```
 
-use std::{fmt, thread};
+mod boundary;
+mod refusal;
+mod run;
+
+pub use refusal::Refusal;
+pub use run::Run;
+
+use boundary::{ridgeoven_clean, ridgeoven_list};
+use refusal::length;
+use std::thread;
 
 /// No cleaned archive is longer.
 pub const CLEANED_MAX: usize = 196_448;
@@ -13,71 +22,41 @@ pub const CLEANED_MAX: usize = 196_448;
 /// No listing is longer; one is made only where there is so much room.
 pub const LISTING_ROOM: usize = 437_792;
 
-/// Why a call was refused, by document 01's number: 1 to 27 for the archive, 41 for too little room, 42 and 43 for the limits.
-#[derive(Clone, Copy, Debug, PartialEq, Eq, Hash)]
-pub struct Refusal(pub u64);
-
-impl fmt::Display for Refusal {
-    fn fmt(&self, f: &mut fmt::Formatter<'_>) -> fmt::Result {
-        write!(f, "refused {}", self.0)
-    }
-}
-
-impl std::error::Error for Refusal {}
-
 /// A call uses less stack, but more than many threads have: each is made on a thread of its own.
-const STACK: usize = 5 << 20;
+const STACK: usize = 6 << 20;
 
-#[repr(C)]
-struct Answer {
-    refusal: u64,
-    length: usize,
-}
-
-type Call = unsafe extern "C" fn(*const u8, usize, *mut u8, usize) -> Answer;
-
-unsafe extern "C" {
-    fn ridgeoven_clean(bytes: *const u8, length: usize, out: *mut u8, room: usize) -> Answer;
-    fn ridgeoven_list(bytes: *const u8, length: usize, out: *mut u8, room: usize) -> Answer;
-}
-
-fn asked(call: Call, bytes: &[u8], out: &mut [u8]) -> Result<usize, Refusal> {
-    // Both pointers are of slices with these lengths, and a slice that is written is borrowed by nobody else.
-    let asks = || unsafe { call(bytes.as_ptr(), bytes.len(), out.as_mut_ptr(), out.len()) };
-    let answer = thread::scope(|scope| {
-        let made = thread::Builder::new().stack_size(STACK).spawn_scoped(scope, asks).expect("there is a thread for the call");
+/// What a call answers that is made with stack enough.
+fn on_stack<T: Send>(call: impl FnOnce() -> T + Send) -> T {
+    thread::scope(|scope| {
+        let made = thread::Builder::new().stack_size(STACK).spawn_scoped(scope, call).expect("there is a thread for the call");
         made.join().expect("the call returns")
-    });
-    match answer.refusal {
-        0 => Ok(answer.length),
-        number => Err(Refusal(number)),
-    }
+    })
 }
 
-fn in_vec(call: Call, bytes: &[u8], room: usize) -> Result<Vec<u8>, Refusal> {
+fn in_vec(room: usize, call: impl FnOnce(&mut [u8]) -> Result<usize, Refusal>) -> Result<Vec<u8>, Refusal> {
     let mut out = vec![0; room];
-    let length = asked(call, bytes, &mut out)?;
+    let length = call(&mut out)?;
     out.truncate(length);
     Ok(out)
 }
 
 /// Cleans an archive into `out`: how long the cleaned archive is. A refused call writes nothing, an accepted one nothing past its length.
 pub fn clean(bytes: &[u8], out: &mut [u8]) -> Result<usize, Refusal> {
-    asked(ridgeoven_clean, bytes, out)
+    length(on_stack(|| unsafe { ridgeoven_clean(bytes.as_ptr(), bytes.len(), out.as_mut_ptr(), out.len()) }))
 }
 
 /// The cleaned archive.
 pub fn clean_to_vec(bytes: &[u8]) -> Result<Vec<u8>, Refusal> {
-    in_vec(ridgeoven_clean, bytes, CLEANED_MAX)
+    in_vec(CLEANED_MAX, |out| clean(bytes, out))
 }
 
 /// The listing of an archive's cleaning into `out`, of at least `LISTING_ROOM` bytes: how long it is. Where the archive is refused its
 /// text is that refusal.
 pub fn list(bytes: &[u8], out: &mut [u8]) -> Result<usize, Refusal> {
-    asked(ridgeoven_list, bytes, out)
+    length(on_stack(|| unsafe { ridgeoven_list(bytes.as_ptr(), bytes.len(), out.as_mut_ptr(), out.len()) }))
 }
 
 /// The listing's text.
 pub fn list_to_vec(bytes: &[u8]) -> Result<Vec<u8>, Refusal> {
-    in_vec(ridgeoven_list, bytes, LISTING_ROOM)
+    in_vec(LISTING_ROOM, |out| list(bytes, out))
 }
