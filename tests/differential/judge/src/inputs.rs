@@ -21,47 +21,57 @@ pub fn archive(seed: u64, size: Size) -> Vec<u8> {
     bytes
 }
 
-/// How many archives of three events there are with every choice of parents and erased events.
-pub const SHORT: usize = 8 * LISTS * LISTS;
-
-const LISTS: usize = 2 * 5 * 16;
+/// How many archives of so many events there are with every choice of parents and erased events.
+pub fn shorts(events: usize) -> usize {
+    lists(events).pow(2) << events
+}
 
 /// One of them: a file from 100 on, where parents are 99 and earlier events, in any order, each once.
-pub fn short(number: usize) -> Vec<u8> {
-    let (erased, lists) = (number % 8, number / 8);
-    let (prev, auth) = (lists % LISTS, lists / LISTS);
-    let slots = [lists_of(prev), lists_of(auth)];
-    let slots: Vec<Vec<u64>> = (0..6).map(|slot| slots[slot % 2][slot / 2].clone()).collect();
-    let none = Set::empty(3);
+pub fn short(events: usize, number: usize) -> Vec<u8> {
+    let (erased, number) = (number % (1 << events), number >> events);
+    let kinds = [number % lists(events), number / lists(events)].map(|number| lists_of(events, number));
+    let slots: Vec<Vec<u64>> = (0..2 * events).map(|slot| kinds[slot % 2][slot / 2].clone()).collect();
+    let none = Set::empty(events);
     write::archive(&[File {
         first: 100,
         group: 0,
         subject: vec![115],
         depth: None,
         sets: [Set::of(100, &slots), none.clone(), none],
-        rows: (0..3).map(|row| Row { erased: erased >> row & 1 == 1, tag: row as u64 }).collect(),
+        rows: (0..events).map(|row| Row { erased: erased >> row & 1 == 1, tag: row as u64 }).collect(),
         unresolved: Vec::new(),
         roots: Vec::new(),
         cover: None,
     }])
 }
 
-/// A list for each of three events, out of all lists of 99 and the events before it.
-fn lists_of(number: usize) -> [Vec<u64>; 3] {
-    [arrangement(number % 2, 1), arrangement(number / 2 % 5, 2), arrangement(number / 10, 3)]
+/// How many choices of a list for each event there are, out of 99 and the events before it.
+fn lists(events: usize) -> usize {
+    (1..=events).map(arrangements).product()
 }
 
-/// The lists of distinct numbers from 99 on, of at most so many, counted off: the empty one, then by their first number.
-fn arrangement(number: usize, most: usize) -> Vec<u64> {
-    fn count(most: usize) -> usize {
-        1 + if most == 0 { 0 } else { most * count(most - 1) }
+/// One of them.
+fn lists_of(events: usize, mut number: usize) -> Vec<Vec<u64>> {
+    let mut chosen = Vec::new();
+    for most in 1..=events {
+        chosen.push(arrangement(number % arrangements(most), most));
+        number /= arrangements(most);
     }
+    chosen
+}
+
+/// How many lists of distinct numbers there are, out of so many numbers.
+fn arrangements(most: usize) -> usize {
+    1 + if most == 0 { 0 } else { most * arrangements(most - 1) }
+}
+
+/// Those lists of the numbers from 99 on, counted off: the empty one, then by their first number.
+fn arrangement(mut number: usize, most: usize) -> Vec<u64> {
     let mut left: Vec<u64> = (99..99 + most as u64).collect();
     let mut list = Vec::new();
-    let mut number = number;
     while number > 0 {
         number -= 1;
-        let each = count(left.len() - 1);
+        let each = arrangements(left.len() - 1);
         list.push(left.remove(number / each));
         number %= each;
     }

@@ -33,7 +33,7 @@ const USAGE: &str = "\
 differential vectors FOLDER                     compare the original with kept archives
 differential archives [--seed N] [--count N] [--seconds N] [--size small|middle|large]
                                                 check generated archives
-differential short                              check every archive of three events
+differential short [--events N]                 check every archive of N events (3)
 differential keep FOLDER [--seed N] [--count N] [--size S] [--bytes N] [--short all]
                                                 write generated archives with the original's answers;
                                                 with --short all, some of the archives of three events
@@ -68,7 +68,7 @@ fn command(mut words: impl Iterator<Item = String>) -> Done {
     match name.as_str() {
         "vectors" => archives::vectors(&words.next().ok_or("no folder")?),
         "archives" => archives::archives(&Options::read(words, &["seed", "count", "seconds", "size"])?),
-        "short" => archives::short(),
+        "short" => archives::short(&Options::read(words, &["events"])?),
         "keep" => {
             let folder = words.next().ok_or("no folder")?;
             archives::keep(&folder, &Options::read(words, &["seed", "count", "size", "bytes", "short"])?)

@@ -9,6 +9,9 @@ use std::collections::BTreeMap;
 use std::path::Path;
 use std::{fs, io};
 
+/// Events of a short archive.
+const EVENTS: usize = 3;
+
 pub fn vectors(folder: &str) -> Done {
     let (agree, differ) = vectors::compare(Path::new(folder)).map_err(|error| format!("{folder}: {error}"))?;
     for name in &differ {
@@ -61,10 +64,11 @@ pub fn archives(options: &Options) -> Done {
     Ok(true)
 }
 
-pub fn short() -> Done {
+pub fn short(options: &Options) -> Done {
     let mut counts = BTreeMap::new();
-    for number in 0..inputs::SHORT {
-        let bytes = inputs::short(number);
+    let events = options.number("events", EVENTS as u64)? as usize;
+    for number in 0..inputs::shorts(events) {
+        let bytes = inputs::short(events, number);
         if !passes(&bytes, &format!("short archive {number}")) {
             return Ok(false);
         }
@@ -81,7 +85,7 @@ pub fn keep(folder: &str, options: &Options) -> Done {
     let mut kept = 0;
     for seed in options.seeds(40)? {
         let short = options.word("short").is_some();
-        let bytes = if short { inputs::short(Random::new(seed).below(inputs::SHORT)) } else { inputs::archive(seed, size) };
+        let bytes = if short { inputs::short(EVENTS, Random::new(seed).below(inputs::shorts(EVENTS))) } else { inputs::archive(seed, size) };
         if bytes.len() <= most {
             vectors::keep(Path::new(folder), &format!("seed-{seed:06}"), &bytes).map_err(|error| format!("{folder}: {error}"))?;
             kept += 1;
