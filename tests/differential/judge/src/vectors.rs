@@ -37,7 +37,7 @@ fn port_agrees(_archive: &[u8]) -> bool {
 
 #[cfg(feature = "archives")]
 fn port_agrees(archive: &[u8]) -> bool {
-    crate::port::archives::differs(archive).is_none()
+    crate::port::archives::differs(archive).is_none() && crate::port::runs::differs(archive).is_none()
 }
 
 /// An archive with the original's answers, as a new entry of a folder.
