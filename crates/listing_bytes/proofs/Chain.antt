@@ -1,5 +1,6 @@
 -- One step after the other: what each return prints.
-use mathlib.Core.Path.{_≡_, refl, sym, ap, ap₂, subst, _∙_}
+use mathlib.Core.Path.{_≡_, refl, sym, ap, subst, _∙_}
+use mathlib.Core.Bool.{true}
 use mathlib.Core.List.{List, _++_}
 use Prim.Native.Nat.{ℕ, _+_, _≤_, _<_}
 use native.Mathlib.Omega.{arith}
@@ -10,19 +11,27 @@ use mir.Val.{Fits}
 use borrow.Author.Tests.{lt-ltb, le-ltb}
 use Rattle.columns.specs.declared.refusal.Refusal.{Refusal}
 use Rattle.columns.specs.declared.refusal.Refusal.the-variants.{SliceShort}
-use Rattle.cleaning.specs.Step.{takes, resolves}
-use Rattle.cleaning.specs.Runs.{freshRun, runStep}
+use Rattle.rules.specs.declared.slots.Ruling.the-variants.{Kept, Broken}
+use Rattle.archive.specs.Parse.{parse}
+use Rattle.cleaning.specs.Step.{takes}
+use Rattle.cleaning.specs.Held.{nothing, holdMore}
+use Rattle.cleaning.specs.Runs.{taking, RunOutcome, runStep}
 use Rattle.cleaning.specs.Listing.{refusedLine, afterwards, listing}
+use Rattle.held.specs.declared.Held.{Held}
+use Rattle.held.specs.View.{sheetIn, heldIn}
+use Rattle.held.specs.Valid.{heldOk}
+use Rattle.tidying.specs.Ordered.{ordered}
+use Rattle.taking.specs.Took.{TookBy}
+use Rattle.taking.specs.declared.Taken.{Taken}
 use Rattle.taking.proofs.Answers.{files-fit}
+use Rattle.resolution.specs.Outcome.{ResolvedBy}
+use Rattle.resolution.specs.declared.Resolution.{Resolution}
 use Rattle.writing.specs.declared.Writing.{Writing}
 use Rattle.writing.specs.declared.Writing.the-variants.{Length, Refused}
 use Rattle.listing_numbers.specs.Wrote.{Wrote}
-use Rattle.run.specs.View.{view}
-use Rattle.run.specs.Contracts.{replied, Steps}
-use Rattle.run.specs.Listed.{ListsOf}
-use Rattle.run.specs.declared.Run.{Run}
-use Rattle.run.specs.declared.Stepped.{Stepped}
-use Rattle.run.specs.declared.Reply.the-variants as reply
+use Rattle.listings.specs.Listed.{Ready, verdictOf, Lists}
+use Rattle.run.specs.Listed.{listedIn}
+use Rattle.run.proofs.OverHeld.{taking-refused, taking-done, resolving-refused, resolving-done}
 use Rattle.listing_bytes.specs.Prints.{Prints, said, listedText, resolvedText, ListingIn}
 use Rattle.listing_bytes.proofs.OverSources.{bytes-say}
 
@@ -40,39 +49,42 @@ line-printed {text} {was} {is} {r} w h =
 renamed : {text other was is : List ℕ} {r : Writing} → text ≡ other → Prints text was is r → Prints other was is r
 renamed {was = was} {is} {r} e p = subst (λ t. Prints t was is r) e p
 
--- ── listing a resolved run ───────────────────────────────────────────────────────────────────
-
-module _ (run : Run) {was mid : List ℕ} {w : Writing} (v : ListsOf run was mid w) where
-  pub line-of-refusal : {is : List ℕ} {r : Writing} (x : Refusal) → w ≡ Refused x → Prints (refusedLine x) mid is r → Prints (listedText (length was) (view run)) was is r
-  unfolding listedText
-  line-of-refusal {is} {r} x e p =
-      let a = rw e at (v .answer) in
-      let same : mid ≡ was = rw e at (v .rest) in
-      renamed (ap said a) (subst (λ l. Prints (refusedLine x) l is r) same p)
-
-  pub all-listed : (n : ℕ) → w ≡ Length n → length mid ≡ length was → Prints (listedText (length was) (view run)) was mid (Length n)
-  unfolding listedText
-  all-listed n e same =
-      let a = rw e at (v .answer) in
-      let fits : n ≤ length was = rw e at (v .within) in
-      let z : length (take n mid) ≡ n = length-take-le n mid (omega arith) in
-      renamed (ap said a) (record {
-        answer = ap Length (sym z);
-        bytes = ap (λ k. take k mid) z;
-        rest = rw z (rw e at (v .rest));
-        within = rw z fits;
-      })
-
 -- ── resolving, then listing ──────────────────────────────────────────────────────────────────
 
-module _ (run : Run) (q : Stepped) (m : Steps resolves run (q .run) (q .reply)) {was is : List ℕ} {r : Writing} where
-  pub unresolved : (x : Refusal) → q .reply ≡ reply.Refused x → Prints (refusedLine x) was is r → Prints (resolvedText (length was) (view run)) was is r
+module _ (h : Held) (q : Resolution) (m : ResolvedBy h q) where
+  pub unresolved : {was is : List ℕ} {r : Writing} (x : Refusal) → q .ruling ≡ Broken x → Prints (refusedLine x) was is r
+      → Prints (resolvedText (length was) (taking (heldIn h))) was is r
   unfolding resolvedText
-  unresolved x e p = renamed (ap (λ a. afterwards refusedLine a (listedText (length was) ((runStep (view run) resolves) .state))) (ap replied (sym e) ∙ m .answer)) p
+  unresolved {was} x e p = renamed (ap (λ o. afterwards refusedLine (o .answer) (listedText (length was) (o .state))) (sym (resolving-refused h q m x e))) p
 
-  pub then-listed : q .reply ≡ reply.Done → Prints (listedText (length was) (view (q .run))) was is r → Prints (resolvedText (length was) (view run)) was is r
-  unfolding resolvedText
-  then-listed e p = renamed (ap₂ (λ a s. afterwards refusedLine a (listedText (length was) s)) (ap replied (sym e) ∙ m .answer) (m .state)) p
+  module _ (d : q .ruling ≡ Kept) where
+    pub list-ready : heldOk h ≡ true → ordered (h .sheet) ≡ true → Ready h (q .sheet)
+    list-ready k o = record { heldValid = k; heldOrder = o; valid = m .valid d; inOrder = m .inOrder d; whole = m .whole d }
+
+    module _ {was mid : List ℕ} {w : Writing} (v : Lists (heldIn h) (sheetIn (q .sheet)) was mid w) where
+      -- what is said of the answer is the text
+      answered : said (verdictOf w mid) ≡ resolvedText (length was) (taking (heldIn h))
+      unfolding resolvedText listedText listedIn
+      answered = ap said (v .answer) ∙ ap (λ o. afterwards refusedLine (o .answer) (listedText (length was) (o .state))) (sym (resolving-done h q m d))
+
+      pub line-of-refusal : {is : List ℕ} {r : Writing} (x : Refusal) → w ≡ Refused x → Prints (refusedLine x) mid is r
+          → Prints (resolvedText (length was) (taking (heldIn h))) was is r
+      line-of-refusal {is} {r} x e p =
+          let a = rw e at answered in
+          let same : mid ≡ was = rw e at (v .rest) in
+          renamed a (subst (λ l. Prints (refusedLine x) l is r) same p)
+
+      pub all-listed : (n : ℕ) → w ≡ Length n → length mid ≡ length was → Prints (resolvedText (length was) (taking (heldIn h))) was mid (Length n)
+      all-listed n e same =
+          let a = rw e at answered in
+          let fits : n ≤ length was = rw e at (v .within) in
+          let z : length (take n mid) ≡ n = length-take-le n mid (omega arith) in
+          renamed a (record {
+            answer = ap Length (sym z);
+            bytes = ap (λ k. take k mid) z;
+            rest = rw z (rw e at (v .rest));
+            within = rw z fits;
+          })
 
 -- ── the whole ────────────────────────────────────────────────────────────────────────────────
 
@@ -88,18 +100,19 @@ module _ (bytes was : List ℕ) where
     unfolding listing
     too-long g p = lists-as (renamed (rw (lt-ltb 65536 (length bytes) g)) p)
 
-    module _ (g : length bytes ≤ 65536) (fit : (i : ℕ) → Fits w8 (getD bytes i 0)) (run : Run) (f : view run ≡ freshRun) (q : Stepped)
-        (m : Steps (takes bytes) run (q .run) (q .reply)) where
-      whole-listing : afterwards refusedLine ((runStep (view run) (takes bytes)) .answer) (resolvedText (length was) ((runStep (view run) (takes bytes)) .state)) ≡ listing bytes
+    module _ (g : length bytes ≤ 65536) (fit : (i : ℕ) → Fits w8 (getD bytes i 0)) (k : Held) (f : heldIn k ≡ nothing) (t : Taken)
+        (m : TookBy (holdMore (heldIn k) (parse bytes)) k t) where
+      -- what follows the taking is the listing
+      lists-by : {o : RunOutcome} {is : List ℕ} {r : Writing} → runStep (taking (heldIn k)) (takes bytes) ≡ o
+          → Prints (afterwards refusedLine (o .answer) (resolvedText (length was) (o .state))) was is r → ListingIn bytes was is r
       unfolding listing
-      whole-listing =
-          ap (λ s. afterwards refusedLine ((runStep s (takes bytes)) .answer) (resolvedText (length was) ((runStep s (takes bytes)) .state))) f
-          ∙ bytes-say (length was) h bytes (files-fit bytes fit) ∙ rw (le-ltb 65536 (length bytes) g)
+      lists-by e p =
+          lists-as (renamed (ap (λ o. afterwards refusedLine (o .answer) (resolvedText (length was) (o .state))) (sym e ∙ ap (λ n. runStep (taking n) (takes bytes)) f)
+          ∙ bytes-say (length was) h bytes (files-fit bytes fit) ∙ rw (le-ltb 65536 (length bytes) g)) p)
 
-      pub untaken : {is : List ℕ} {r : Writing} (x : Refusal) → q .reply ≡ reply.Refused x → Prints (refusedLine x) was is r → ListingIn bytes was is r
-      untaken x e p =
-          lists-as (renamed (ap (λ a. afterwards refusedLine a (resolvedText (length was) ((runStep (view run) (takes bytes)) .state))) (ap replied (sym e) ∙ m .answer) ∙ whole-listing) p)
+      pub untaken : {is : List ℕ} {r : Writing} (x : Refusal) → t .ruling ≡ Broken x → Prints (refusedLine x) was is r → ListingIn bytes was is r
+      untaken x e p = lists-by (taking-refused k bytes t m x e) p
 
-      pub then-resolved : {is : List ℕ} {r : Writing} → q .reply ≡ reply.Done → Prints (resolvedText (length was) (view (q .run))) was is r → ListingIn bytes was is r
-      then-resolved e p =
-          lists-as (renamed (ap₂ (λ a s. afterwards refusedLine a (resolvedText (length was) s)) (ap replied (sym e) ∙ m .answer) (m .state) ∙ whole-listing) p)
+      pub then-resolved : {is : List ℕ} {r : Writing} → t .ruling ≡ Kept → Prints (resolvedText (length was) (taking (heldIn (t .held)))) was is r
+          → ListingIn bytes was is r
+      then-resolved e p = lists-by (taking-done k bytes t m e .step) p

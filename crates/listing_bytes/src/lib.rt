@@ -1,18 +1,19 @@
-// The listing of an archive's bytes: all that the listing program prints.
+// The listing of an archive's bytes: all that the listing program prints. The steps are made on what a run holds, and no run is made.
 use columns::refusal::Refusal;
+use held::Held;
 use listing_lines::put_refused;
-use run::Reply;
-use run::Run;
-use run::listing::list;
-use run::new;
-use run::resolve;
-use run::take;
+use rules::slots::Ruling;
 use writing::Writing;
+ghost use mathlib.Core.Path.{_≡_};
+ghost use mathlib.Core.Bool.{true};
 ghost use Prim.Native.Nat.{_≤_};
 ghost use lib.ListN.{length};
 ghost use Rattle.cleaning.specs.Listing.{refusedLine};
-ghost use Rattle.run.specs.View.{view};
-ghost use Rattle.listing_bytes.specs.Prints.{Prints, listedText, resolvedText, ListingIn};
+ghost use Rattle.cleaning.specs.Runs.{taking};
+ghost use Rattle.held.specs.View.{heldIn};
+ghost use Rattle.held.specs.Valid.{heldOk};
+ghost use Rattle.tidying.specs.Ordered.{ordered};
+ghost use Rattle.listing_bytes.specs.Prints.{Prints, resolvedText, ListingIn};
 
 // The line of a refusal.
 fn say(refusal: Refusal, out: &mut [u8]) -> Writing
@@ -22,28 +23,23 @@ fn say(refusal: Refusal, out: &mut [u8]) -> Writing
     Writing::Length(put_refused(out, 0, refusal))
 }
 
-// Lists a resolved run.
-fn list_run(run: Run, out: &mut [u8]) -> Writing
+// Resolves what is held of sources, and lists it.
+fn list_held(h: Held, out: &mut [u8]) -> Writing
+    requires { ⌜ (heldOk h ≡ true) × (ordered (h .sheet) ≡ true) ⌝ }
     requires { ⌜ 29 ≤ length (now out) ⌝ }
-    ensures { λ r. ⌜ Prints (listedText (length (now (out .entry))) (view run)) (now (out .entry)) (now (out .exit)) r ⌝ }
+    ensures { λ r. ⌜ Prints (resolvedText (length (now (out .entry))) (taking (heldIn h))) (now (out .entry)) (now (out .exit)) r ⌝ }
 {
-    let w = list(run, out);
-    match w {
-        Writing::Refused(x) => say(x, out),
-        Writing::Length(n) => Writing::Length(n),
-    }
-}
-
-// Resolves a run that has taken its sources, and lists it.
-fn resolve_run(run: Run, out: &mut [u8]) -> Writing
-    requires { ⌜ 29 ≤ length (now out) ⌝ }
-    ensures { λ r. ⌜ Prints (resolvedText (length (now (out .entry))) (view run)) (now (out .entry)) (now (out .exit)) r ⌝ }
-{
-    let q = resolve(run);
-    let a = q.reply;
+    let q = resolution::resolve(h);
+    let a = q.ruling;
     match a {
-        Reply::Refused(x) => say(x, out),
-        Reply::Done => list_run(q.run, out),
+        Ruling::Broken(x) => say(x, out),
+        Ruling::Kept => {
+            let w = listings::list(h, q.sheet, out);
+            match w {
+                Writing::Refused(y) => say(y, out),
+                Writing::Length(n) => Writing::Length(n),
+            }
+        }
     }
 }
 
@@ -57,10 +53,12 @@ pub fn listing(bytes: &[u8], out: &mut [u8]) -> Writing
     if 65536 < bytes.len() {
         return say(Refusal::SliceShort, out);
     }
-    let q = take(new(), bytes);
-    let a = q.reply;
+    let h = held::empty::fresh();
+    tidying::long::held_long(h);
+    let t = taking::take(h, bytes);
+    let a = t.ruling;
     match a {
-        Reply::Refused(x) => say(x, out),
-        Reply::Done => resolve_run(q.run, out),
+        Ruling::Broken(x) => say(x, out),
+        Ruling::Kept => list_held(t.held, out),
     }
 }

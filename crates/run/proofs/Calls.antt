@@ -7,13 +7,10 @@ use Prim.Native.Nat.{ℕ}
 use native.Mathlib.Omega.{arith}
 use lib.ListN.{length}
 use borrow.Author.Tests.{not-true, not-false}
-use Rattle.columns.specs.Refusal as verdict
-use Rattle.columns.specs.Refusal.{Verdict}
 use Rattle.columns.specs.declared.refusal.Refusal.{Refusal}
 use Rattle.columns.specs.declared.refusal.Refusal.the-variants.{OutOfTurn}
 use Rattle.cleaning.specs.Step.{Call, takes, resolves, writes, maps, counts, refused, done, told, counted}
-use Rattle.cleaning.specs.Runs.{RunState, taking, resolved, runOutcome, runStep, resolveHeld}
-use Rattle.cleaning.specs.Held as held
+use Rattle.cleaning.specs.Runs.{RunState, taking, resolved, runOutcome, runStep}
 use Rattle.cleaning.specs.Held.{holdMore, archiveHeld}
 use Rattle.cleaning.specs.Cleaning.{mapped, reparented}
 use Rattle.archive.specs.Parse.{parse}
@@ -23,13 +20,12 @@ use Rattle.held.specs.Valid.{sheetOk, heldOk}
 use Rattle.tidying.specs.Ordered.{ordered, filled}
 use Rattle.taking.specs.Took.{TookBy}
 use Rattle.taking.specs.declared.Taken.{Taken}
-use Rattle.resolution.specs.Outcome.{rulesIn, newIn, ResolvedBy}
+use Rattle.resolution.specs.Outcome.{ResolvedBy}
 use Rattle.resolution.specs.Map.{mappedOf}
 use Rattle.resolution.specs.declared.Resolution.{Resolution}
 use Rattle.resolution.specs.declared.asked.Mapped.{Mapped}
 use Rattle.resolution.specs.declared.asked.Mapped.the-variants.{To, Nothing}
-use Rattle.writing.proofs.Rest.{kept-none, broken-some}
-use Rattle.writing.specs.Answers.{Wrote}
+use Rattle.writing.specs.Answers.{answerOf, Wrote}
 use Rattle.writing.specs.declared.Writing.{Writing}
 use Rattle.writing.specs.declared.Writing.the-variants as writing
 use Rattle.run.specs.View.{view, phased, holdable, writable, isTaking, isResolved}
@@ -38,6 +34,7 @@ use Rattle.run.specs.declared.Run.{Run}
 use Rattle.run.specs.declared.Reply.the-variants.{Done, Refused}
 use Rattle.run.specs.declared.Number.the-variants as number
 use Rattle.run.specs.declared.Count.the-variants as count
+use Rattle.run.proofs.OverHeld.{taking-refused, taking-done, resolving-refused, resolving-done, sheet-written}
 use Rattle.run.proofs.InTurn.{OutOf, not-taking, not-resolved-yet, seen-taking, seen-resolved, survivors-valid, survivors-order, survivors-filled, resolved-valid, resolved-order, taking-valid, taking-order}
 
 -- ── out of turn ──────────────────────────────────────────────────────────────────────────────
@@ -118,16 +115,16 @@ module _ (r : Run) {b : Bool} (e : b ≡ isResolved r) (k : not b ≡ false) whe
   count-now f = by-state counts _ (seen-resolved r is-resolved) refl ∙ ap (λ k. runOutcome (view r) (counted k)) (sym f)
 
   pub write-now : {is : List ℕ} {a : Writing} (was : List ℕ) → Wrote (sheetIn (r .sheet)) was is a → Writes r was is a
-  unfolding runStep
   write-now {is} {a} was w =
-      record { step = by-state (writes (length was)) _ (seen-resolved r is-resolved) refl ∙ ap (runOutcome (view r)) (sym (w .answer)); rest = w .rest; within = w .within }
+      let z = sheet-written (heldIn (r .held)) (sheetIn (r .sheet)) was w in
+      record { step = subst (λ s. runStep s (writes (length was)) ≡ runOutcome s (answerOf a is)) (sym (seen-resolved r is-resolved)) z; rest = w .rest; within = w .within }
 
 -- ── what a run stands for after a step ───────────────────────────────────────────────────────
 
 -- columns that are valid and in order are taken up by a run that takes sources
-now-taking : (r : Run) (h : held.Held) → r .phase ≡ 0 → heldIn (r .held) ≡ h → heldOk (r .held) ≡ true → ordered (r .held .sheet) ≡ true → view r ≡ taking h
+now-taking : (r : Run) → r .phase ≡ 0 → heldOk (r .held) ≡ true → ordered (r .held .sheet) ≡ true → view r ≡ taking (heldIn (r .held))
 unfolding view phased holdable
-now-taking r h p e k o = rw (k, o, p, e)
+now-taking r p k o = rw (k, o, p)
 
 -- with the survivors' columns it is resolved
 now-resolved : (r : Run) → r .phase ≡ 1 → heldOk (r .held) ≡ true → ordered (r .held .sheet) ≡ true → sheetOk (r .sheet) ≡ true → ordered (r .sheet) ≡ true
@@ -162,34 +159,21 @@ module _ (r : Run) {b : Bool} (e : b ≡ isTaking r) (k : not b ≡ false) where
 
   module _ (t : Taken) (bytes : List ℕ) (m : TookBy (holdMore (heldIn (r .held)) (parse bytes)) (r .held) t) where
     pub take-refused : (x : Refusal) → t .ruling ≡ Broken x → Steps (takes bytes) r r (Refused x)
-    unfolding runStep
-    take-refused x d = go (holdMore (heldIn (r .held)) (parse bytes)) refl m
-      where
-        go : (v : Verdict held.Held) → holdMore (heldIn (r .held)) (parse bytes) ≡ v → TookBy v (r .held) t → Steps (takes bytes) r r (Refused x)
-        go (verdict.refused y) f n = let z : y ≡ x = cc in stays (takes bytes) x (rw (f, z))
-        go (verdict.accepted h) f n = let z : _≡_ {A = ℕ} 0 1 = cc in absurd (omega arith)
+    take-refused x d = stays (takes bytes) x (taking-refused (r .held) bytes t m x d)
 
     pub take-done : t .ruling ≡ Kept → Steps (takes bytes) r (record { phase = 0; held = t .held; sheet = r .sheet }) Done
-    unfolding runStep
-    take-done d = go (holdMore (heldIn (r .held)) (parse bytes)) refl m
-      where
-        go : (v : Verdict held.Held) → holdMore (heldIn (r .held)) (parse bytes) ≡ v → TookBy v (r .held) t
-            → Steps (takes bytes) r (record { phase = 0; held = t .held; sheet = r .sheet }) Done
-        go (verdict.refused y) f n = let z : _≡_ {A = ℕ} 0 1 = cc in absurd (omega arith)
-        go (verdict.accepted h) f n = goes (takes bytes) _ (rw f (ap (λ s. runOutcome s done) (sym (now-taking _ h refl (n .1) (n .2) (n .3)))))
+    take-done d =
+        let n = taking-done (r .held) bytes t m d in
+        goes (takes bytes) _ (n .step ∙ ap (λ s. runOutcome s done) (sym (now-taking _ refl (n .valid) (n .inOrder))))
 
 -- ── resolving ────────────────────────────────────────────────────────────────────────────────
 
 module _ (r : Run) {b : Bool} (e : b ≡ isTaking r) (k : not b ≡ false) (q : Resolution) (m : ResolvedBy (r .held) q) where
   pub resolve-refused : (x : Refusal) → q .ruling ≡ Broken x → Steps resolves r r (Refused x)
-  unfolding runStep resolveHeld rulesIn
-  resolve-refused x d = stays r e k resolves x (rw (broken-some (rulesIn (r .held)) x (sym (m .ruled) ∙ d)))
+  resolve-refused x d = stays r e k resolves x (resolving-refused (r .held) q m x d)
 
   pub resolve-done : q .ruling ≡ Kept → Steps resolves r (record { phase = 1; held = r .held; sheet = q .sheet }) Done
-  unfolding runStep resolveHeld rulesIn newIn
   resolve-done d =
       goes r e k resolves _
-      (rw (kept-none (rulesIn (r .held)) (sym (m .ruled) ∙ d))
-      (ap (λ s. runOutcome s done)
-      (ap (resolved (heldIn (r .held))) (sym (m .view d))
-      ∙ sym (now-resolved _ refl (sources-valid r e k) (sources-order r e k) (m .valid d) (m .inOrder d) (m .whole d)))))
+      (resolving-done (r .held) q m d
+      ∙ ap (λ s. runOutcome s done) (sym (now-resolved _ refl (sources-valid r e k) (sources-order r e k) (m .valid d) (m .inOrder d) (m .whole d))))

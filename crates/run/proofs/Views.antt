@@ -8,19 +8,22 @@ use Rattle.cleaning.proofs.Neat.{Neat, neat-nothing}
 use Rattle.held.specs.declared.Held.{Held}
 use Rattle.held.specs.View.{heldIn}
 use Rattle.held.specs.Valid.{sheetOk, heldOk}
+use Rattle.tidying.specs.Ordered.{ordered}
 use Rattle.tidying.specs.Long.{LongHeld}
 use Rattle.tidying.proofs.TidySheets.{ordered-sheet}
 use Rattle.run.specs.declared.Run.{Run}
 use Rattle.run.specs.View.{holdable, phased, view}
 
--- valid columns that stand for what is neat are holdable
-pub holdable-neat : (h : Held) → LongHeld h → heldOk h ≡ true → Neat (heldIn h) → holdable h ≡ true
-unfolding holdable heldOk heldIn
-holdable-neat h l k n = rw (k, ordered-sheet (h .sheet) (l .sheet) (both (sheetOk (h .sheet)) _ k .0) (n .tidy))
+-- valid columns that stand for what is neat are in order
+order-neat : (h : Held) → LongHeld h → heldOk h ≡ true → Neat (heldIn h) → ordered (h .sheet) ≡ true
+unfolding heldOk heldIn
+order-neat h l k n = ordered-sheet (h .sheet) (l .sheet) (both (sheetOk (h .sheet)) _ k .0) (n .tidy)
+
+-- those of a run that has taken nothing are
+pub fresh-order : (h : Held) → LongHeld h → heldIn h ≡ nothing → heldOk h ≡ true → ordered (h .sheet) ≡ true
+fresh-order h l e k = order-neat h l k (subst (λ m. Neat m) (sym e) neat-nothing)
 
 -- a run that holds nothing is fresh
 pub fresh-run : (r : Run) → LongHeld (r .held) → heldIn (r .held) ≡ nothing → heldOk (r .held) ≡ true → r .phase ≡ 0 → view r ≡ freshRun
-unfolding view phased
-fresh-run r l e k p =
-    let n : Neat (heldIn (r .held)) = subst (λ h. Neat h) (sym e) neat-nothing in
-    rw (holdable-neat (r .held) l k n, p, e)
+unfolding view phased holdable
+fresh-run r l e k p = rw (k, fresh-order (r .held) l e k, p, e)

@@ -1,4 +1,6 @@
 -- `listing_bytes::listing` meets its contract.
+use Rattle.run.proofs.Views.{fresh-order}
+use Rattle.run.proofs.OverHeld.{taken-valid, taken-order}
 use Rattle.listing_bytes.proofs.Chain.{room-short, too-long, untaken, then-resolved}
 use borrow.Author.Needs.{needs}
 use Rattle.listing_bytes.proofs.listing.Statement.{statement}
@@ -16,11 +18,14 @@ same-length c = search needs
 returns-2 : tie.Need-returns-2
 returns-2 c = search too-long
 
-new-requires : tie.Need-new-requires
-new-requires c κs = search needs
+fresh-requires : tie.Need-fresh-requires
+fresh-requires c κs = search needs
+
+held-long-requires : tie.Need-held-long-requires
+held-long-requires c κs = search needs
 
 take-requires : tie.Need-take-requires
-take-requires c κs = search needs
+take-requires c κs = search (needs, fresh-order)
 
 enum-known-a : tie.Need-enum-known-a
 enum-known-a c = search needs
@@ -31,8 +36,8 @@ say-requires-2 c κs = search needs
 enum-told : tie.Need-enum-told
 enum-told c = search needs
 
-resolve-run-requires : tie.Need-resolve-run-requires
-resolve-run-requires c κs = search needs
+list-held-requires : tie.Need-list-held-requires
+list-held-requires c κs = search (needs, taken-valid, taken-order)
 
 same-length-2 : tie.Need-same-length-2
 same-length-2 c = search needs
@@ -54,12 +59,13 @@ listing-spec =
     say-requires
     same-length
     returns-2
-    new-requires
+    fresh-requires
+    held-long-requires
     take-requires
     enum-known-a
     say-requires-2
     enum-told
-    resolve-run-requires
+    list-held-requires
     same-length-2
     returns-3
     same-length-3
