@@ -1,5 +1,6 @@
 -- What the tests of a sheet and of what is held answer, test after test.
 use mathlib.Core.Path.{_≡_, sym, _∙_}
+use mathlib.Core.List.{List}
 use mathlib.Core.Bool.{Bool, true, false, not, _&&_}
 use Prim.Native.Nat.{ℕ, _+_, _-_, _*_, _≤_, _<_}
 use lib.Dec.{ltb, leb}
@@ -16,8 +17,9 @@ use Rattle.rules.proofs.FileOrder.{numbers-are}
 use Rattle.held.specs.declared.Sheet.{Sheet}
 use Rattle.held.specs.declared.Edges.{Edges}
 use Rattle.held.specs.declared.Held.{Held}
+use Rattle.held.specs.declared.valid.Sizes.{Sizes}
 use Rattle.held.specs.View.{slotsIn}
-use Rattle.held.specs.Valid.{edgesOk, countsOk, below, earlier, recordsOk, sheetOk, heldOk}
+use Rattle.held.specs.Valid.{tableOk, edgesOk, countsOk, below, earlier, recordsOk, sizesOf, columnsOk, sheetOk, heldOk}
 
 -- ── counts ───────────────────────────────────────────────────────────────────────────────────
 
@@ -82,48 +84,68 @@ module _ (s : Sheet) (h : countsOk s ≡ true) where
         numbers = ltb-true (s .start + s .rows .count) end64 (g .1);
       }
 
-  pub few-children : s .unresolved .count ≤ 1024
-  few-children = few .unresolved
-
-  pub few-roots : s .roots .count ≤ 1024
-  few-roots = few .roots
-
 -- ── lists ────────────────────────────────────────────────────────────────────────────────────
 
-module _ (n : ℕ) (e : Edges) where
-  pub many-numbers : 4096 < e .count → false ≡ edgesOk n e
+module _ (n count : ℕ) (offsets : List ℕ) where
+  pub many-numbers : 4096 < count → false ≡ tableOk n count offsets
+  many-numbers h = rw (lt-leb count maxNumbers h)
+
+  pub table-test : {r : Bool} → count ≤ 4096 → r ≡ offsetsForm n count (take (2 * n + 1) offsets) → r ≡ tableOk n count offsets
+  table-test h k = rw (le-leb count maxNumbers h) k
+
+  module _ (h : tableOk n count offsets ≡ true) where
+    numbers-few : count ≤ 4096
+    numbers-few = leb-true count maxNumbers (both (leb count maxNumbers) _ h .0)
+
+    offsets-form : offsetsForm n count (take (2 * n + 1) offsets) ≡ true
+    offsets-form = both (leb count maxNumbers) _ h .1
+
+module _ (n : ℕ) (e : Edges) (h : edgesOk n e ≡ true) where
+  pub few-numbers : e .count ≤ 4096
   unfolding edgesOk
-  many-numbers h = rw (lt-leb (e .count) maxNumbers h)
+  few-numbers = numbers-few n (e .count) (e .offsets) h
 
-  pub table-test : {r : Bool} → e .count ≤ 4096 → r ≡ offsetsForm n (e .count) (take (2 * n + 1) (e .offsets)) → r ≡ edgesOk n e
+  pub in-form : offsetsForm n (e .count) (take (2 * n + 1) (e .offsets)) ≡ true
   unfolding edgesOk
-  table-test h k = rw (le-leb (e .count) maxNumbers h) k
+  in-form = offsets-form n (e .count) (e .offsets) h
 
-  pub slots-test : (first : ℕ) {r : Bool} → r ≡ earlier first 0 (cut (take (2 * n + 1) (e .offsets)) (take (e .count) (e .targets))) → r ≡ earlier first 0 (slotsIn n e)
-  unfolding slotsIn
-  slots-test first k = k
+-- ── columns ──────────────────────────────────────────────────────────────────────────────────
 
-  module _ (h : edgesOk n e ≡ true) where
-    pub few-numbers : e .count ≤ 4096
-    unfolding edgesOk
-    few-numbers = leb-true (e .count) maxNumbers (both (leb (e .count) maxNumbers) _ h .0)
+module _ (z : Sizes) (offsets targets children roots : List ℕ) {a : Bool} (e : a ≡ tableOk (z .rows) (z .numbers) offsets) where
+  pub bad-table : not a ≡ true → false ≡ columnsOk z offsets targets children roots
+  unfolding columnsOk
+  bad-table h = rw (← e, not-true a h)
 
-    pub in-form : offsetsForm n (e .count) (take (2 * n + 1) (e .offsets)) ≡ true
-    unfolding edgesOk
-    in-form = both (leb (e .count) maxNumbers) _ h .1
+  module _ (h : not a ≡ false) where
+    table-kept : tableOk (z .rows) (z .numbers) offsets ≡ true
+    table-kept = sym e ∙ not-false a h
 
--- ── records ──────────────────────────────────────────────────────────────────────────────────
+    pub numbers-there : z .numbers ≤ 4096
+    numbers-there = numbers-few (z .rows) (z .numbers) offsets table-kept
 
-module _ (s : Sheet) {a : Bool} (d : a ≡ all (inFile (s .start) (s .start + s .rows .count)) (take (s .unresolved .count) (s .unresolved .children))) where
-  pub child-outside : not a ≡ true → false ≡ recordsOk s
-  unfolding recordsOk
-  child-outside h = rw (← d, not-true a h)
+    pub table-form : offsetsForm (z .rows) (z .numbers) (take (2 * z .rows + 1) offsets) ≡ true
+    table-form = offsets-form (z .rows) (z .numbers) offsets table-kept
 
-  pub roots-test : {r : Bool} → not a ≡ false → r ≡ all (below (s .rows .count)) (take (s .roots .count) (s .roots .rows)) → r ≡ recordsOk s
-  unfolding recordsOk
-  roots-test h k = rw (← d, not-false a h) k
+    module _ {b : Bool} (f : b ≡ all (inFile (z .start) (z .start + z .rows)) (take (z .unresolved) children)) where
+      pub child-outside : not b ≡ true → false ≡ columnsOk z offsets targets children roots
+      unfolding columnsOk
+      child-outside k = rw (← e, not-false a h, ← f, not-true b k)
+
+      module _ (k : not b ≡ false) {d : Bool} (g : d ≡ all (below (z .rows)) (take (z .roots) roots)) where
+        pub root-outside : not d ≡ true → false ≡ columnsOk z offsets targets children roots
+        unfolding columnsOk
+        root-outside m = rw (← e, not-false a h, ← f, not-false b k, ← g, not-true d m)
+
+        pub parents-test : {q : Bool} → not d ≡ false → q ≡ earlier (z .start) 0 (cut (take (2 * z .rows + 1) offsets) (take (z .numbers) targets))
+            → q ≡ columnsOk z offsets targets children roots
+        unfolding columnsOk
+        parents-test m w = rw (← e, not-false a h, ← f, not-false b k, ← g, not-false d m) w
 
 -- ── a sheet, and what is held ────────────────────────────────────────────────────────────────
+
+-- the tests of a sheet's columns
+abbrev Columns : Sizes → Sheet → Bool
+Columns z s = columnsOk z (s .edges .offsets) (s .edges .targets) (s .unresolved .children) (s .roots .rows)
 
 module _ (s : Sheet) {a : Bool} (d : a ≡ countsOk s) where
   pub bad-counts : not a ≡ true → false ≡ sheetOk s
@@ -131,48 +153,50 @@ module _ (s : Sheet) {a : Bool} (d : a ≡ countsOk s) where
   bad-counts h = rw (← d, not-true a h)
 
   module _ (h : not a ≡ false) where
-    pub counts-kept : countsOk s ≡ true
-    counts-kept = sym d ∙ not-false a h
+    counts-kept : Few s
+    counts-kept = few s (sym d ∙ not-false a h)
 
     pub rows-kept : s .rows .count ≤ 1024
-    rows-kept = few s counts-kept .rows
+    rows-kept = counts-kept .rows
 
     pub numbers-kept : s .start + s .rows .count < end64
-    numbers-kept = few s counts-kept .numbers
+    numbers-kept = counts-kept .numbers
 
-    module _ {b : Bool} (e : b ≡ edgesOk (s .rows .count) (s .edges)) where
-      pub bad-edges : not b ≡ true → false ≡ sheetOk s
-      unfolding sheetOk
-      bad-edges k = rw (← d, not-false a h, ← e, not-true b k)
+    module _ (z : Sizes) (y : z ≡ sizesOf s) where
+      pub rows-sized : z .rows ≤ 1024
+      rows-sized = rw y (counts-kept .rows)
 
-      module _ (k : not b ≡ false) where
-        pub edges-kept : edgesOk (s .rows .count) (s .edges) ≡ true
-        edges-kept = sym e ∙ not-false b k
+      pub children-sized : z .unresolved ≤ 1024
+      children-sized = rw y (counts-kept .unresolved)
 
-        module _ {r : Bool} (f : r ≡ recordsOk s) where
-          pub bad-records : not r ≡ true → false ≡ sheetOk s
-          unfolding sheetOk
-          bad-records g = rw (← d, not-false a h, ← e, not-false b k, ← f, not-true r g)
+      pub roots-sized : z .roots ≤ 1024
+      roots-sized = rw y (counts-kept .roots)
 
-          pub parents-test : {q : Bool} → not r ≡ false → q ≡ earlier (s .start) 0 (slotsIn (s .rows .count) (s .edges)) → q ≡ sheetOk s
-          unfolding sheetOk
-          parents-test g m = rw (← d, not-false a h, ← e, not-false b k, ← f, not-false r g) m
+      pub numbers-sized : z .start + z .rows < end64
+      numbers-sized = rw y (counts-kept .numbers)
 
-module _ (h : Held) {a : Bool} (d : a ≡ sheetOk (h .sheet)) where
-  pub bad-sheet : not a ≡ true → false ≡ heldOk h
+      pub columns-test : {b : Bool} → b ≡ Columns z s → b ≡ sheetOk s
+      unfolding sheetOk edgesOk recordsOk slotsIn columnsOk
+      columns-test e = rw (← d, not-false a h) (rw y at e)
+
+module _ (h : Held) {a : Bool} (d : a ≡ countsOk (h .sheet)) where
+  pub bad-held : not a ≡ true → false ≡ heldOk h
   unfolding heldOk
-  bad-sheet k = rw (← d, not-true a k)
+  bad-held k = rw (← bad-counts (h .sheet) d k)
 
-  module _ (k : not a ≡ false) where
-    pub sheet-rows : h .sheet .rows .count ≤ 1024
-    unfolding sheetOk
-    sheet-rows = few (h .sheet) (both (countsOk (h .sheet)) _ (sym d ∙ not-false a k) .0) .rows
+  module _ (k : not a ≡ false) (z : Sizes) (y : z ≡ sizesOf (h .sheet)) {b : Bool} (e : b ≡ Columns z (h .sheet)) where
+    sheet-is : b ≡ sheetOk (h .sheet)
+    sheet-is = columns-test (h .sheet) d k z y e
 
-    module _ {b : Bool} (e : b ≡ edgesOk (h .sheet .rows .count) (h .reverse)) where
-      pub bad-reverse : not b ≡ true → false ≡ heldOk h
-      unfolding heldOk
-      bad-reverse f = rw (← d, not-false a k, ← e, not-true b f)
+    pub bad-columns : not b ≡ true → false ≡ heldOk h
+    unfolding heldOk
+    bad-columns f = rw (← sheet-is, not-true b f)
 
-      pub inbound-test : {r : Bool} → not b ≡ false → r ≡ edgesOk (h .sheet .rows .count) (h .inbound) → r ≡ heldOk h
-      unfolding heldOk
-      inbound-test f g = rw (← d, not-false a k, ← e, not-false b f) g
+    module _ (f : not b ≡ false) {r : Bool} (g : r ≡ tableOk (h .sheet .rows .count) (h .reverse .count) (h .reverse .offsets)) where
+      pub bad-reverse : not r ≡ true → false ≡ heldOk h
+      unfolding heldOk edgesOk
+      bad-reverse m = rw (← sheet-is, not-false b f, ← g, not-true r m)
+
+      pub inbound-test : {q : Bool} → not r ≡ false → q ≡ tableOk (h .sheet .rows .count) (h .inbound .count) (h .inbound .offsets) → q ≡ heldOk h
+      unfolding heldOk edgesOk
+      inbound-test m w = rw (← sheet-is, not-false b f, ← g, not-false r m) w

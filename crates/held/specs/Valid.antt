@@ -7,16 +7,20 @@ use lib.Dec.{ltb, leb}
 use lib.ListN.{take}
 use Rattle.lists.specs.Lists.{all}
 use Rattle.columns.specs.Limits.{kinds, maxRecords, maxNumbers, maxGroups, maxSubject, end64}
-use Rattle.columns.specs.EdgeSet.{offsetsForm, eventOf}
+use Rattle.columns.specs.EdgeSet.{offsetsForm, cut, eventOf}
 use Rattle.columns.specs.Building.{inFile}
 use Rattle.held.specs.declared.Sheet as sheets
 use Rattle.held.specs.declared.Edges.{Edges}
 use Rattle.held.specs.declared.Held as holds
+use Rattle.held.specs.declared.valid.Sizes.{Sizes}
 use Rattle.held.specs.View.{slotsIn}
 
 -- lists of n rows: no more numbers than there is room for, offsets in form
+abbrev pub tableOk : ℕ → ℕ → List ℕ → Bool
+tableOk n count offsets = leb count maxNumbers && offsetsForm n count (take (kinds * n + 1) offsets)
+
 unfoldable pub edgesOk : ℕ → Edges → Bool
-edgesOk n e = leb (e .count) maxNumbers && offsetsForm n (e .count) (take (kinds * n + 1) (e .offsets))
+edgesOk n e = tableOk n (e .count) (e .offsets)
 
 -- counts within the limits
 unfoldable pub countsOk : sheets.Sheet → Bool
@@ -39,6 +43,16 @@ unfoldable pub recordsOk : sheets.Sheet → Bool
 recordsOk s =
     all (inFile (s .start) (s .start + s .rows .count)) (take (s .unresolved .count) (s .unresolved .children))
     && all (below (s .rows .count)) (take (s .roots .count) (s .roots .rows))
+
+-- the tests of a sheet's columns, by the numbers that they go by
+abbrev pub sizesOf : sheets.Sheet → Sizes
+sizesOf s = record { start = s .start; rows = s .rows .count; numbers = s .edges .count; unresolved = s .unresolved .count; roots = s .roots .count }
+
+unfoldable pub columnsOk : Sizes → List ℕ → List ℕ → List ℕ → List ℕ → Bool
+columnsOk z offsets targets children roots =
+    tableOk (z .rows) (z .numbers) offsets
+    && ((all (inFile (z .start) (z .start + z .rows)) (take (z .unresolved) children) && all (below (z .rows)) (take (z .roots) roots))
+    && earlier (z .start) 0 (cut (take (kinds * z .rows + 1) offsets) (take (z .numbers) targets)))
 
 unfoldable pub sheetOk : sheets.Sheet → Bool
 sheetOk s = countsOk s && (edgesOk (s .rows .count) (s .edges) && (recordsOk s && earlier (s .start) 0 (slotsIn (s .rows .count) (s .edges))))

@@ -1,4 +1,5 @@
-// Whether columns are those of a run: a run is tested before it is used.
+// Whether columns are those of a run: a run is tested before it is used. A function that lends a column of a parameter would copy the parameter whole,
+// so that each column is copied by itself.
 use crate::Edges;
 use crate::Held;
 use crate::Roots;
@@ -9,14 +10,19 @@ use crate::tests::are_in_file;
 use crate::tests::order_ok;
 use crate::tests::table_ok;
 ghost use mathlib.Core.Path.{_≡_};
-ghost use mathlib.Core.Bool.{true};
 ghost use Prim.Native.Nat.{_+_, _≤_, _<_};
-ghost use lib.ListN.{take};
-ghost use Rattle.lists.specs.Lists.{all};
+ghost use lib.ListN.{length};
 ghost use Rattle.columns.specs.Limits.{end64};
-ghost use Rattle.columns.specs.Building.{inFile};
-ghost use Rattle.held.specs.View.{slotsIn};
-ghost use Rattle.held.specs.Valid.{edgesOk, countsOk, below, recordsOk, earlier, sheetOk, heldOk};
+ghost use Rattle.held.specs.Valid.{tableOk, countsOk, sizesOf, columnsOk, sheetOk, heldOk};
+
+// The numbers that the tests of a sheet's columns go by.
+struct Sizes {
+    start: u64,
+    rows: usize,
+    numbers: usize,
+    unresolved: usize,
+    roots: usize,
+}
 
 fn counts_ok(s: Sheet) -> bool
     ensures { λ r. ⌜ r ≡ countsOk s ⌝ }
@@ -42,51 +48,59 @@ fn counts_ok(s: Sheet) -> bool
     s.start <= 18446744073709551615 - (s.rows.count as u64)
 }
 
+// How long the columns are that are tested: these functions do nothing.
+fn edges_long(e: Edges)
+    ensures { λ _. ⌜ (length (e .offsets) ≡ 2049) × (length (e .targets) ≡ 4096) ⌝ }
+{}
+
+fn children_long(u: Unresolved)
+    ensures { λ _. ⌜ length (u .children) ≡ 1024 ⌝ }
+{}
+
+fn roots_long(r: Roots)
+    ensures { λ _. ⌜ length (r .rows) ≡ 1024 ⌝ }
+{}
+
+fn sizes_of(s: Sheet) -> Sizes
+    ensures { λ r. ⌜ r ≡ sizesOf s ⌝ }
+{
+    Sizes {
+        start: s.start,
+        rows: s.rows.count,
+        numbers: s.edges.count,
+        unresolved: s.unresolved.count,
+        roots: s.roots.count,
+    }
+}
+
 // Whether the lists of n rows are in form.
-fn edges_ok(n: usize, e: Edges) -> bool
-    requires { ⌜ n ≤ 1024 ⌝ }
-    ensures { λ r. ⌜ r ≡ edgesOk n e ⌝ }
+fn edges_ok(n: usize, count: usize, offsets: &[u64]) -> bool
+    requires { ⌜ (n ≤ 1024) × (length (now offsets) ≡ 2049) ⌝ }
+    ensures { λ r. ⌜ r ≡ tableOk n count (now (offsets .entry)) ⌝ }
 {
-    if 4096 < e.count {
+    if 4096 < count {
         return false;
     }
-    table_ok(n, e.count, &e.offsets)
+    table_ok(n, count, offsets)
 }
 
-// Whether the children of unresolved records are rows that are there.
-fn children_ok(first: u64, rows: usize, u: Unresolved) -> bool
-    requires { ⌜ u .count ≤ 1024 ⌝ }
-    ensures { λ r. ⌜ r ≡ all (inFile first (first + rows)) (take (u .count) (u .children)) ⌝ }
+// Whether lists are in form, records belong to rows that are there, and every number is below its event.
+fn columns_ok(z: Sizes, offsets: &[u64], targets: &[u64], children: &[u64], roots: &[u64]) -> bool
+    requires { ⌜ (z .rows ≤ 1024) × ((z .unresolved ≤ 1024) × ((z .roots ≤ 1024) × (z .start + z .rows < end64))) ⌝ }
+    requires { ⌜ (length (now offsets) ≡ 2049) × (length (now targets) ≡ 4096) ⌝ }
+    requires { ⌜ (length (now children) ≡ 1024) × (length (now roots) ≡ 1024) ⌝ }
+    ensures { λ r. ⌜ r ≡ columnsOk z (now (offsets .entry)) (now (targets .entry)) (now (children .entry)) (now (roots .entry)) ⌝ }
 {
-    are_in_file(first, rows, &u.children, u.count)
-}
-
-// Whether the rows of roots are there.
-fn roots_ok(rows: usize, t: Roots) -> bool
-    requires { ⌜ t .count ≤ 1024 ⌝ }
-    ensures { λ r. ⌜ r ≡ all (below rows) (take (t .count) (t .rows)) ⌝ }
-{
-    are_below(rows as u64, &t.rows, 0, t.count)
-}
-
-// Whether every number is below its event.
-fn parents_ok(first: u64, rows: usize, e: Edges) -> bool
-    requires { ⌜ (rows ≤ 1024) × ((first + rows < end64) × (edgesOk rows e ≡ true)) ⌝ }
-    ensures { λ r. ⌜ r ≡ earlier first 0 (slotsIn rows e) ⌝ }
-{
-    let t = e.targets;
-    order_ok(first, rows, e.count, &e.offsets, &t)
-}
-
-// Whether records belong to rows that are there.
-fn records_ok(s: Sheet) -> bool
-    requires { ⌜ countsOk s ≡ true ⌝ }
-    ensures { λ r. ⌜ r ≡ recordsOk s ⌝ }
-{
-    if !children_ok(s.start, s.rows.count, s.unresolved) {
+    if !edges_ok(z.rows, z.numbers, offsets) {
         return false;
     }
-    roots_ok(s.rows.count, s.roots)
+    if !are_in_file(z.start, z.rows, children, z.unresolved) {
+        return false;
+    }
+    if !are_below(z.rows as u64, roots, 0, z.roots) {
+        return false;
+    }
+    order_ok(z.start, z.rows, z.numbers, offsets, targets)
 }
 
 // Whether a sheet is one of a run.
@@ -96,25 +110,40 @@ pub fn sheet_ok(s: Sheet) -> bool
     if !counts_ok(s) {
         return false;
     }
-    if !edges_ok(s.rows.count, s.edges) {
-        return false;
-    }
-    if !records_ok(s) {
-        return false;
-    }
-    parents_ok(s.start, s.rows.count, s.edges)
+    edges_long(s.edges);
+    children_long(s.unresolved);
+    roots_long(s.roots);
+    let offsets = s.edges.offsets;
+    let targets = s.edges.targets;
+    let children = s.unresolved.children;
+    let roots = s.roots.rows;
+    columns_ok(sizes_of(s), &offsets, &targets, &children, &roots)
 }
 
 // Whether what is held is what a run holds.
 pub fn ok(h: Held) -> bool
     ensures { λ r. ⌜ r ≡ heldOk h ⌝ }
 {
-    if !sheet_ok(h.sheet) {
+    if !counts_ok(h.sheet) {
+        return false;
+    }
+    edges_long(h.sheet.edges);
+    children_long(h.sheet.unresolved);
+    roots_long(h.sheet.roots);
+    let offsets = h.sheet.edges.offsets;
+    let targets = h.sheet.edges.targets;
+    let children = h.sheet.unresolved.children;
+    let roots = h.sheet.roots.rows;
+    if !columns_ok(sizes_of(h.sheet), &offsets, &targets, &children, &roots) {
         return false;
     }
     let n = h.sheet.rows.count;
-    if !edges_ok(n, h.reverse) {
+    edges_long(h.reverse);
+    let reverse = h.reverse.offsets;
+    if !edges_ok(n, h.reverse.count, &reverse) {
         return false;
     }
-    edges_ok(n, h.inbound)
+    edges_long(h.inbound);
+    let inbound = h.inbound.offsets;
+    edges_ok(n, h.inbound.count, &inbound)
 }

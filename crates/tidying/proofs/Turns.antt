@@ -18,7 +18,9 @@ use Rattle.rules.proofs.ParentTurns.{slice-none}
 use Rattle.held.specs.declared.Sheet.{Sheet}
 use Rattle.held.specs.Valid.{below, countsOk}
 use Rattle.held.proofs.ColumnTurns.{not-below, below-on}
-use Rattle.tidying.specs.Ordered.{groupsOrdered, ordered, filled}
+use Rattle.tidying.specs.declared.Counts.{Counts}
+use Rattle.tidying.specs.Long.{LongSheet}
+use Rattle.tidying.specs.Ordered.{groupsOrdered, countsIn, columnsOrdered, ordered, filled}
 
 module _ {t : Bool} (low i n : ℕ) (l : List ℕ) (e : t ≡ levelAbove low (slice i n l)) where
   pub level-done : n ≤ i → true ≡ t
@@ -116,24 +118,59 @@ module _ (s : Sheet) (h : countsOk s ≡ true) where
   pub links-few : s .links .count ≤ 1024
   links-few = few .3
 
-module _ (s : Sheet) {a : Bool} (e : a ≡ groupsOrdered (s .groups .count) (s .rows .count) (s .rows .groups)) where
-  pub rows-unordered : not a ≡ true → false ≡ ordered s
-  unfolding ordered
+  module _ (z : Counts) (y : z ≡ countsIn s) where
+    pub rows-counted : z .rows ≤ 1024
+    rows-counted = rw y (few .0)
+
+    pub children-counted : z .unresolved ≤ 1024
+    children-counted = rw y (few .1)
+
+    pub roots-counted : z .roots ≤ 1024
+    roots-counted = rw y (few .2)
+
+    pub links-counted : z .links ≤ 1024
+    links-counted = rw y (few .3)
+
+module _ (s : Sheet) (l : LongSheet s) where
+  pub groups-long : length (s .rows .groups) ≡ 1024
+  groups-long = l .rows .groups
+
+  pub links-long : length (s .links .groups) ≡ 1024
+  links-long = l .links .groups
+
+  pub roots-long : length (s .roots .rows) ≡ 1024
+  roots-long = l .roots .rows
+
+  pub children-long : length (s .unresolved .children) ≡ 1024
+  children-long = l .unresolved .children
+
+  -- a count within the limit, over a column as long as that
+  pub rows-within : countsOk s ≡ true → s .rows .count ≤ length (s .rows .groups)
+  rows-within h = rw groups-long (rows-few s h)
+
+module _ (z : Counts) (rows links roots children : List ℕ) {a : Bool} (e : a ≡ groupsOrdered (z .groups) (z .rows) rows) where
+  pub rows-unordered : not a ≡ true → false ≡ columnsOrdered z rows links roots children
+  unfolding columnsOrdered
   rows-unordered h = rw (← e, not-true a h)
 
-  module _ (h : not a ≡ false) {b : Bool} (f : b ≡ groupsOrdered (s .groups .count) (s .links .count) (s .links .groups)) where
-    pub links-unordered : not b ≡ true → false ≡ ordered s
-    unfolding ordered
+  module _ (h : not a ≡ false) {b : Bool} (f : b ≡ groupsOrdered (z .groups) (z .links) links) where
+    pub links-unordered : not b ≡ true → false ≡ columnsOrdered z rows links roots children
+    unfolding columnsOrdered
     links-unordered k = rw (← e, not-false a h, ← f, not-true b k)
 
-    module _ (k : not b ≡ false) {d : Bool} (g : d ≡ rising (take (s .roots .count) (s .roots .rows))) where
-      pub roots-unordered : not d ≡ true → false ≡ ordered s
-      unfolding ordered
+    module _ (k : not b ≡ false) {d : Bool} (g : d ≡ rising (take (z .roots) roots)) where
+      pub roots-unordered : not d ≡ true → false ≡ columnsOrdered z rows links roots children
+      unfolding columnsOrdered
       roots-unordered m = rw (← e, not-false a h, ← f, not-false b k, ← g, not-true d m)
 
-      pub all-ordered : not d ≡ false → {r : Bool} → r ≡ notFalling (take (s .unresolved .count) (s .unresolved .children)) → r ≡ ordered s
-      unfolding ordered
+      pub all-ordered : not d ≡ false → {r : Bool} → r ≡ notFalling (take (z .unresolved) children) → r ≡ columnsOrdered z rows links roots children
+      unfolding columnsOrdered
       all-ordered m q = rw (← e, not-false a h, ← f, not-false b k, ← g, not-false d m) q
+
+pub ordered-by : (s : Sheet) (z : Counts) → z ≡ countsIn s → {r : Bool}
+    → r ≡ columnsOrdered z (s .rows .groups) (s .links .groups) (s .roots .rows) (s .unresolved .children) → r ≡ ordered s
+unfolding ordered columnsOrdered
+ordered-by s z y e = rw y at e
 
 pub filled-is : (s : Sheet) {r : Bool} → r ≡ reaches (s .groups .count) 0 (take (s .rows .count) (s .rows .groups)) → r ≡ filled s
 unfolding filled

@@ -9,10 +9,20 @@ use Rattle.lists.specs.Order.{rising, notFalling}
 use Rattle.cleaning.specs.Sections.{reaches}
 use Rattle.held.specs.declared.Sheet.{Sheet}
 use Rattle.held.specs.Valid.{below}
+use Rattle.tidying.specs.declared.Counts.{Counts}
 
 -- groups of which there are n: none falls, each is there
 unfoldable pub groupsOrdered : ℕ → ℕ → List ℕ → Bool
 groupsOrdered n count groups = notFalling (take count groups) && all (below n) (take count groups)
+
+-- the columns of a sheet, by the numbers that their tests go by
+abbrev pub countsIn : Sheet → Counts
+countsIn s = record { groups = s .groups .count; rows = s .rows .count; links = s .links .count; roots = s .roots .count; unresolved = s .unresolved .count }
+
+unfoldable pub columnsOrdered : Counts → List ℕ → List ℕ → List ℕ → List ℕ → Bool
+columnsOrdered z rows links roots children =
+    groupsOrdered (z .groups) (z .rows) rows
+    && (groupsOrdered (z .groups) (z .links) links && (rising (take (z .roots) roots) && notFalling (take (z .unresolved) children)))
 
 unfoldable pub ordered : Sheet → Bool
 ordered s =

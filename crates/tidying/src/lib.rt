@@ -1,11 +1,8 @@
 // Whether a sheet is in order: groups, roots and records that stand one after the other, every group with a row.
 pub mod long;
 
-use held::Links;
-use held::Roots;
-use held::Rows;
 use held::Sheet;
-use held::Unresolved;
+use long::sheet_long;
 ghost use mathlib.Core.Path.{_≡_};
 ghost use mathlib.Core.Bool.{true};
 ghost use Prim.Native.Nat.{_≤_};
@@ -15,7 +12,7 @@ ghost use Rattle.lists.specs.Lists.{all};
 ghost use Rattle.lists.specs.Order.{rising, risesAbove, notFalling};
 ghost use Rattle.cleaning.specs.Sections.{reaches};
 ghost use Rattle.held.specs.Valid.{below, countsOk};
-ghost use Rattle.tidying.specs.Ordered.{groupsOrdered, ordered, filled};
+ghost use Rattle.tidying.specs.Ordered.{groupsOrdered, countsIn, columnsOrdered, ordered, filled};
 
 fn number(g: u8) -> usize
     ensures { λ r. ⌜ r ≡ g ⌝ }
@@ -132,61 +129,57 @@ fn reaches_all(groups: &[u8], n: usize, count: usize) -> bool
     seen == count
 }
 
-// The groups of rows.
-fn rows_ordered(r: Rows, count: usize) -> bool
-    requires { ⌜ r .count ≤ 1024 ⌝ }
-    ensures { λ b. ⌜ b ≡ groupsOrdered count (r .count) (r .groups) ⌝ }
-{
-    groups_ordered(&r.groups, r.count, count)
+// The numbers that the tests of a sheet's columns go by.
+struct Counts {
+    groups: usize,
+    rows: usize,
+    links: usize,
+    roots: usize,
+    unresolved: usize,
 }
 
-// The groups of links.
-fn links_ordered(l: Links, count: usize) -> bool
-    requires { ⌜ l .count ≤ 1024 ⌝ }
-    ensures { λ b. ⌜ b ≡ groupsOrdered count (l .count) (l .groups) ⌝ }
+fn counts_of(s: Sheet) -> Counts
+    ensures { λ r. ⌜ r ≡ countsIn s ⌝ }
 {
-    groups_ordered(&l.groups, l.count, count)
+    Counts {
+        groups: s.groups.count,
+        rows: s.rows.count,
+        links: s.links.count,
+        roots: s.roots.count,
+        unresolved: s.unresolved.count,
+    }
 }
 
-// The rows of roots.
-fn roots_rise(r: Roots) -> bool
-    requires { ⌜ r .count ≤ 1024 ⌝ }
-    ensures { λ b. ⌜ b ≡ rising (take (r .count) (r .rows)) ⌝ }
+// Whether the groups of rows and of links, the rows of roots and the children of unresolved records are in order.
+fn columns_ordered(z: Counts, rows: &[u8], links: &[u8], roots: &[u64], children: &[u64]) -> bool
+    requires { ⌜ (z .rows ≤ 1024) × ((z .links ≤ 1024) × ((z .roots ≤ 1024) × (z .unresolved ≤ 1024))) ⌝ }
+    requires { ⌜ (length (now rows) ≡ 1024) × (length (now links) ≡ 1024) ⌝ }
+    requires { ⌜ (length (now roots) ≡ 1024) × (length (now children) ≡ 1024) ⌝ }
+    ensures { λ r. ⌜ r ≡ columnsOrdered z (now (rows .entry)) (now (links .entry)) (now (roots .entry)) (now (children .entry)) ⌝ }
 {
-    rises(&r.rows, r.count)
+    if !groups_ordered(rows, z.rows, z.groups) {
+        return false;
+    }
+    if !groups_ordered(links, z.links, z.groups) {
+        return false;
+    }
+    if !rises(roots, z.roots) {
+        return false;
+    }
+    is_level(children, z.unresolved)
 }
 
-// The children of unresolved records.
-fn children_level(u: Unresolved) -> bool
-    requires { ⌜ u .count ≤ 1024 ⌝ }
-    ensures { λ b. ⌜ b ≡ notFalling (take (u .count) (u .children)) ⌝ }
-{
-    is_level(&u.children, u.count)
-}
-
-// Whether a sheet's columns are in order.
+// Whether a sheet's columns are in order. Each column is copied by itself: to lend one of a parameter would copy the parameter whole.
 pub fn is_ordered(s: Sheet) -> bool
     requires { ⌜ countsOk s ≡ true ⌝ }
     ensures { λ r. ⌜ r ≡ ordered s ⌝ }
 {
-    if !rows_ordered(s.rows, s.groups.count) {
-        return false;
-    }
-    if !links_ordered(s.links, s.groups.count) {
-        return false;
-    }
-    if !roots_rise(s.roots) {
-        return false;
-    }
-    children_level(s.unresolved)
-}
-
-// Whether every group has a row.
-fn rows_reach(r: Rows, count: usize) -> bool
-    requires { ⌜ r .count ≤ 1024 ⌝ }
-    ensures { λ b. ⌜ b ≡ reaches count 0 (take (r .count) (r .groups)) ⌝ }
-{
-    reaches_all(&r.groups, r.count, count)
+    sheet_long(s);
+    let rows = s.rows.groups;
+    let links = s.links.groups;
+    let roots = s.roots.rows;
+    let children = s.unresolved.children;
+    columns_ordered(counts_of(s), &rows, &links, &roots, &children)
 }
 
 // Whether every group of a sheet has a row.
@@ -194,5 +187,7 @@ pub fn is_filled(s: Sheet) -> bool
     requires { ⌜ countsOk s ≡ true ⌝ }
     ensures { λ r. ⌜ r ≡ filled s ⌝ }
 {
-    rows_reach(s.rows, s.groups.count)
+    sheet_long(s);
+    let rows = s.rows.groups;
+    reaches_all(&rows, s.rows.count, s.groups.count)
 }

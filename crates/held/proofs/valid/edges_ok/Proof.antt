@@ -3,9 +3,6 @@ use Rattle.held.proofs.Verdicts.{many-numbers, table-test}
 use borrow.Author.Needs.{needs}
 use Rattle.held.proofs.valid.edges_ok.Statement.{statement}
 use Rattle.held.proofs.valid.edges_ok.Tie as tie
-use Rattle.held.proofs.valid.edges_ok.Reads as reads
-use Rattle.held.proofs.valid.edges_ok.Lts as lts
-use Rattle.held.proofs.tests.table_ok.Reads as table-ok-reads
 
 returns : tie.Need-returns
 returns c = search many-numbers

@@ -1,14 +1,8 @@
 -- `held::valid::sheet_ok` meets its contract.
-use Rattle.held.proofs.Verdicts.{bad-counts, counts-kept, rows-kept, numbers-kept, bad-edges, edges-kept, bad-records, parents-test}
+use Rattle.held.proofs.Verdicts.{bad-counts, rows-sized, children-sized, roots-sized, numbers-sized, columns-test}
 use borrow.Author.Needs.{needs}
 use Rattle.held.proofs.valid.sheet_ok.Statement.{statement}
 use Rattle.held.proofs.valid.sheet_ok.Tie as tie
-use Rattle.held.proofs.valid.sheet_ok.Reads as reads
-use Rattle.held.proofs.valid.sheet_ok.Lts as lts
-use Rattle.held.proofs.valid.counts_ok.Reads as counts-ok-reads
-use Rattle.held.proofs.valid.edges_ok.Reads as edges-ok-reads
-use Rattle.held.proofs.valid.parents_ok.Reads as parents-ok-reads
-use Rattle.held.proofs.valid.records_ok.Reads as records-ok-reads
 
 counts-ok-requires : tie.Need-counts-ok-requires
 counts-ok-requires c κs = search needs
@@ -16,23 +10,35 @@ counts-ok-requires c κs = search needs
 returns : tie.Need-returns
 returns c = search bad-counts
 
-edges-ok-requires : tie.Need-edges-ok-requires
-edges-ok-requires c κs = search rows-kept
+edges-long-requires : tie.Need-edges-long-requires
+edges-long-requires c κs = search needs
+
+children-long-requires : tie.Need-children-long-requires
+children-long-requires c κs = search needs
+
+roots-long-requires : tie.Need-roots-long-requires
+roots-long-requires c κs = search needs
+
+sizes-of-requires : tie.Need-sizes-of-requires
+sizes-of-requires c κs = search needs
+
+slice-aggregate-columns-ok : tie.Need-slice-aggregate-columns-ok
+slice-aggregate-columns-ok c = search needs
+
+slice-aggregate-columns-ok-2 : tie.Need-slice-aggregate-columns-ok-2
+slice-aggregate-columns-ok-2 c = search needs
+
+slice-aggregate-columns-ok-3 : tie.Need-slice-aggregate-columns-ok-3
+slice-aggregate-columns-ok-3 c = search needs
+
+slice-aggregate-columns-ok-4 : tie.Need-slice-aggregate-columns-ok-4
+slice-aggregate-columns-ok-4 c = search needs
+
+columns-ok-requires : tie.Need-columns-ok-requires
+columns-ok-requires c κs = search (needs, rows-sized, children-sized, roots-sized, numbers-sized)
 
 returns-2 : tie.Need-returns-2
-returns-2 c = search bad-edges
-
-records-ok-requires : tie.Need-records-ok-requires
-records-ok-requires c κs = search counts-kept
-
-returns-3 : tie.Need-returns-3
-returns-3 c = search bad-records
-
-parents-ok-requires : tie.Need-parents-ok-requires
-parents-ok-requires c κs = search (rows-kept, numbers-kept, edges-kept)
-
-returns-4 : tie.Need-returns-4
-returns-4 c = search parents-test
+returns-2 c = search columns-test
 
 pub sheet-ok-spec : {M : Type 1} → statement M
 sheet-ok-spec =
@@ -40,9 +46,13 @@ sheet-ok-spec =
     (tie.spec
     counts-ok-requires
     returns
-    edges-ok-requires
-    returns-2
-    records-ok-requires
-    returns-3
-    parents-ok-requires
-    returns-4)
+    edges-long-requires
+    children-long-requires
+    roots-long-requires
+    sizes-of-requires
+    slice-aggregate-columns-ok
+    slice-aggregate-columns-ok-2
+    slice-aggregate-columns-ok-3
+    slice-aggregate-columns-ok-4
+    columns-ok-requires
+    returns-2)
