@@ -16,7 +16,7 @@ use Rattle.held.specs.declared.Held.{Held}
 use Rattle.held.specs.Valid.{countsOk, sheetOk, heldOk}
 use Rattle.tidying.specs.Ordered.{ordered, filled}
 use Rattle.run.specs.declared.Run.{Run}
-use Rattle.run.specs.View.{holdable, writable, phased, view, isTaking, isResolved}
+use Rattle.run.specs.View.{holdable, writable, phased, view, takingBy, resolvedBy, isTaking, isResolved}
 
 module _ (h : Held) {a : Bool} (e : a ≡ heldOk h) where
   pub not-held : not a ≡ true → false ≡ holdable h
@@ -54,27 +54,32 @@ module _ (s : Sheet) {a : Bool} (e : a ≡ sheetOk s) where
   pub sheet-valid : not a ≡ false → sheetOk s ≡ true
   sheet-valid k = sym e ∙ not-false a k
 
-module _ (r : Run) where
-  pub other-phase : (r .phase ≡ 0 → ⊥) → false ≡ isTaking r
-  unfolding isTaking
-  other-phase h = rw (ne-eqb (r .phase) 0 h)
+module _ (phase : ℕ) (a : Bool) where
+  pub other-phase : (phase ≡ 0 → ⊥) → false ≡ takingBy phase a
+  other-phase h = rw (ne-eqb phase 0 h)
 
-  pub taking-if : r .phase ≡ 0 → {b : Bool} → b ≡ holdable (r .held) → b ≡ isTaking r
-  unfolding isTaking
-  taking-if h e = rw (eq-eqb (r .phase) 0 h) e
+  pub taking-if : phase ≡ 0 → a ≡ takingBy phase a
+  taking-if h = rw (eq-eqb phase 0 h)
 
-  pub not-resolved : (r .phase ≡ 1 → ⊥) → false ≡ isResolved r
+  module _ (b : Bool) where
+    pub not-resolved : (phase ≡ 1 → ⊥) → false ≡ resolvedBy phase a b
+    not-resolved h = rw (ne-eqb phase 1 h)
+
+    pub not-holdable : phase ≡ 1 → not a ≡ true → false ≡ resolvedBy phase a b
+    not-holdable h k = rw (eq-eqb phase 1 h, not-true a k)
+
+    pub resolved-if : phase ≡ 1 → not a ≡ false → b ≡ resolvedBy phase a b
+    resolved-if h k = rw (eq-eqb phase 1 h, not-false a k)
+
+-- a run, out of the tests of its parts
+module _ (r : Run) {a b : Bool} (e : a ≡ holdable (r .held)) where
+  pub taking-is : b ≡ takingBy (r .phase) a → b ≡ isTaking r
+  unfolding isTaking
+  taking-is f = rw (← e) f
+
+  pub resolved-is : {w : Bool} → w ≡ writable (r .sheet) → b ≡ resolvedBy (r .phase) a w → b ≡ isResolved r
   unfolding isResolved
-  not-resolved h = rw (ne-eqb (r .phase) 1 h)
-
-  module _ (h : r .phase ≡ 1) {a : Bool} (e : a ≡ holdable (r .held)) where
-    pub not-holdable : not a ≡ true → false ≡ isResolved r
-    unfolding isResolved
-    not-holdable k = rw (eq-eqb (r .phase) 1 h, ← e, not-true a k)
-
-    pub resolved-if : not a ≡ false → {b : Bool} → b ≡ writable (r .sheet) → b ≡ isResolved r
-    unfolding isResolved
-    resolved-if k f = rw (eq-eqb (r .phase) 1 h, ← e, not-false a k) f
+  resolved-is g f = rw (← e, ← g) f
 
 -- ── steps out of turn ────────────────────────────────────────────────────────────────────────
 

@@ -28,8 +28,14 @@ unfoldable pub view : Run → RunState
 view r = cond (holdable (r .held)) (phased (r .phase) r) spoiled
 
 -- a run that takes sources, and one that is resolved
+abbrev pub takingBy : ℕ → Bool → Bool
+takingBy phase h = eqb phase 0 && h
+
+abbrev pub resolvedBy : ℕ → Bool → Bool → Bool
+resolvedBy phase h w = eqb phase 1 && (h && w)
+
 unfoldable pub isTaking : Run → Bool
-isTaking r = eqb (r .phase) 0 && holdable (r .held)
+isTaking r = takingBy (r .phase) (holdable (r .held))
 
 unfoldable pub isResolved : Run → Bool
-isResolved r = eqb (r .phase) 1 && (holdable (r .held) && writable (r .sheet))
+isResolved r = resolvedBy (r .phase) (holdable (r .held)) (writable (r .sheet))

@@ -65,7 +65,8 @@ pub fn new() -> Run
 pub fn take(run: Run, bytes: &[u8]) -> Stepped
     ensures { λ r. ⌜ Steps (takes (now (bytes .entry))) run (r .run) (r .reply) ⌝ }
 {
-    if !turns::is_taking(run) {
+    let holds = turns::is_holdable(run.held);
+    if !turns::is_taking(run.phase, holds) {
         return Stepped {
             run: run,
             reply: Reply::Refused(Refusal::OutOfTurn),
@@ -97,7 +98,8 @@ pub fn take(run: Run, bytes: &[u8]) -> Stepped
 pub fn resolve(run: Run) -> Stepped
     ensures { λ r. ⌜ Steps resolves run (r .run) (r .reply) ⌝ }
 {
-    if !turns::is_taking(run) {
+    let holds = turns::is_holdable(run.held);
+    if !turns::is_taking(run.phase, holds) {
         return Stepped {
             run: run,
             reply: Reply::Refused(Refusal::OutOfTurn),
@@ -129,7 +131,8 @@ pub fn resolve(run: Run) -> Stepped
 pub fn write(run: Run, out: &mut [u8]) -> Writing
     ensures { λ r. ⌜ Writes run (now (out .entry)) (now (out .exit)) r ⌝ }
 {
-    if !turns::is_resolved(run) {
+    let holds = turns::is_holdable(run.held);
+    if !turns::is_resolved(run.phase, holds, turns::is_writable(run.sheet)) {
         return Writing::Refused(Refusal::OutOfTurn);
     }
     writing::write_sheet(run.sheet, out)
@@ -139,7 +142,8 @@ pub fn write(run: Run, out: &mut [u8]) -> Writing
 pub fn new_number(run: Run, old: u64) -> Number
     ensures { λ r. ⌜ Maps run old r ⌝ }
 {
-    if !turns::is_resolved(run) {
+    let holds = turns::is_holdable(run.held);
+    if !turns::is_resolved(run.phase, holds, turns::is_writable(run.sheet)) {
         return Number::Refused(Refusal::OutOfTurn);
     }
     let m = resolution::asked::new_number(run.held, old);
@@ -153,7 +157,8 @@ pub fn new_number(run: Run, old: u64) -> Number
 pub fn reparented(run: Run) -> Count
     ensures { λ r. ⌜ Counts run r ⌝ }
 {
-    if !turns::is_resolved(run) {
+    let holds = turns::is_holdable(run.held);
+    if !turns::is_resolved(run.phase, holds, turns::is_writable(run.sheet)) {
         return Count::Refused(Refusal::OutOfTurn);
     }
     Count::Of(resolving::asked::reparented(run.held))

@@ -9,7 +9,8 @@ ghost use Rattle.run.specs.Listed.{ListsOf};
 pub fn list(run: Run, out: &mut [u8]) -> Writing
     ensures { λ r. ⌜ ListsOf run (now (out .entry)) (now (out .exit)) r ⌝ }
 {
-    if !turns::is_resolved(run) {
+    let holds = turns::is_holdable(run.held);
+    if !turns::is_resolved(run.phase, holds, turns::is_writable(run.sheet)) {
         return Writing::Refused(Refusal::OutOfTurn);
     }
     listings::list(run.held, run.sheet, out)

@@ -1,13 +1,13 @@
-// Whether a run is in turn for a step.
-use crate::Run;
+// Whether a run is in turn for a step. A run is tested part by part, so that it is not copied for its tests.
 use held::Held;
 use held::Sheet;
 ghost use mathlib.Core.Path.{_≡_};
 ghost use mathlib.Core.Bool.{true};
 ghost use Rattle.held.specs.Valid.{sheetOk};
-ghost use Rattle.run.specs.View.{holdable, writable, isTaking, isResolved};
+ghost use Rattle.run.specs.View.{holdable, writable, takingBy, resolvedBy};
 
-fn is_holdable(h: Held) -> bool
+// Whether columns are those that a run holds of its sources.
+pub(crate) fn is_holdable(h: Held) -> bool
     ensures { λ r. ⌜ r ≡ holdable h ⌝ }
 {
     if !held::valid::ok(h) {
@@ -27,7 +27,8 @@ fn is_in_order(s: Sheet) -> bool
     tidying::is_filled(s)
 }
 
-fn is_writable(s: Sheet) -> bool
+// Whether columns are those of survivors.
+pub(crate) fn is_writable(s: Sheet) -> bool
     ensures { λ r. ⌜ r ≡ writable s ⌝ }
 {
     if !held::valid::sheet_ok(s) {
@@ -36,25 +37,25 @@ fn is_writable(s: Sheet) -> bool
     is_in_order(s)
 }
 
-// Whether a run takes sources.
-pub(crate) fn is_taking(run: Run) -> bool
-    ensures { λ r. ⌜ r ≡ isTaking run ⌝ }
+// Whether a run of that phase takes sources.
+pub(crate) fn is_taking(phase: u64, holds: bool) -> bool
+    ensures { λ r. ⌜ r ≡ takingBy phase holds ⌝ }
 {
-    if run.phase != 0 {
+    if phase != 0 {
         return false;
     }
-    is_holdable(run.held)
+    holds
 }
 
-// Whether a run is resolved.
-pub(crate) fn is_resolved(run: Run) -> bool
-    ensures { λ r. ⌜ r ≡ isResolved run ⌝ }
+// Whether a run of that phase is resolved.
+pub(crate) fn is_resolved(phase: u64, holds: bool, writes: bool) -> bool
+    ensures { λ r. ⌜ r ≡ resolvedBy phase holds writes ⌝ }
 {
-    if run.phase != 1 {
+    if phase != 1 {
         return false;
     }
-    if !is_holdable(run.held) {
+    if !holds {
         return false;
     }
-    is_writable(run.sheet)
+    writes
 }

@@ -1,17 +1,24 @@
 -- `run::new_number` meets its contract.
+use Rattle.run.proofs.InTurn.{resolved-is}
 use Rattle.run.proofs.Calls.{map-early, held-valid, held-order, map-to, map-nothing}
 use borrow.Author.Needs.{needs}
 use Rattle.run.proofs.new_number.Statement.{statement}
 use Rattle.run.proofs.new_number.Tie as tie
 
+is-holdable-requires : tie.Need-is-holdable-requires
+is-holdable-requires c κs = search needs
+
+is-writable-requires : tie.Need-is-writable-requires
+is-writable-requires c κs = search needs
+
 is-resolved-requires : tie.Need-is-resolved-requires
 is-resolved-requires c κs = search needs
 
 returns : tie.Need-returns
-returns c = search (needs, map-early)
+returns c = search (needs, resolved-is, map-early)
 
 new-number-requires : tie.Need-new-number-requires
-new-number-requires c κs = search (needs, held-valid, held-order)
+new-number-requires c κs = search (needs, resolved-is, held-valid, held-order)
 
 enum-known-m : tie.Need-enum-known-m
 enum-known-m c = search needs
@@ -20,15 +27,17 @@ enum-told : tie.Need-enum-told
 enum-told c = search needs
 
 returns-2 : tie.Need-returns-2
-returns-2 c = search (needs, map-to)
+returns-2 c = search (needs, resolved-is, map-to)
 
 returns-3 : tie.Need-returns-3
-returns-3 c = search (needs, map-nothing)
+returns-3 c = search (needs, resolved-is, map-nothing)
 
 pub new-number-spec : {M : Type 1} → statement M
 new-number-spec =
     tie.close
     (tie.spec
+    is-holdable-requires
+    is-writable-requires
     is-resolved-requires
     returns
     new-number-requires

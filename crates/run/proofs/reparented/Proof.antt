@@ -1,20 +1,35 @@
 -- `run::reparented` meets its contract.
+use Rattle.run.proofs.InTurn.{resolved-is}
 use Rattle.run.proofs.Calls.{count-early, held-valid, held-order, count-now}
 use borrow.Author.Needs.{needs}
 use Rattle.run.proofs.reparented.Statement.{statement}
 use Rattle.run.proofs.reparented.Tie as tie
 
+is-holdable-requires : tie.Need-is-holdable-requires
+is-holdable-requires c κs = search needs
+
+is-writable-requires : tie.Need-is-writable-requires
+is-writable-requires c κs = search needs
+
 is-resolved-requires : tie.Need-is-resolved-requires
 is-resolved-requires c κs = search needs
 
 returns : tie.Need-returns
-returns c = search (needs, count-early)
+returns c = search (needs, resolved-is, count-early)
 
 reparented-requires : tie.Need-reparented-requires
-reparented-requires c κs = search (needs, held-valid, held-order)
+reparented-requires c κs = search (needs, resolved-is, held-valid, held-order)
 
 returns-2 : tie.Need-returns-2
-returns-2 c = search (needs, count-now)
+returns-2 c = search (needs, resolved-is, count-now)
 
 pub reparented-spec : {M : Type 1} → statement M
-reparented-spec = tie.close (tie.spec is-resolved-requires returns reparented-requires returns-2)
+reparented-spec =
+    tie.close
+    (tie.spec
+    is-holdable-requires
+    is-writable-requires
+    is-resolved-requires
+    returns
+    reparented-requires
+    returns-2)

@@ -1,17 +1,21 @@
 -- `run::resolve` meets its contract.
+use Rattle.run.proofs.InTurn.{taking-is}
 use Rattle.run.proofs.Calls.{resolve-late, sources-valid, sources-order, resolve-refused, resolve-done}
 use borrow.Author.Needs.{needs}
 use Rattle.run.proofs.resolve.Statement.{statement}
 use Rattle.run.proofs.resolve.Tie as tie
 
+is-holdable-requires : tie.Need-is-holdable-requires
+is-holdable-requires c κs = search needs
+
 is-taking-requires : tie.Need-is-taking-requires
 is-taking-requires c κs = search needs
 
 returns : tie.Need-returns
-returns c = search (needs, resolve-late)
+returns c = search (needs, taking-is, resolve-late)
 
 resolve-requires : tie.Need-resolve-requires
-resolve-requires c κs = search (needs, sources-valid, sources-order)
+resolve-requires c κs = search (needs, taking-is, sources-valid, sources-order)
 
 enum-known-v : tie.Need-enum-known-v
 enum-known-v c = search needs
@@ -20,15 +24,16 @@ enum-told : tie.Need-enum-told
 enum-told c = search needs
 
 returns-2 : tie.Need-returns-2
-returns-2 c = search (needs, resolve-refused)
+returns-2 c = search (needs, taking-is, resolve-refused)
 
 returns-3 : tie.Need-returns-3
-returns-3 c = search (needs, resolve-done)
+returns-3 c = search (needs, taking-is, resolve-done)
 
 pub resolve-spec : {M : Type 1} → statement M
 resolve-spec =
     tie.close
     (tie.spec
+    is-holdable-requires
     is-taking-requires
     returns
     resolve-requires

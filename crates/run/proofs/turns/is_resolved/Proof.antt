@@ -7,18 +7,11 @@ use Rattle.run.proofs.turns.is_resolved.Tie as tie
 returns : tie.Need-returns
 returns c = search not-resolved
 
-is-holdable-requires : tie.Need-is-holdable-requires
-is-holdable-requires c κs = search needs
-
 returns-2 : tie.Need-returns-2
 returns-2 c = search not-holdable
-
-is-writable-requires : tie.Need-is-writable-requires
-is-writable-requires c κs = search needs
 
 returns-3 : tie.Need-returns-3
 returns-3 c = search resolved-if
 
 pub is-resolved-spec : {M : Type 1} → statement M
-is-resolved-spec =
-    tie.close (tie.spec returns is-holdable-requires returns-2 is-writable-requires returns-3)
+is-resolved-spec = tie.close (tie.spec returns returns-2 returns-3)

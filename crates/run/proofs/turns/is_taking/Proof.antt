@@ -7,11 +7,8 @@ use Rattle.run.proofs.turns.is_taking.Tie as tie
 returns : tie.Need-returns
 returns c = search other-phase
 
-is-holdable-requires : tie.Need-is-holdable-requires
-is-holdable-requires c κs = search needs
-
 returns-2 : tie.Need-returns-2
 returns-2 c = search taking-if
 
 pub is-taking-spec : {M : Type 1} → statement M
-is-taking-spec = tie.close (tie.spec returns is-holdable-requires returns-2)
+is-taking-spec = tie.close (tie.spec returns returns-2)
