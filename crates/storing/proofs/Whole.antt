@@ -44,7 +44,7 @@ use Rattle.storing.proofs.Fitting.{SetFit, LinkFit, SheetFit, HeldFit}
 -- ── parts that depend on the cover or on whether a group is there ────────────────────────────
 
 module _ (r : Rows) (at : ℕ) where
-  more-count : (c : Option CoverColumns) → (labelsMore r at c) .count ≡ r .count
+  pub more-count : (c : Option CoverColumns) → (labelsMore r at c) .count ≡ r .count
   unfolding labelsMore labelsWith
   more-count none = refl
   more-count (some c) = refl

@@ -14,14 +14,13 @@ use Rattle.archive_reader.specs.declared.records.TailAt.{TailAt}
 use Rattle.archive_reader.specs.declared.records.FileAt.{FileAt}
 use Rattle.storing_columns.specs.Column.{Small}
 use Rattle.storing_parts.specs.Grown.{setAt}
-use Rattle.held.specs.declared.Edges.{Edges}
 use Rattle.held.specs.declared.Sheet.{Sheet}
 use Rattle.held.specs.declared.Held.{Held}
 
--- a set of k deltas that starts at place p of an edges record keeps its rules, and there is room for it after n rows
-pub record SetRoom (e : Edges) (n : ℕ) (l : List ℕ) (f : FrontAt) (p k : ℕ) : Type 0 where
+-- a set of k deltas that starts at place p of an edges record keeps its rules, and there is room for it after c numbers and the lists of n rows
+pub record SetRoom (c n : ℕ) (l : List ℕ) (f : FrontAt) (p k : ℕ) : Type 0 where
   pub rows : n + f .head .rows ≤ 1024
-  pub few : e .count + k ≤ 4096
+  pub few : c + k ≤ 4096
   pub readable : Readable (f .head .first) (setAt (partIn l (f .sets)) (f .head .rows) p k)
 
 -- the links of a cover are sums that fit
@@ -34,7 +33,7 @@ pub record SheetRoom (s : Sheet) (l : List ℕ) (f : FileAt) : Type 0 where
   pub group : f .front .head .group < 16
   pub groups : s .groups .count ≤ 16
   pub rows : s .rows .count + f .front .head .rows ≤ 1024
-  pub forward : SetRoom (s .edges) (s .rows .count) l (f .front) 0 (f .front .edges .forwards)
+  pub forward : SetRoom (s .edges .count) (s .rows .count) l (f .front) 0 (f .front .edges .forwards)
   pub unresolved : s .unresolved .count + f .middle .count ≤ 1024
   pub roots : s .roots .count + f .tail .count ≤ 1024
   pub inside : Small (several 16 (λ l. be 8 l 0) (f .tail .count) (drop 4 (partIn l (f .tail .roots))))
@@ -45,6 +44,6 @@ pub record SheetRoom (s : Sheet) (l : List ℕ) (f : FileAt) : Type 0 where
 pub record HeldRoom (h : Held) (l : List ℕ) (f : FileAt) : Type 0 where
   pub holds : HoldsFile l f
   pub sheet : SheetRoom (h .sheet) l f
-  pub reverse : SetRoom (h .reverse) (h .sheet .rows .count) l (f .front) (f .front .edges .reverse) (f .front .edges .reverses)
-  pub inbound : SetRoom (h .inbound) (h .sheet .rows .count) l (f .front) (f .front .edges .inbound) (f .front .edges .inbounds)
+  pub reverse : SetRoom (h .reverse .count) (h .sheet .rows .count) l (f .front) (f .front .edges .reverse) (f .front .edges .reverses)
+  pub inbound : SetRoom (h .inbound .count) (h .sheet .rows .count) l (f .front) (f .front .edges .inbound) (f .front .edges .inbounds)
   pub ranges : h .ranges + f .tail .cover .ranges ≤ 1024

@@ -1,14 +1,24 @@
-// A taking's last step: the files of an accepted archive are appended to what a run holds, file after file.
-use archive_reader::records::FileAt;
-use archive_reader::records::FileRead;
-use archive_reader::records::file_at;
+// A taking's last step: the files of an accepted archive are appended to what a run holds, part by part: each part is grown in place over all files.
+use held::Edges;
 use held::Held;
-use storing_file::store_file;
+use held::Links;
+use held::Roots;
+use held::Rows;
+use held::Sheet;
+use held::Unresolved;
+use storing_links::store_links;
+use storing_names::Names;
+use storing_names::store_names;
+use storing_records::store_roots;
+use storing_records::store_unresolved;
+use storing_rows::store_flags;
+use storing_rows::store_rows;
+use storing_sets::Side;
+use storing_sets::store_set;
 use tidying::long::held_long;
 ghost use mathlib.Core.Path.{_≡_};
 ghost use mathlib.Core.Bool.{true};
 ghost use mathlib.Core.Option.{none};
-ghost use Prim.Native.Nat.{_+_, _<_};
 ghost use Rattle.lists.specs.Lists.{Each};
 ghost use Rattle.archive.specs.Fits.{FileFits};
 ghost use Rattle.archive.specs.Parse.{parse};
@@ -17,15 +27,7 @@ ghost use Rattle.cleaning.specs.History.{filesIn};
 ghost use Rattle.held.specs.View.{heldIn};
 ghost use Rattle.held.specs.Valid.{heldOk};
 ghost use Rattle.tidying.specs.Ordered.{ordered};
-ghost use Rattle.storing_files.specs.Going.{isGot, heldAfter};
-
-// One more than a number that is below another.
-fn next(k: usize, end: usize) -> usize
-    requires { ⌜ k < end ⌝ }
-    ensures { λ r. ⌜ r ≡ k + 1 ⌝ }
-{
-    k + 1
-}
+ghost use Rattle.storing_turns.specs.Going.{isGot, heldAfter};
 
 // What is held, with the files of an archive more whose rules are kept.
 pub fn store(h: Held, bytes: &[u8]) -> Held
@@ -36,20 +38,31 @@ pub fn store(h: Held, bytes: &[u8]) -> Held
     ensures { λ r. ⌜ (heldOk r ≡ true) × (ordered (r .sheet) ≡ true) ⌝ }
 {
     held_long(h);
-    let mut q = h;
-    let mut k: usize = 0;
-    let mut p = 0;
-    while p < bytes.len() {
-        let x = file_at(bytes, p);
-        let FileRead::FileIs(f) = x else {
-            return q;
-        };
-        held_long(q);
-        q = store_file(q, bytes, f);
-        let t = f.tail;
-        p = t.end;
-        k = next(k, p);
+    let names = store_names(h, bytes);
+    let subject = names.subject;
+    let groups = names.groups;
+    let rows = store_rows(h, bytes);
+    let edges = store_set(h, h.sheet.edges, Side::Forward, bytes);
+    let unresolved = store_unresolved(h, bytes);
+    let roots = store_roots(h, bytes);
+    let links = store_links(h, bytes);
+    let erased = store_flags(h, bytes);
+    let reverse = store_set(h, h.reverse, Side::Reverse, bytes);
+    let inbound = store_set(h, h.inbound, Side::Inbound, bytes);
+    Held {
+        sheet: Sheet {
+            start: names.start,
+            subject: subject,
+            groups: groups,
+            rows: rows,
+            edges: edges,
+            unresolved: unresolved,
+            roots: roots,
+            links: links,
+        },
+        erased: erased,
+        reverse: reverse,
+        inbound: inbound,
+        ranges: names.ranges,
     }
-    held_long(q);
-    q
 }

@@ -175,7 +175,7 @@ module _ (h : Held) (l : List ℕ) (f : FileAt) (fs : List File) (long : LongHel
   unfolding fileIn fileFrom frontIn setsIn setIn
   inbound-even = inbound-counted l f
 
-  forward-fits : SetRoom (h .sheet .edges) n l (f .front) 0 (f .front .edges .forwards)
+  forward-fits : SetRoom (h .sheet .edges .count) n l (f .front) 0 (f .front .edges .forwards)
   unfolding fileIn fileFrom frontIn setsIn setIn headIn
   forward-fits = record {
     rows = omega (arith, rows-room, rows-are);
@@ -183,7 +183,7 @@ module _ (h : Held) (l : List ℕ) (f : FileAt) (fs : List File) (long : LongHel
     readable = readable forward (h .sheet .edges) (F .forward) forward-kept forward-even forward-room;
   }
 
-  reverse-fits : SetRoom (h .reverse) n l (f .front) (f .front .edges .reverse) (f .front .edges .reverses)
+  reverse-fits : SetRoom (h .reverse .count) n l (f .front) (f .front .edges .reverse) (f .front .edges .reverses)
   unfolding fileIn fileFrom frontIn setsIn setIn headIn
   reverse-fits = record {
     rows = omega (arith, rows-room, rows-are);
@@ -191,7 +191,7 @@ module _ (h : Held) (l : List ℕ) (f : FileAt) (fs : List File) (long : LongHel
     readable = readable reverse (h .reverse) (F .reverse) reverse-kept reverse-even reverse-room;
   }
 
-  inbound-fits : SetRoom (h .inbound) n l (f .front) (f .front .edges .inbound) (f .front .edges .inbounds)
+  inbound-fits : SetRoom (h .inbound .count) n l (f .front) (f .front .edges .inbound) (f .front .edges .inbounds)
   unfolding fileIn fileFrom frontIn setsIn setIn headIn
   inbound-fits = record {
     rows = omega (arith, rows-room, rows-are);

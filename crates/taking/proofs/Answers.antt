@@ -28,7 +28,7 @@ use Rattle.held.specs.declared.Held.{Held}
 use Rattle.held.specs.View.{heldIn}
 use Rattle.held.specs.Valid.{heldOk}
 use Rattle.tidying.specs.Ordered.{ordered}
-use Rattle.storing_files.specs.Going.{isGot, heldAfter}
+use Rattle.storing_turns.specs.Going.{isGot, heldAfter}
 use Rattle.taking.specs.Took.{archiveRules, TookBy}
 
 -- ── the bytes of an archive are bytes ────────────────────────────────────────────────────────

@@ -1,80 +1,66 @@
 -- `storing_files::store` meets its contract.
-use Prim.Native.Nat.{_≤_, _-_}
-use lib.ListN.{length}
-use Rattle.archive.specs.Parse.{files}
-use Rattle.archive_reader.proofs.AtFiles.{file-fits}
-use Rattle.storing_files.proofs.Turns.{Going, going-start, going-done, going-ok, going-ordered, no-file, no-order, room-here, uncovers, going-on, fewer-left, count-below, count-on}
+use mathlib.Core.Path.{refl}
+use Rattle.storing_files.proofs.Together.{accepted, together-stored}
 use borrow.Author.Needs.{needs}
 use Rattle.storing_files.proofs.store.Statement.{statement}
 use Rattle.storing_files.proofs.store.Tie as tie
 use Rattle.storing_files.proofs.store.Reads as reads
 use Rattle.storing_files.proofs.store.Lts as lts
-use Rattle.archive_reader.proofs.records.file_at.Reads as file-at-reads
-use Rattle.storing_file.proofs.store_file.Reads as store-file-reads
-use Rattle.storing_files.proofs.next.Reads as next-reads
+use Rattle.storing_links.proofs.store_links.Reads as store-links-reads
+use Rattle.storing_names.proofs.store_names.Reads as store-names-reads
+use Rattle.storing_records.proofs.store_roots.Reads as store-roots-reads
+use Rattle.storing_records.proofs.store_unresolved.Reads as store-unresolved-reads
+use Rattle.storing_rows.proofs.store_flags.Reads as store-flags-reads
+use Rattle.storing_rows.proofs.store_rows.Reads as store-rows-reads
+use Rattle.storing_sets.proofs.store_set.Reads as store-set-reads
 use Rattle.tidying.proofs.long.held_long.Reads as held-long-reads
 
-abbrev Inv-loop : tie.InvT-loop
-Inv-loop bytes q₀ k₀ p₀ q k p = (p ≤ length bytes) × (k ≤ p) × Going q₀ q bytes (files (length bytes - k) bytes p)
-
-abbrev μ-loop : tie.MeasureT-loop
-μ-loop bytes q₀ k₀ p₀ q k p = length bytes - p
-
-held-long-requires : tie.Need-held-long-requires Inv-loop μ-loop
+held-long-requires : tie.Need-held-long-requires
 held-long-requires c κs = search needs
 
-loop-holds : tie.Need-loop-holds Inv-loop μ-loop
-loop-holds c = (search needs, search needs, search going-start)
+store-names-requires : tie.Need-store-names-requires
+store-names-requires c κs = accepted _ _ (c .held-long .ensures) (c .before .before .pre)
 
-file-at-requires : tie.Need-file-at-requires Inv-loop μ-loop
-file-at-requires c κs = search needs
+store-rows-requires : tie.Need-store-rows-requires
+store-rows-requires c κs = accepted _ _ (c .before .before .before .held-long .ensures) (c .before .before .before .before .before .pre)
 
-enum-known-x : tie.Need-enum-known-x Inv-loop μ-loop
-enum-known-x c = search needs
+store-set-requires : tie.Need-store-set-requires
+store-set-requires c κs = (accepted _ _ (c .before .before .before .before .held-long .ensures) (c .before .before .before .before .before .before .pre), refl)
 
-enum-told : tie.Need-enum-told Inv-loop μ-loop
-enum-told c = search needs
+store-unresolved-requires : tie.Need-store-unresolved-requires
+store-unresolved-requires c κs = accepted _ _ (c .before .before .before .before .before .held-long .ensures) (c .before .before .before .before .before .before .before .pre)
 
-returns : tie.Need-returns Inv-loop μ-loop
-returns c = (search no-file, (search going-ok, search no-order))
+store-roots-requires : tie.Need-store-roots-requires
+store-roots-requires c κs = accepted _ _ (c .before .before .before .before .before .before .held-long .ensures) (c .before .before .before .before .before .before .before .before .pre)
 
-held-long-requires-2 : tie.Need-held-long-requires-2 Inv-loop μ-loop
-held-long-requires-2 c κs = search needs
+store-links-requires : tie.Need-store-links-requires
+store-links-requires c κs = accepted _ _ (c .before .before .before .before .before .before .before .held-long .ensures) (c .before .before .before .before .before .before .before .before .before .pre)
 
-store-file-requires : tie.Need-store-file-requires Inv-loop μ-loop
-store-file-requires c κs = (search room-here, search uncovers)
+store-flags-requires : tie.Need-store-flags-requires
+store-flags-requires c κs = accepted _ _ (c .before .before .before .before .before .before .before .before .held-long .ensures) (c .before .before .before .before .before .before .before .before .before .before .pre)
 
-next-requires : tie.Need-next-requires Inv-loop μ-loop
-next-requires c κs = search count-below
+store-set-requires-2 : tie.Need-store-set-requires-2
+store-set-requires-2 c κs = (accepted _ _ (c .before .before .before .before .before .before .before .before .before .held-long .ensures) (c .before .before .before .before .before .before .before .before .before .before .before .pre), refl)
 
-loop-less : tie.Need-loop-less Inv-loop μ-loop
-loop-less c = search fewer-left
+store-set-requires-3 : tie.Need-store-set-requires-3
+store-set-requires-3 c κs = (accepted _ _ (c .before .before .before .before .before .before .before .before .before .before .held-long .ensures) (c .before .before .before .before .before .before .before .before .before .before .before .before .pre), refl)
 
-loop-again : tie.Need-loop-again Inv-loop μ-loop
-loop-again c = (search file-fits, search count-on, search going-on)
-
-held-long-requires-3 : tie.Need-held-long-requires-3 Inv-loop μ-loop
-held-long-requires-3 c κs = search needs
-
-returns-2 : tie.Need-returns-2 Inv-loop μ-loop
-returns-2 c = (search going-done, (search going-ok, search going-ordered))
+returns : tie.Need-returns
+returns c =
+    together-stored _ _ _ (c .before .before .before .before .before .before .before .before .before .before .store-names .ensures) (c .before .before .before .before .before .before .before .store-rows .ensures) (c .before .before .before .before .before .before .store-set .ensures) (c .before .before .before .before .before .store-unresolved .ensures) (c .before .before .before .before .store-roots .ensures) (c .before .before .before .store-links .ensures) (c .before .before .store-flags .ensures) (c .before .store-set2 .ensures) (c .store-set3 .ensures)
 
 pub store-spec : {M : Type 1} → statement M
 store-spec =
     tie.close
     (tie.spec
-    Inv-loop
-    μ-loop
     held-long-requires
-    loop-holds
-    file-at-requires
-    enum-known-x
-    enum-told
-    returns
-    held-long-requires-2
-    store-file-requires
-    next-requires
-    loop-less
-    loop-again
-    held-long-requires-3
-    returns-2)
+    store-names-requires
+    store-rows-requires
+    store-set-requires
+    store-unresolved-requires
+    store-roots-requires
+    store-links-requires
+    store-flags-requires
+    store-set-requires-2
+    store-set-requires-3
+    returns)

@@ -1,0 +1,25 @@
+-- `storing_links::add_links` meets its contract.
+use Rattle.storing_links.proofs.LinkTurns.{sums-there, links-none, links-some}
+use Rattle.storing_turns.proofs.Turns.{cover-there}
+use borrow.Author.Needs.{needs}
+use Rattle.storing_links.proofs.add_links.Statement.{statement}
+use Rattle.storing_links.proofs.add_links.Tie as tie
+use Rattle.storing_links.proofs.add_links.Reads as reads
+use Rattle.storing_links.proofs.add_links.Lts as lts
+use Rattle.storing_columns.proofs.fill.Reads as fill-reads
+use Rattle.storing_links.proofs.cover_links.Reads as cover-links-reads
+
+returns : tie.Need-returns
+returns c = search links-none
+
+fill-requires : tie.Need-fill-requires
+fill-requires c κs = search needs
+
+cover-links-requires : tie.Need-cover-links-requires
+cover-links-requires c κs = ((search cover-there, search sums-there), (search needs, (search needs, search needs)))
+
+returns-2 : tie.Need-returns-2
+returns-2 c = search links-some
+
+pub add-links-spec : {M : Type 1} → statement M
+add-links-spec = tie.close (tie.spec returns fill-requires cover-links-requires returns-2)

@@ -1,0 +1,76 @@
+-- `storing_links::store_links` meets its contract.
+use Prim.Native.Nat.{_≤_, _-_}
+use lib.ListN.{length}
+use Rattle.archive_reader.proofs.AtFiles.{file-fits}
+use Rattle.storing_turns.proofs.Turns.{Walk, fewer-left, count-below, count-on}
+use Rattle.storing_links.specs.Columns.{linksOf}
+use Rattle.storing_links.proofs.LinkTurns.{linksNow, links-start, no-links, links-done, links-hold, links-sums, links-uncovers, links-room, links-rows, links-ranges, links-fit, links-on}
+use borrow.Author.Needs.{needs}
+use Rattle.storing_links.proofs.store_links.Statement.{statement}
+use Rattle.storing_links.proofs.store_links.Tie as tie
+use Rattle.storing_links.proofs.store_links.Reads as reads
+use Rattle.storing_links.proofs.store_links.Lts as lts
+use Rattle.archive_reader.proofs.records.file_at.Reads as file-at-reads
+use Rattle.storing_links.proofs.add_links.Reads as add-links-reads
+use Rattle.storing_turns.proofs.next.Reads as next-reads
+
+abbrev Inv-loop : tie.InvT-loop
+Inv-loop h bytes groups₀ chains₀ seqs₀ tochains₀ toseqs₀ c₀ k₀ p₀ groups chains seqs tochains toseqs c k p = (p ≤ length bytes) × (k ≤ p) × Walk linksNow h (linksOf c groups chains seqs tochains toseqs) bytes k p
+
+abbrev μ-loop : tie.MeasureT-loop
+μ-loop h bytes groups₀ chains₀ seqs₀ tochains₀ toseqs₀ c₀ k₀ p₀ groups chains seqs tochains toseqs c k p = length bytes - p
+
+loop-holds : tie.Need-loop-holds Inv-loop μ-loop
+loop-holds c = (search needs, search needs, search links-start)
+
+file-at-requires : tie.Need-file-at-requires Inv-loop μ-loop
+file-at-requires c κs = search needs
+
+enum-known-x : tie.Need-enum-known-x Inv-loop μ-loop
+enum-known-x c = search needs
+
+enum-told : tie.Need-enum-told Inv-loop μ-loop
+enum-told c = search needs
+
+cast-n : tie.Need-cast-n Inv-loop μ-loop
+cast-n c = search needs
+
+add-links-requires : tie.Need-add-links-requires Inv-loop μ-loop
+add-links-requires c κs = ((search links-hold, (search links-sums, search links-uncovers)), (search links-room, (search links-rows, search links-ranges)))
+
+add-c : tie.Need-add-c Inv-loop μ-loop
+add-c c = search links-fit
+
+next-requires : tie.Need-next-requires Inv-loop μ-loop
+next-requires c κs = search count-below
+
+loop-less : tie.Need-loop-less Inv-loop μ-loop
+loop-less c = search fewer-left
+
+loop-again : tie.Need-loop-again Inv-loop μ-loop
+loop-again c = (search file-fits, search count-on, search links-on)
+
+returns : tie.Need-returns Inv-loop μ-loop
+returns c = search links-done
+
+returns-2 : tie.Need-returns-2 Inv-loop μ-loop
+returns-2 c = search no-links
+
+pub store-links-spec : {M : Type 1} → statement M
+store-links-spec =
+    tie.close
+    (tie.spec
+    Inv-loop
+    μ-loop
+    loop-holds
+    file-at-requires
+    enum-known-x
+    enum-told
+    cast-n
+    add-links-requires
+    add-c
+    next-requires
+    loop-less
+    loop-again
+    returns
+    returns-2)

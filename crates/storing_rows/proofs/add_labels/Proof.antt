@@ -1,0 +1,21 @@
+-- `storing_rows::add_labels` meets its contract.
+use Rattle.storing_rows.proofs.RowTurns.{chains-none, seqs-none, chains-some, seqs-some}
+use Rattle.storing_turns.proofs.Turns.{cover-there}
+use borrow.Author.Needs.{needs}
+use Rattle.storing_rows.proofs.add_labels.Statement.{statement}
+use Rattle.storing_rows.proofs.add_labels.Tie as tie
+use Rattle.storing_rows.proofs.add_labels.Reads as reads
+use Rattle.storing_rows.proofs.add_labels.Lts as lts
+use Rattle.storing_rows.proofs.cover_labels.Reads as cover-labels-reads
+
+returns : tie.Need-returns
+returns c = (search chains-none, search seqs-none)
+
+cover-labels-requires : tie.Need-cover-labels-requires
+cover-labels-requires c κs = (search cover-there, search needs)
+
+returns-2 : tie.Need-returns-2
+returns-2 c = (search chains-some, search seqs-some)
+
+pub add-labels-spec : {M : Type 1} → statement M
+add-labels-spec = tie.close (tie.spec returns cover-labels-requires returns-2)

@@ -1,0 +1,3 @@
+pub mod LeftOver
+pub mod LongNext
+pub mod Turns
