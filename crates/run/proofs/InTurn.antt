@@ -32,27 +32,24 @@ module _ (h : Held) {a : Bool} (e : a ≡ heldOk h) where
     unfolding holdable
     held-order f = rw (← e, not-false a k) f
 
-module _ (s : Sheet) (e : sheetOk s ≡ true) where
-  pub sheet-counts : countsOk s ≡ true
-  unfolding sheetOk
-  sheet-counts = both (countsOk s) _ e .0
-
-  module _ {a : Bool} (f : a ≡ ordered s) where
-    pub not-ordered : not a ≡ true → false ≡ writable s
-    unfolding writable
-    not-ordered k = rw (e, ← f, not-true a k)
-
-    pub then-filled : not a ≡ false → {b : Bool} → b ≡ filled s → b ≡ writable s
-    unfolding writable
-    then-filled k g = rw (e, ← f, not-false a k) g
-
 module _ (s : Sheet) {a : Bool} (e : a ≡ sheetOk s) where
   pub not-sheet : not a ≡ true → false ≡ writable s
   unfolding writable
   not-sheet k = rw (← e, not-true a k)
 
-  pub sheet-valid : not a ≡ false → sheetOk s ≡ true
-  sheet-valid k = sym e ∙ not-false a k
+  module _ (k : not a ≡ false) where
+    pub sheet-counts : countsOk s ≡ true
+    unfolding sheetOk
+    sheet-counts = both (countsOk s) _ (sym e ∙ not-false a k) .0
+
+    module _ {b : Bool} (f : b ≡ ordered s) where
+      pub not-ordered : not b ≡ true → false ≡ writable s
+      unfolding writable
+      not-ordered m = rw (← e, not-false a k, ← f, not-true b m)
+
+      pub then-filled : not b ≡ false → {d : Bool} → d ≡ filled s → d ≡ writable s
+      unfolding writable
+      then-filled m g = rw (← e, not-false a k, ← f, not-false b m) g
 
 module _ (phase : ℕ) (a : Bool) where
   pub other-phase : (phase ≡ 0 → ⊥) → false ≡ takingBy phase a

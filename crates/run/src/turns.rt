@@ -2,8 +2,6 @@
 use held::Held;
 use held::Sheet;
 ghost use mathlib.Core.Path.{_≡_};
-ghost use mathlib.Core.Bool.{true};
-ghost use Rattle.held.specs.Valid.{sheetOk};
 ghost use Rattle.run.specs.View.{holdable, writable, takingBy, resolvedBy};
 
 // Whether columns are those that a run holds of its sources.
@@ -16,17 +14,6 @@ pub(crate) fn is_holdable(h: Held) -> bool
     tidying::is_ordered(h.sheet)
 }
 
-// Whether a valid sheet is in order and every group has a row.
-fn is_in_order(s: Sheet) -> bool
-    requires { ⌜ sheetOk s ≡ true ⌝ }
-    ensures { λ r. ⌜ r ≡ writable s ⌝ }
-{
-    if !tidying::is_ordered(s) {
-        return false;
-    }
-    tidying::is_filled(s)
-}
-
 // Whether columns are those of survivors.
 pub(crate) fn is_writable(s: Sheet) -> bool
     ensures { λ r. ⌜ r ≡ writable s ⌝ }
@@ -34,7 +21,10 @@ pub(crate) fn is_writable(s: Sheet) -> bool
     if !held::valid::sheet_ok(s) {
         return false;
     }
-    is_in_order(s)
+    if !tidying::is_ordered(s) {
+        return false;
+    }
+    tidying::is_filled(s)
 }
 
 // Whether a run of that phase takes sources.

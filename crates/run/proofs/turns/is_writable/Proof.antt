@@ -1,5 +1,5 @@
 -- `run::turns::is_writable` meets its contract.
-use Rattle.run.proofs.InTurn.{not-sheet, sheet-valid}
+use Rattle.run.proofs.InTurn.{not-sheet, sheet-counts, not-ordered, then-filled}
 use borrow.Author.Needs.{needs}
 use Rattle.run.proofs.turns.is_writable.Statement.{statement}
 use Rattle.run.proofs.turns.is_writable.Tie as tie
@@ -10,11 +10,19 @@ sheet-ok-requires c κs = search needs
 returns : tie.Need-returns
 returns c = search not-sheet
 
-is-in-order-requires : tie.Need-is-in-order-requires
-is-in-order-requires c κs = search sheet-valid
+is-ordered-requires : tie.Need-is-ordered-requires
+is-ordered-requires c κs = search sheet-counts
 
 returns-2 : tie.Need-returns-2
-returns-2 c = search needs
+returns-2 c = search not-ordered
+
+is-filled-requires : tie.Need-is-filled-requires
+is-filled-requires c κs = search sheet-counts
+
+returns-3 : tie.Need-returns-3
+returns-3 c = search then-filled
 
 pub is-writable-spec : {M : Type 1} → statement M
-is-writable-spec = tie.close (tie.spec sheet-ok-requires returns is-in-order-requires returns-2)
+is-writable-spec =
+    tie.close
+    (tie.spec sheet-ok-requires returns is-ordered-requires returns-2 is-filled-requires returns-3)
