@@ -7,3 +7,4 @@ pub mod Offsets
 pub mod Turns
 pub mod Checks
 pub mod Writes
+pub mod Rows

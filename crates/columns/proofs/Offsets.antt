@@ -1,14 +1,14 @@
 -- Offsets that climb from 0 to the end of a column, and the lists that they cut out of it.
-use mathlib.Core.Path.{_≡_, refl, ap}
+use mathlib.Core.Path.{_≡_, refl, sym, _∙_, ap}
 use mathlib.Core.Bool.{true, false, false≢true}
-use mathlib.Core.List.{List, [], _∷_}
+use mathlib.Core.List.{List, [], _∷_, _++_}
 use Prim.Native.Nat.{ℕ, zero, suc, _≤_, _<_, _+_, _-_, _*_}
 use native.Mathlib.Nat.{le-trans}
 use native.Mathlib.Numerals.{add-one}
 use native.Mathlib.Omega.{arith}
 use lib.Dec.{leb, eqb}
-use lib.ListN.{length, getD, take, length-take, drop-of-length-le}
-use lib.Seq.{slice}
+use lib.ListN.{length, getD, take, drop, length-take, drop-of-length-le, take-append-drop}
+use lib.Seq.{slice, take-take, drop-append-le}
 use borrow.Author.Tests.{leb-true, eqb-true}
 use Rattle.lists.specs.Order.{climbsTo}
 use Rattle.lists.proofs.Tests.{both}
@@ -38,6 +38,11 @@ module _ {A : Type 0} where
   pub slice-none : (i to : ℕ) (l : List A) → to ≤ i → slice i to l ≡ []
   slice-none i to l h = drop-of-length-le (take to l) {i = i} (simp length-take (omega arith))
 
+  pub slice-join : (a b c : ℕ) (l : List A) → a ≤ b → b ≤ c → c ≤ length l → slice a b l ++ slice b c l ≡ slice a c l
+  slice-join a b c l h i j =
+      let whole : take b (take c l) ++ drop b (take c l) ≡ take c l = take-append-drop b (take c l) in
+      rw (← take-take b c l i) (sym (drop-append-le a (take b (take c l)) (drop b (take c l)) (simp (length-take, length-take) (omega arith))) ∙ ap (drop a) whole)
+
   cutFrom-at : (a : ℕ) (bs : List ℕ) (column : List A) (q : ℕ) → q < length bs → getD (cutFrom a bs column) q [] ≡ slice (getD (a ∷ bs) q 0) (getD bs q 0) column
   unfolding cutFrom
   cutFrom-at a [] column q h = absurd (omega arith)
@@ -48,6 +53,10 @@ module _ {A : Type 0} where
   unfolding cut
   cut-at [] column q h = absurd (omega arith)
   cut-at (a ∷ bs) column q h = rw add-one (cutFrom-at a bs column q (omega arith))
+
+  pub slot-cut : (offsets : List ℕ) (column : List A) (slot from to : ℕ) → slot + 1 < length offsets → from ≡ getD offsets slot 0 → to ≡ getD offsets (slot + 1) 0
+      → getD (cut offsets column) slot [] ≡ slice from to column
+  slot-cut offsets column slot from to h f g = rw (f, g) (cut-at offsets column slot h)
 
   cutFrom-length : (a : ℕ) (bs : List ℕ) (column : List A) → length (cutFrom a bs column) ≡ length bs
   unfolding cutFrom

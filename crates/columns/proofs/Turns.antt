@@ -1,8 +1,8 @@
 -- The turns of the loops that check offsets and deltas, and the tests between them, as laws of the definitions.
 use mathlib.Core.Path.{_≡_, refl, sym, _∙_}
-use mathlib.Core.Bool.{Bool, true, false, _&&_, not}
+use mathlib.Core.Bool.{Bool, true, false, _&&_, not, and-true}
 use mathlib.Core.List.{List, [], _∷_}
-use Prim.Native.Nat.{ℕ, _≤_, _<_, _+_, _-_, _*_, _/_, _%_, _^_}
+use Prim.Native.Nat.{ℕ, suc, _≤_, _<_, _+_, _-_, _*_, _/_, _%_, _^_}
 use native.Mathlib.Numerals.{add-one}
 use native.Mathlib.Omega.{arith}
 use lib.Dec.{leb, ltb, eqb}
@@ -22,7 +22,7 @@ use Rattle.columns.specs.Reading.{soundFrom, setRules, labelRules}
 use Rattle.columns.specs.Answers.{short32, columnsOf, labelColumns, checkedOf}
 use Rattle.columns.specs.declared.reading.Checked.the-variants.{Kept, Broken}
 use Rattle.columns.specs.declared.refusal.Refusal.the-variants.{OffsetsForm, DeltaCount, TargetSide, LabelColumns, LabelRange}
-use Rattle.columns.proofs.Offsets.{slice-none, cut-at, cut-length, form-climbs}
+use Rattle.columns.proofs.Offsets.{slice-none, cut-length, form-climbs}
 use Rattle.columns.proofs.Signs.{same-test}
 
 -- ── offsets ──────────────────────────────────────────────────────────────────────────────────
@@ -99,36 +99,31 @@ module _ {t : Bool} (set end event i to : ℕ) (ds : List ℤ) (e : t ≡ all (s
 
 -- ── slots ────────────────────────────────────────────────────────────────────────────────────
 
-module _ (set first end slot : ℕ) (offsets : List ℕ) (deltas : List ℤ) (b : Bool) (e : b ≡ ltb (eventOf first slot) end64) where
-  pub no-event : not b ≡ true → false ≡ (ltb (eventOf first slot) end64 && all (sound set end (eventOf first slot)) (getD (cut offsets deltas) slot []))
-  no-event h = rw (sym e ∙ not-true b h)
+module _ (first slot : ℕ) (b : Bool) (e : b ≡ ltb (eventOf first slot) end64) where
+  pub no-event : (p : Bool) → not b ≡ true → false ≡ (ltb (eventOf first slot) end64 && p)
+  no-event p h = rw (sym e ∙ not-true b h)
 
   module _ (h : not b ≡ false) where
     pub an-event : eventOf first slot < end64
     an-event = ltb-true _ _ (sym e ∙ not-false b h)
 
-    pub slot-tells : (event from to : ℕ) (r : Bool) → slot + 1 < length offsets → event ≡ eventOf first slot → from ≡ getD offsets slot 0 → to ≡ getD offsets (slot + 1) 0
-        → r ≡ all (sound set end event) (slice from to deltas)
-        → r ≡ (ltb (eventOf first slot) end64 && all (sound set end (eventOf first slot)) (getD (cut offsets deltas) slot []))
-    slot-tells event from to r k i f g p = rw (sym e ∙ not-false b h, cut-at offsets deltas slot k, ← f, ← g, ← i) p
+    -- an event's deltas that stand in a column from one place up to another
+    pub deltas-tell : (set end event from to : ℕ) (deltas list : List ℤ) (r : Bool) → list ≡ slice from to deltas → event ≡ eventOf first slot
+        → r ≡ all (sound set end event) (slice from to deltas) → r ≡ (ltb (eventOf first slot) end64 && all (sound set end (eventOf first slot)) list)
+    deltas-tell set end event from to deltas list r l i p = rw (sym e ∙ not-false b h, l, ← i) p
 
+-- what the tests of a slot say of all slots from it on
 module _ {t : Bool} (set first end slot : ℕ) (offsets : List ℕ) (deltas : List ℤ) (e : t ≡ soundFrom set first end slot (drop slot (cut offsets deltas))) where
   pub slots-done : length offsets ≤ slot + 1 → true ≡ t
   unfolding soundFrom
   slots-done h = rw (e, drop-of-length-le (cut offsets deltas) {i = slot} (omega (arith, cut-length offsets deltas)))
 
-  module _ (b : Bool) (h : slot + 1 < length offsets)
-      (g : b ≡ (ltb (eventOf first slot) end64 && all (sound set end (eventOf first slot)) (getD (cut offsets deltas) slot []))) where
-    in-cut : slot < length (cut offsets deltas)
-    in-cut = omega (arith, cut-length offsets deltas)
-
-    pub slots-stop : not b ≡ true → false ≡ t
-    unfolding soundFrom
-    slots-stop f = rw (e, drop-cons (cut offsets deltas) slot [] in-cut, sym g ∙ not-true b f)
-
-    pub slots-on : not b ≡ false → t ≡ soundFrom set first end (slot + 1) (drop (slot + 1) (cut offsets deltas))
-    unfolding soundFrom
-    slots-on f = rw (e, drop-cons (cut offsets deltas) slot [] in-cut, sym g ∙ not-false b f, add-one)
+  pub slots-last : slot + 1 < length offsets → length offsets ≤ slot + 2 → (r : Bool)
+      → r ≡ (ltb (eventOf first slot) end64 && all (sound set end (eventOf first slot)) (getD (cut offsets deltas) slot [])) → r ≡ t
+  unfolding soundFrom
+  slots-last h k r g =
+      let in-cut : slot < length (cut offsets deltas) = omega (arith, cut-length offsets deltas) in
+      rw (e, drop-cons (cut offsets deltas) slot [] in-cut, drop-of-length-le (cut offsets deltas) {i = suc slot} (omega (arith, cut-length offsets deltas)), and-true) g
 
 -- ── the rules of one set ─────────────────────────────────────────────────────────────────────
 

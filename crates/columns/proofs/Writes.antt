@@ -1,7 +1,7 @@
 -- The turns of the loops that write targets, as laws of lists, and where a slot's targets stand among all.
 use mathlib.Core.Path.{_≡_, refl, sym, _∙_, ap}
 use mathlib.Core.Bool.{true, _&&_}
-use mathlib.Core.List.{List, [], _∷_, _++_, map}
+use mathlib.Core.List.{List, [], _∷_, _++_, map, append-nil}
 use Prim.Native.Nat.{ℕ, zero, suc, _≤_, _<_, _+_, _-_}
 use native.Mathlib.Nat.{zero-add, add-zero, add-suc, suc-add}
 use native.Mathlib.Numerals.{add-one}
@@ -22,7 +22,7 @@ use Rattle.columns.specs.EdgeSet.{cut, cutFrom, eventOf, fromTo, targetO
 use Rattle.columns.specs.Reading.{soundFrom, targetsFrom, slotsOf}
 use Rattle.columns.specs.Answers.{named, columnsOf}
 use Rattle.columns.specs.Readable.{Readable, Edged}
-use Rattle.columns.proofs.Offsets.{slice-none, cut-at, cut-length, some-offset, starts-at, ordered, inside, low-high, form-climbs}
+use Rattle.columns.proofs.Offsets.{slice-none, slot-cut, cut-length, some-offset, starts-at, ordered, inside, low-high, form-climbs}
 use Rattle.columns.proofs.Turns.{at}
 use Rattle.columns.proofs.Checks.{kept-form}
 
@@ -40,18 +40,35 @@ module _ (event i to : ℕ) (ds : List ℤ) (h : i < to) (k : to ≤ length ds) 
     pub this-named : SFits w64 (getD ds i (pos 0)) → named event (at ds i) ≡ true
     this-named s = rw (toZ-ofZ w64 (getD ds i (pos 0)) s) (parts .0)
 
-    pub rest-named : all (named event) (slice (i + 1) to ds) ≡ true
+    rest-named : all (named event) (slice (i + 1) to ds) ≡ true
     rest-named = parts .1
 
-  pub one-target : {t : List ℕ} (was out : List ℕ) (p v : ℕ) → out ≡ set was p v → v ≡ targetOf event (at ds i) → SFits w64 (getD ds i (pos 0)) → t ≡ sets was p (map (targetOf event) (slice i to ds))
+  one-target : {t : List ℕ} (was out : List ℕ) (p v : ℕ) → out ≡ set was p v → v ≡ targetOf event (at ds i) → SFits w64 (getD ds i (pos 0)) → t ≡ sets was p (map (targetOf event) (slice i to ds))
       → t ≡ sets out (p + 1) (map (targetOf event) (slice (i + 1) to ds))
   one-target was out p v f g s e = rw (e, add-one p, add-one i, slice-cons i to ds (pos 0), f, g, toZ-ofZ w64 (getD ds i (pos 0)) s)
 
-pub same-size : (first was out : List ℕ) (p v : ℕ) → length was ≡ length first → out ≡ set was p v → length out ≡ length first
-same-size first was out p v e f = rw f (simp length-set e)
+-- where the writing of an event's targets into `was` from `at` on stands: `out` has all before `past`, and the deltas from i on are left
+abbrev pub Writing : ℕ → List ℤ → ℕ → ℕ → List ℕ → ℕ → List ℕ → ℕ → ℕ → Type 0
+Writing event ds from to was at out past i = (from ≤ i) × (i ≤ to) × (past ≡ at + (i - from)) × (length out ≡ length was) × (all (named event) (slice i to ds) ≡ true)
+    × (sets was at (map (targetOf event) (slice from to ds)) ≡ sets out past (map (targetOf event) (slice i to ds)))
+
+pub target-put : (event : ℕ) (ds : List ℤ) (from to : ℕ) (was : List ℕ) (start : ℕ) (out : List ℕ) (past i : ℕ) → Writing event ds from to was start out past i
+    → i < to → to ≤ length ds → SFits w64 (getD ds i (pos 0)) → (v : ℕ) → v ≡ targetOf event (at ds i) → (next : List ℕ) → next ≡ set out past v
+    → Writing event ds from to was start next (past + 1) (i + 1)
+target-put event ds from to was start out past i w h k s v g next f = (
+  omega arith,
+  omega arith,
+  omega arith,
+  rw f (simp length-set (w .3)),
+  rest-named event i to ds h k (w .4),
+  one-target event i to ds h k out next past v f g s (w .5),
+)
 
 pub targets-done : {t : List ℕ} (event i to : ℕ) (ds : List ℤ) (out : List ℕ) (p : ℕ) → t ≡ sets out p (map (targetOf event) (slice i to ds)) → to ≤ i → out ≡ t
 targets-done event i to ds out p e h = rw (e, slice-none i to ds h)
+
+pub targets-count : (event from to : ℕ) (ds : List ℤ) → to ≤ length ds → length (map (targetOf event) (slice from to ds)) ≡ to - from
+targets-count event from to ds h = rw length-map (length-slice from to ds h)
 
 -- ── slots ────────────────────────────────────────────────────────────────────────────────────
 
@@ -97,17 +114,14 @@ module _ (first : ℕ) (offsets : List ℕ) (deltas : List ℤ) (r : Edged first
     pub slot-inside : to ≤ length deltas
     slot-inside = inside (length deltas) offsets (r .climbs) slot h from to f g
 
-    list-of : getD (cut offsets deltas) slot [] ≡ slice from to deltas
-    list-of = rw (f, g) (cut-at offsets deltas slot h)
-
     pub slot-named : all (named event) (slice from to deltas) ≡ true
-    slot-named = rw (← list-of, e) (sides-named (r .set) (r .end) (eventOf first slot) _ (sides .1))
+    slot-named = rw (← slot-cut offsets deltas slot from to h f g, e) (sides-named (r .set) (r .end) (eventOf first slot) _ (sides .1))
 
-    slot-list : getD (targetsFrom first 0 (cut offsets deltas)) slot [] ≡ map (targetOf event) (slice from to deltas)
-    slot-list = rw (targets-at first 0 (cut offsets deltas) slot in-cut, zero-add slot, list-of, e)
+    pub slot-list : getD (targetsFrom first 0 (cut offsets deltas)) slot [] ≡ map (targetOf event) (slice from to deltas)
+    slot-list = rw (targets-at first 0 (cut offsets deltas) slot in-cut, zero-add slot, slot-cut offsets deltas slot from to h f g, e)
 
     pub slot-count : length (getD (targetsFrom first 0 (cut offsets deltas)) slot []) ≡ to - from
-    slot-count = rw (slot-list, length-map) (length-slice from to deltas slot-inside)
+    slot-count = rw slot-list (targets-count event from to deltas slot-inside)
 
     pub slot-ends : (at n : ℕ) → n ≡ at + (to - from) → n ≡ at + length (getD (targetsFrom first 0 (cut offsets deltas)) slot [])
     slot-ends at n i = rw slot-count i
@@ -121,52 +135,57 @@ pub sets-append : (l : List ℕ) (i : ℕ) (xs ys : List ℕ) → sets l i (xs +
 sets-append l i [] ys = rw (add-zero i)
 sets-append l i (x ∷ xs) ys = rw (add-suc i (length xs), ← suc-add i (length xs)) (sets-append (set l i x) (suc i) xs ys)
 
--- the lists of all slots from one on
-abbrev rest : ℕ → List ℕ → List ℤ → ℕ → List (List ℕ)
-rest first offsets deltas slot = drop slot (targetsFrom first 0 (cut offsets deltas))
+-- a list is written, and the next one stands where it ends
+module _ (at next : ℕ) (whole list rest : List ℕ) (w : whole ≡ list ++ rest) (f : next ≡ at + length list) where
+  pub rest-written : {t : List ℕ} (was out : List ℕ) → t ≡ sets was at whole → out ≡ sets was at list → t ≡ sets out next rest
+  rest-written was out e g = rw (e, w, sets-append was at list rest, f, g)
 
-module _ (first : ℕ) (offsets : List ℕ) (deltas : List ℤ) (slot at : ℕ) where
+  pub rest-counted : {n : ℕ} → n ≡ at + length whole → n ≡ next + length rest
+  rest-counted e = e ∙ rw (w, length-append) (omega arith)
+
+-- the targets of all slots from one on
+abbrev pub onward : ℕ → List ℕ → List ℤ → ℕ → List ℕ
+onward first offsets deltas slot = joined (drop slot (targetsFrom first 0 (cut offsets deltas)))
+
+no-more : (first : ℕ) (offsets : List ℕ) (deltas : List ℤ) (slot : ℕ) → length offsets ≤ slot + 1 → onward first offsets deltas slot ≡ []
+unfolding joined
+no-more first offsets deltas slot h =
+    let all = targetsFrom first 0 (cut offsets deltas) in
+    rw (drop-of-length-le all {i = slot} (omega (arith, cut-length offsets deltas, length-targets first 0 (cut offsets deltas))))
+
+module _ (first : ℕ) (offsets : List ℕ) (deltas : List ℤ) (slot : ℕ) where
   module _ (h : slot + 1 < length offsets) where
-    this-then : joined (rest first offsets deltas slot) ≡ getD (targetsFrom first 0 (cut offsets deltas)) slot [] ++ joined (rest first offsets deltas (slot + 1))
+    pub this-then : onward first offsets deltas slot ≡ getD (targetsFrom first 0 (cut offsets deltas)) slot [] ++ onward first offsets deltas (slot + 1)
     unfolding joined
     this-then =
         let k : slot < length (targetsFrom first 0 (cut offsets deltas)) = omega (arith, cut-length offsets deltas, length-targets first 0 (cut offsets deltas)) in
         rw (drop-cons (targetsFrom first 0 (cut offsets deltas)) slot [] k, add-one)
 
-    module _ (next : ℕ) (f : next ≡ at + length (getD (targetsFrom first 0 (cut offsets deltas)) slot [])) where
-      pub slots-written : {t : List ℕ} (was out : List ℕ) → t ≡ sets was at (joined (rest first offsets deltas slot)) → out ≡ sets was at (getD (targetsFrom first 0 (cut offsets deltas)) slot [])
-          → t ≡ sets out next (joined (rest first offsets deltas (slot + 1)))
-      slots-written was out e g = rw (e, this-then, sets-append was at (getD (targetsFrom first 0 (cut offsets deltas)) slot []) (joined (rest first offsets deltas (slot + 1))), f, g)
+    this-alone : length offsets ≤ slot + 2 → onward first offsets deltas slot ≡ getD (targetsFrom first 0 (cut offsets deltas)) slot []
+    this-alone k = rw (this-then, no-more first offsets deltas (slot + 1) (omega arith), append-nil)
 
-      pub slots-counted : {n : ℕ} → n ≡ at + length (joined (rest first offsets deltas slot)) → n ≡ next + length (joined (rest first offsets deltas (slot + 1)))
-      slots-counted e = e ∙ rw (this-then, length-append) (omega arith)
-
-      pub next-offset : Edged first offsets deltas → at ≡ getD offsets slot 0 → next ≡ getD offsets (slot + 1) 0
-      next-offset r e =
-          let from = getD offsets slot 0 in
-          let to = getD offsets (slot + 1) 0 in
-          let k : from ≤ to = slot-order first offsets deltas r slot h (eventOf first slot) from to refl refl refl in
-          omega (arith, slot-count first offsets deltas r slot h (eventOf first slot) from to refl refl refl)
-
-    pub few-before : Edged first offsets deltas → at ≡ getD offsets slot 0 → at ≤ maxNumbers
-    few-before r e =
+    pub few-before : (at : ℕ) → Edged first offsets deltas → at ≡ getD offsets slot 0 → at ≤ maxNumbers
+    few-before at r e =
         let from = getD offsets slot 0 in
         let to = getD offsets (slot + 1) 0 in
         let k : from ≤ to = slot-order first offsets deltas r slot h (eventOf first slot) from to refl refl refl in
         let l : to ≤ length deltas = slot-inside first offsets deltas r slot h (eventOf first slot) from to refl refl refl in
         omega (arith, r .few)
 
-  module _ (h : length offsets ≤ slot + 1) where
-    no-rest : rest first offsets deltas slot ≡ []
-    no-rest = drop-of-length-le (targetsFrom first 0 (cut offsets deltas)) {i = slot} (omega (arith, cut-length offsets deltas, length-targets first 0 (cut offsets deltas)))
+-- the end of the loop over slots: what was to be written is written, with the slot that is left over
+module _ (first : ℕ) (offsets : List ℕ) (deltas : List ℤ) (slot at : ℕ) where
+  pub all-written : {t : List ℕ} (out : List ℕ) → length offsets ≤ slot + 1 → t ≡ sets out at (onward first offsets deltas slot) → out ≡ t
+  all-written out h e = rw (e, no-more first offsets deltas slot h)
 
-    pub slots-all-written : {t : List ℕ} (out : List ℕ) → t ≡ sets out at (joined (rest first offsets deltas slot)) → out ≡ t
-    unfolding joined
-    slots-all-written out e = rw (e, no-rest)
+  pub all-counted : {n : ℕ} → length offsets ≤ slot + 1 → n ≡ at + length (onward first offsets deltas slot) → at ≡ n
+  all-counted h e = rw (e, no-more first offsets deltas slot h) (omega arith)
 
-    pub slots-all-counted : {n : ℕ} → n ≡ at + length (joined (rest first offsets deltas slot)) → at ≡ n
-    unfolding joined
-    slots-all-counted e = rw (e, no-rest) (omega arith)
+  module _ (h : slot + 1 < length offsets) (k : length offsets ≤ slot + 2) where
+    pub last-written : {t : List ℕ} (was out : List ℕ) → t ≡ sets was at (onward first offsets deltas slot) → out ≡ sets was at (getD (targetsFrom first 0 (cut offsets deltas)) slot []) → out ≡ t
+    last-written was out e g = rw (e, g, this-alone first offsets deltas slot h k)
+
+    pub last-counted : {n : ℕ} (r : ℕ) → n ≡ at + length (onward first offsets deltas slot) → r ≡ at + length (getD (targetsFrom first 0 (cut offsets deltas)) slot []) → r ≡ n
+    last-counted r e g = rw (e, g, this-alone first offsets deltas slot h k)
 
 module _ (first : ℕ) (offsets : List ℕ) (deltas : List ℤ) (r : Edged first offsets deltas) where
   pub has-offset : 0 < length offsets

@@ -3,8 +3,8 @@ use super::delta;
 use super::refusal::Refusal;
 ghost use mathlib.Core.Path.{_≡_};
 ghost use mathlib.Core.Bool.{true, _&&_};
-ghost use mathlib.Core.List.{[], _∷_, map};
-ghost use Prim.Native.Nat.{_+_, _-_, _<_, _≤_};
+ghost use mathlib.Core.List.{[], _∷_, _++_, map};
+ghost use Prim.Native.Nat.{_+_, _-_, _%_, _<_, _≤_};
 ghost use lib.Dec.{ltb};
 ghost use lib.ListN.{length, getD, drop, set};
 ghost use lib.Seq.{slice, sets};
@@ -123,17 +123,40 @@ fn is_slot_sound(
     all_sound(set, end, event(first, slot), deltas, from, to)
 }
 
-// The same of every slot.
+// The same of a slot and the next one, which are of one row.
+fn is_row_sound(
+    set: u64,
+    first: u64,
+    end: u64,
+    offsets: &[u64],
+    deltas: &[i64],
+    slot: usize,
+) -> bool
+    requires { ⌜ (slot + 2 < length (now offsets)) × (fromTo 0 (length (now deltas)) (now offsets) ≡ true) ⌝ }
+    ensures { λ r. ⌜ r ≡ (ltb (eventOf first slot) end64 && all (sound set end (eventOf first slot)) (getD (cut (now (offsets .entry)) (now (deltas .entry))) slot [] ++ getD (cut (now (offsets .entry)) (now (deltas .entry))) (slot + 1) [])) ⌝ }
+{
+    if !has_event(first, slot) {
+        return false;
+    }
+    let from = index(offsets[slot]);
+    let to = index(offsets[slot + 2]);
+    all_sound(set, end, event(first, slot), deltas, from, to)
+}
+
+// The same of every slot: row by row, and of the slot that is left over.
 fn are_sound(set: u64, first: u64, end: u64, offsets: &[u64], deltas: &[i64]) -> bool
     requires { ⌜ fromTo 0 (length (now deltas)) (now offsets) ≡ true ⌝ }
     ensures { λ r. ⌜ r ≡ soundFrom set first end 0 (cut (now (offsets .entry)) (now (deltas .entry))) ⌝ }
 {
     let mut slot = 0;
-    while slot + 1 < offsets.len() {
-        if !is_slot_sound(set, first, end, offsets, deltas, slot) {
+    while slot + 2 < offsets.len() {
+        if !is_row_sound(set, first, end, offsets, deltas, slot) {
             return false;
         }
-        slot += 1;
+        slot += 2;
+    }
+    if slot + 1 < offsets.len() {
+        return is_slot_sound(set, first, end, offsets, deltas, slot);
     }
     true
 }
@@ -317,6 +340,31 @@ fn write_targets(
     past
 }
 
+// The same in a slice that has the room, which is not asked again at each target.
+fn write_within(
+    event: u64,
+    deltas: &[i64],
+    from: usize,
+    to: usize,
+    out: &mut [u64],
+    at: usize,
+) -> usize
+    requires { ⌜ (from ≤ to) × ((to ≤ length (now deltas)) × ((length (now deltas) ≤ maxNumbers) × (at ≤ maxNumbers))) ⌝ }
+    requires { ⌜ all (named event) (slice from to (now deltas)) ≡ true ⌝ }
+    requires { ⌜ at + (to - from) ≤ length (now out) ⌝ }
+    ensures { λ r. ⌜ r ≡ at + (to - from) ⌝ }
+    ensures { λ _. ⌜ now (out .exit) ≡ sets (now (out .entry)) at (map (targetOf event) (slice from to (now (deltas .entry)))) ⌝ }
+{
+    let mut past = at;
+    let mut i = from;
+    while i < to {
+        out[past] = delta::target(event, deltas[i]);
+        past += 1;
+        i += 1;
+    }
+    past
+}
+
 // Writes the targets of a slot.
 pub fn write_slot(
     first: u64,
@@ -336,7 +384,29 @@ pub fn write_slot(
     write_targets(event(first, slot), deltas, from, to, out, at)
 }
 
-// Writes the targets of all slots.
+// Writes the targets of a slot and the next one, which are of one row.
+fn write_row(
+    first: u64,
+    offsets: &[u64],
+    deltas: &[i64],
+    slot: usize,
+    out: &mut [u64],
+    at: usize,
+) -> usize
+    requires { ⌜ (slot % 2 ≡ 0) × ((slot + 2 < length (now offsets)) × (at ≤ maxNumbers)) ⌝ }
+    requires { ⌜ Edged first (now offsets) (now deltas) ⌝ }
+    ensures { λ r. ⌜ r ≡ at + length (getD (targetsFrom first 0 (cut (now (offsets .entry)) (now (deltas .entry)))) slot [] ++ getD (targetsFrom first 0 (cut (now (offsets .entry)) (now (deltas .entry)))) (slot + 1) []) ⌝ }
+    ensures { λ _. ⌜ now (out .exit) ≡ sets (now (out .entry)) at (getD (targetsFrom first 0 (cut (now (offsets .entry)) (now (deltas .entry)))) slot [] ++ getD (targetsFrom first 0 (cut (now (offsets .entry)) (now (deltas .entry)))) (slot + 1) []) ⌝ }
+{
+    let from = index(offsets[slot]);
+    let to = index(offsets[slot + 2]);
+    if at + (to - from) <= out.len() {
+        return write_within(event(first, slot), deltas, from, to, out, at);
+    }
+    write_targets(event(first, slot), deltas, from, to, out, at)
+}
+
+// Writes the targets of all slots: row by row, and those of the slot that is left over.
 fn write_set(first: u64, offsets: &[u64], deltas: &[i64], out: &mut [u64]) -> usize
     requires { ⌜ Edged first (now offsets) (now deltas) ⌝ }
     ensures { λ r. ⌜ r ≡ length (joined (targetsFrom first 0 (cut (now (offsets .entry)) (now (deltas .entry))))) ⌝ }
@@ -344,9 +414,12 @@ fn write_set(first: u64, offsets: &[u64], deltas: &[i64], out: &mut [u64]) -> us
 {
     let mut at = 0;
     let mut slot = 0;
-    while slot + 1 < offsets.len() {
-        at = write_slot(first, offsets, deltas, slot, out, at);
-        slot += 1;
+    while slot + 2 < offsets.len() {
+        at = write_row(first, offsets, deltas, slot, out, at);
+        slot += 2;
+    }
+    if slot + 1 < offsets.len() {
+        return write_slot(first, offsets, deltas, slot, out, at);
     }
     at
 }

@@ -1,17 +1,18 @@
 -- `columns::reading::are_sound` meets its contract.
 use mathlib.Core.Path.{_≡_}
-use Prim.Native.Nat.{_-_, _<_}
+use Prim.Native.Nat.{_-_, _%_, _<_}
 use lib.ListN.{length, drop}
 use borrow.Author.Needs.{needs}
 use Rattle.columns.specs.EdgeSet.{cut}
 use Rattle.columns.specs.Reading.{soundFrom}
 use Rattle.columns.proofs.Offsets.{some-offset}
-use Rattle.columns.proofs.Turns.{slots-done, slots-stop, slots-on}
+use Rattle.columns.proofs.Turns.{slots-done, slots-last}
+use Rattle.columns.proofs.Rows.{rows-stop, rows-on}
 use Rattle.columns.proofs.reading.are_sound.Statement.{statement}
 use Rattle.columns.proofs.reading.are_sound.Tie as tie
 
 abbrev Inv-loop : tie.InvT-loop
-Inv-loop set first end offsets deltas slot₀ slot = (slot < length offsets) × (soundFrom set first end 0 (cut offsets deltas) ≡ soundFrom set first end slot (drop slot (cut offsets deltas)))
+Inv-loop set first end offsets deltas slot₀ slot = (slot % 2 ≡ 0) × (slot < length offsets) × (soundFrom set first end 0 (cut offsets deltas) ≡ soundFrom set first end slot (drop slot (cut offsets deltas)))
 
 abbrev μ-loop : tie.MeasureT-loop
 μ-loop set first end offsets deltas slot₀ slot = length offsets - slot
@@ -22,11 +23,11 @@ loop-holds c = search (needs, some-offset)
 add-loop : tie.Need-add-loop Inv-loop μ-loop
 add-loop c = search needs
 
-is-slot-sound-requires : tie.Need-is-slot-sound-requires Inv-loop μ-loop
-is-slot-sound-requires c κs = search needs
+is-row-sound-requires : tie.Need-is-row-sound-requires Inv-loop μ-loop
+is-row-sound-requires c κs = search needs
 
 returns : tie.Need-returns Inv-loop μ-loop
-returns c = search slots-stop
+returns c = search rows-stop
 
 add-slot : tie.Need-add-slot Inv-loop μ-loop
 add-slot c = search needs
@@ -35,10 +36,19 @@ loop-less : tie.Need-loop-less Inv-loop μ-loop
 loop-less c = search needs
 
 loop-again : tie.Need-loop-again Inv-loop μ-loop
-loop-again c = search (needs, slots-on)
+loop-again c = search (needs, rows-on)
+
+add-if2 : tie.Need-add-if2 Inv-loop μ-loop
+add-if2 c = search needs
+
+is-slot-sound-requires : tie.Need-is-slot-sound-requires Inv-loop μ-loop
+is-slot-sound-requires c κs = search needs
 
 returns-2 : tie.Need-returns-2 Inv-loop μ-loop
-returns-2 c = search slots-done
+returns-2 c = search slots-last
+
+returns-3 : tie.Need-returns-3 Inv-loop μ-loop
+returns-3 c = search slots-done
 
 pub are-sound-spec : {M : Type 1} → statement M
 are-sound-spec =
@@ -48,9 +58,12 @@ are-sound-spec =
     μ-loop
     loop-holds
     add-loop
-    is-slot-sound-requires
+    is-row-sound-requires
     returns
     add-slot
     loop-less
     loop-again
-    returns-2)
+    add-if2
+    is-slot-sound-requires
+    returns-2
+    returns-3)

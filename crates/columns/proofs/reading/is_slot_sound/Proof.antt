@@ -1,7 +1,7 @@
 -- `columns::reading::is_slot_sound` meets its contract.
 use borrow.Author.Needs.{needs}
-use Rattle.columns.proofs.Offsets.{inside}
-use Rattle.columns.proofs.Turns.{no-event, an-event, slot-tells}
+use Rattle.columns.proofs.Offsets.{slot-cut, inside}
+use Rattle.columns.proofs.Turns.{no-event, an-event, deltas-tell}
 use Rattle.columns.proofs.reading.is_slot_sound.Statement.{statement}
 use Rattle.columns.proofs.reading.is_slot_sound.Tie as tie
 
@@ -39,7 +39,7 @@ all-sound-requires : tie.Need-all-sound-requires
 all-sound-requires c κs = search inside
 
 returns-2 : tie.Need-returns-2
-returns-2 c = search slot-tells
+returns-2 c = search (deltas-tell, slot-cut)
 
 pub is-slot-sound-spec : {M : Type 1} → statement M
 is-slot-sound-spec =

@@ -1,21 +1,12 @@
 -- `columns::reading::write_targets` meets its contract.
-use mathlib.Core.Path.{_≡_}
-use mathlib.Core.Bool.{true}
-use mathlib.Core.List.{map}
-use Prim.Native.Nat.{_≤_, _+_, _-_}
-use lib.ListN.{length}
-use lib.Seq.{slice, sets}
+use Prim.Native.Nat.{_-_}
 use borrow.Author.Needs.{needs}
-use Rattle.lists.specs.Lists.{all}
-use Rattle.columns.specs.EdgeSet.{targetOf}
-use Rattle.columns.specs.Answers.{named}
-use Rattle.columns.proofs.Writes.{this-named, rest-named, one-target, same-size, targets-done}
+use Rattle.columns.proofs.Writes.{Writing, target-put, this-named, targets-done}
 use Rattle.columns.proofs.reading.write_targets.Statement.{statement}
 use Rattle.columns.proofs.reading.write_targets.Tie as tie
 
 abbrev Inv-loop : tie.InvT-loop
-Inv-loop event deltas from to out₀ at past₀ i₀ out past i = (from ≤ i) × (i ≤ to) × (past ≡ at + (i - from)) × (length out ≡ length out₀) × (all (named event) (slice i to deltas) ≡ true)
-    × (sets out₀ at (map (targetOf event) (slice from to deltas)) ≡ sets out past (map (targetOf event) (slice i to deltas)))
+Inv-loop event deltas from to out₀ at past₀ i₀ out past i = Writing event deltas from to out₀ at out past i
 
 abbrev μ-loop : tie.MeasureT-loop
 μ-loop event deltas from to out₀ at past₀ i₀ out past i = to - i
@@ -49,14 +40,7 @@ loop-again c =
     let after = c .before .before in
     let told = after .before .before in
     let turn = told .before .before in
-    let start = turn .before .before .before in (
-      search needs,
-      search needs,
-      search needs,
-      search same-size,
-      search rest-named,
-      one-target _ _ _ _ (turn .loop-test .taken) (start .pre .0 .1 .0) _ _ _ _ (after .put .ensures) (after .before .target .ensures) (record { sfits = told .target-arg .given }) (turn .before .loop .inv .5),
-    )
+    target-put _ _ _ _ _ _ _ _ _ (turn .before .loop .inv) (turn .loop-test .taken) (turn .before .before .before .pre .0 .1 .0) (record { sfits = told .target-arg .given }) _ (after .before .target .ensures) _ (after .put .ensures)
 
 same-length : tie.Need-same-length Inv-loop μ-loop
 same-length c = search needs
