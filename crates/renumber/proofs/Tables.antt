@@ -1,20 +1,21 @@
 -- A table of offsets that climbs from 0 to a count: its slots lie one after the other in the column, and what they cut out joins to a part of it.
-use mathlib.Core.Path.{_≡_, refl, sym, _∙_, ap}
+use mathlib.Core.Path.{_≡_, refl, sym, ap}
 use mathlib.Core.Bool.{true}
-use mathlib.Core.List.{List, [], _∷_, _++_}
+use mathlib.Core.List.{List, [], _∷_}
 use Prim.Native.Nat.{ℕ, zero, suc, _≤_, _<_, _+_, _-_, _*_}
 use native.Mathlib.Nat.{le-refl, le-trans, add-zero}
 use native.Mathlib.Numerals.{add-one}
 use native.Mathlib.Omega.{arith}
 use lib.Dec.{leb, eqb}
-use lib.ListN.{length, getD, take, drop, length-take, take-append-drop}
-use lib.Seq.{slice, slice-empty, take-take, drop-append-le, drop-cons}
+use lib.ListN.{length, getD}
+use lib.Seq.{slice, slice-empty, drop-cons}
 use borrow.Author.Tests.{leb-true, eqb-true}
 use Rattle.lists.specs.Lists.{joined, part}
 use Rattle.lists.specs.Order.{climbsTo}
 use Rattle.lists.proofs.Tests.{both}
 use Rattle.columns.specs.Limits.{kinds}
 use Rattle.columns.specs.EdgeSet.{fromTo, offsetsForm, cutFrom, cut}
+use Rattle.columns.proofs.Offsets.{slice-join}
 
 -- ── climbing ─────────────────────────────────────────────────────────────────────────────────
 
@@ -73,11 +74,6 @@ pub cut-length : (os all : List ℕ) → length (cut os all) ≡ length os - 1
 unfolding cut
 cut-length [] all = refl
 cut-length (a ∷ bs) all = rw (cutFrom-length a bs all) (omega arith)
-
-slice-join : (a b c : ℕ) (l : List ℕ) → a ≤ b → b ≤ c → c ≤ length l → slice a b l ++ slice b c l ≡ slice a c l
-slice-join a b c l h i j =
-    let whole : take b (take c l) ++ drop b (take c l) ≡ take c l = take-append-drop b (take c l) in
-    rw (← take-take b c l i) (sym (drop-append-le a (take b (take c l)) (drop b (take c l)) (simp (length-take, length-take) (omega arith))) ∙ ap (drop a) whole)
 
 -- the lists of n slots, joined, are what lies between the first one's start and the last one's end
 pub joined-slots : (count : ℕ) (os all : List ℕ) → fromTo 0 count os ≡ true → count ≤ length all → (n s : ℕ) → s + n < length os

@@ -1,8 +1,8 @@
 -- Edges of a granule: event minus target as a number of signed 64 bits, and one turn over targets, slots and edges.
-use mathlib.Core.Path.{_≡_, refl, sym, ap}
+use mathlib.Core.Path.{_≡_, refl, ap}
 use mathlib.Core.Bool.{Bool, true, false, not, _&&_}
 use mathlib.Core.Logic.{inl, inr}
-use mathlib.Core.List.{List, [], _∷_, _++_, map}
+use mathlib.Core.List.{List, [], _∷_, map}
 use Prim.Native.Nat.{ℕ, zero, suc, _+_, _-_, _*_, _/_, _≤_, _<_}
 use native.Mathlib.Numerals.{add-one}
 use native.Mathlib.Omega.{arith}
@@ -15,6 +15,7 @@ use Rattle.lists.specs.Lists.{all, part, joined}
 use Rattle.lists.proofs.Tests.{tested}
 use Rattle.columns.specs.EdgeSet.{offsetsForm, cut, eventOf, deltaOf, deltasFrom}
 use Rattle.columns.specs.Building.{fits63, deltasFit}
+use Rattle.columns.proofs.Rows.{all-append}
 use Rattle.spans.specs.Spanned.{spansFit, slotsFit}
 use Rattle.rules.proofs.SlotTables.{table-of, length-cut, getD-cut}
 use Rattle.rules.proofs.ParentTurns.{slice-none}
@@ -81,15 +82,6 @@ module _ (rows from q : ℕ) (offsets targets : List ℕ) (ok : offsetsForm rows
   gran-says first a b x y e =
       let d : first + from + q / 2 ≡ first + (from + q / 2) = omega arith in
       rw (getD-cut (2 * rows) offsets targets (table-of rows (length targets) offsets ok .long) (2 * from + q) h, d, ← x, ← y) e
-
-all-append : {A : Type 0} (p : A → Bool) (s t : List A) → all p (s ++ t) ≡ (all p s && all p t)
-unfolding all
-all-append p [] t = refl
-all-append p (x ∷ xs) t = rw (all-append p xs t) (sym (assoc (p x) (all p xs) (all p t)))
-  where
-    assoc : (a b c : Bool) → ((a && b) && c) ≡ (a && (b && c))
-    assoc true b c = refl
-    assoc false b c = refl
 
 pub fit-slots : (first slot : ℕ) (lists : List (List ℕ)) → all fits63 (joined (deltasFrom first slot lists)) ≡ slotsFit first slot lists
 unfolding joined deltasFrom slotsFit spansFit all
