@@ -1,34 +1,36 @@
--- What building is lent of columns by value: parts of them, records as columns, the depth of a group.
+-- What building is lent of columns: parts of them, records as columns, the depth of a group.
 use mathlib.Core.Path.{_≡_, refl, sym, _∙_, ap}
-use mathlib.Core.Bool.{Bool}
+use mathlib.Core.Bool.{Bool, true}
 use mathlib.Core.List.{List, [], _∷_, map, map-map}
 use Prim.Native.Nat.{ℕ, _+_, _-_, _*_, _≤_, _<_}
 use native.Mathlib.Numerals.{add-one}
 use native.Mathlib.Omega.{arith}
+use lib.IntN.{ℤ}
 use lib.ListN.{length, getD, set, take, drop, replicate, length-replicate, replicate-append-replicate, length-take, length-drop}
 use lib.Seq.{take-at, take-suc, take-suc-set, length-take-le}
 use borrow.Author.Tests.{eq-eqb, ne-eqb}
 use Rattle.lists.specs.Lists.{part, upFrom}
 use Rattle.lists.proofs.Each.{each-all}
 use Rattle.lists.proofs.Flat.{map-ext, length-map-upFrom}
-use Rattle.columns.specs.EdgeSet.{cut}
+use Rattle.columns.specs.EdgeSet.{offsetsForm, cut}
 use Rattle.records.specs.Recorded.{depthOf, labelsGiven}
 use Rattle.records.specs.declared.groups.Depth as given
 use Rattle.records.specs.declared.groups.Depth.the-variants.{Unknown, Between}
 use Rattle.archive.specs.File.{Unresolved}
 use Rattle.cleaning.specs.Writing.{unresolvedColumns}
 use Rattle.cleaning.proofs.Parts.{map-part}
-use Rattle.held.specs.declared.Subject.{Subject}
 use Rattle.held.specs.declared.Groups.{Groups}
-use Rattle.held.specs.declared.Rows.{Rows}
-use Rattle.held.specs.declared.Edges.{Edges}
 use Rattle.held.specs.declared.Unresolved as held
 use Rattle.held.specs.declared.Sheet.{Sheet}
 use Rattle.held.specs.View.{hasCover, factsAt, listed, unresolvedAt, slotsIn}
-use Rattle.section_sets.specs.Parted.{partGraph, judged}
+use Rattle.held.proofs.ColumnTurns.{form-cut}
+use Rattle.tidying.specs.Long.{LongSheet}
+use Rattle.encoding.specs.declared.kept.Encoded.{Encoded}
+use Rattle.section_sets.specs.Parted.{partGraph, judged, Answers}
 use Rattle.group_sets.specs.declared.GroupSets.{GroupSets}
-use Rattle.group_sets.specs.ByVerdict.{SetsBy}
-use Rattle.group_sets.specs.ColumnGraphs.{rowsGraph, groupGraph}
+use Rattle.group_sets.specs.ByVerdict.{SetsBy, lentSets}
+use Rattle.group_sets.specs.ColumnGraphs.{rowsGraph, groupGraph, Lends, LongColumns, LongSlices}
+use Rattle.group_sets.proofs.SetSizes.{sets-lent}
 
 -- ── parts of columns ─────────────────────────────────────────────────────────────────────────
 
@@ -92,21 +94,43 @@ module _ (groups : Groups) (g : ℕ) where
   unfolding depthOf factsAt
   depth-known e = rw (ne-eqb (getD (groups .known) g 0) 0 e)
 
--- what is lent of columns by value
-pub rows-built : (subject : Subject) (start : ℕ) (rows : Rows) (edges : Edges) (u : held.Unresolved) (ks : List ℕ) (depth : given.Depth) (labelled : Bool) (a n : ℕ) (r : GroupSets)
-    → u .count ≤ 1024 → length (u .children) ≡ 1024 → take (u .count) ks ≡ map (λ v. v .kind) (listed (unresolvedAt u) (u .count))
-    → SetsBy (judged (partGraph (take (subject .length) (subject .bytes)) start (rows .count) (cut (take (2 * rows .count + 1) (edges .offsets)) (take (edges .count) (edges .targets)))
+-- what is lent of columns, each up to its count
+pub rows-lent : (bytes : List ℕ) (size start total : ℕ) (offsets targets : List ℕ) (count : ℕ) (u : held.Unresolved) (ks : List ℕ) (depth : given.Depth) (labelled : Bool) (chains seqs : List ℕ) (a n : ℕ)
+    (r : Encoded) (fo : List ℕ) (fd : List ℤ) (ro : List ℕ) (rd : List ℤ) (io : List ℕ) (id : List ℤ) (fo′ : List ℕ) (fd′ : List ℤ) (ro′ : List ℕ) (rd′ : List ℤ) (io′ : List ℕ) (id′ : List ℤ)
+    → a + n ≤ total → total ≤ 1024 → count ≤ 4096 → offsetsForm total count (take (2 * total + 1) offsets) ≡ true
+    → u .count ≤ 1024 → length (u .children) ≡ 1024 → take (u .count) ks ≡ map (λ v. v .kind) (listed (unresolvedAt u) (u .count)) → length targets ≡ 4096 → LongSlices fo fd ro rd io id
+    → Answers (judged (partGraph (take size bytes) start total (cut (take (2 * total + 1) offsets) (take count targets))
     (record { children = take (u .count) (u .children); kindsGiven = take (u .count) ks; flags = take (u .count) (replicate 1024 0) }) (depthOf depth)
-    (labelsGiven labelled (take (a + n - a) (drop a (rows .chains))) (take (a + n - a) (drop a (rows .seqs)))) a n)) n r
-    → SetsBy (judged (rowsGraph subject start rows edges (listed (unresolvedAt u) (u .count)) (depthOf depth) labelled a n)) n r
-unfolding rowsGraph slotsIn part unresolvedColumns
-rows-built subject start rows edges u ks depth labelled a n r h l e q =
+    (labelsGiven labelled (take (a + n - a) (drop a chains)) (take (a + n - a) (drop a seqs))) a n)) r fo fd ro rd io id fo′ fd′ ro′ rd′ io′ id′
+    → SetsBy (judged (rowsGraph (take size bytes) start total (cut (take (2 * total + 1) offsets) (take count targets)) (listed (unresolvedAt u) (u .count)) (depthOf depth) labelled chains seqs a n)) n
+    (lentSets r fo′ fd′ ro′ rd′ io′ id′)
+unfolding rowsGraph part unresolvedColumns
+rows-lent bytes size start total offsets targets count u ks depth labelled chains seqs a n r fo fd ro rd io id fo′ fd′ ro′ rd′ io′ id′ h k m form few l e d long q =
     let z : a + n - a ≡ n = omega arith in
-    rw (children-are u h l, e, flags-are u h, z) at q
+    rw (children-are u few l, e, flags-are u few, z) at
+    (sets-lent r long (take size bytes) start total (take (2 * total + 1) offsets) (take count targets)
+    (record { children = take (u .count) (u .children); kindsGiven = take (u .count) ks; flags = take (u .count) (replicate 1024 0) }) (depthOf depth)
+    (labelsGiven labelled (take (a + n - a) (drop a chains)) (take (a + n - a) (drop a seqs))) a n h k (prefix-few count 4096 targets m) (form-cut total count (take (2 * total + 1) offsets) targets m d form) q)
 
--- what is given with the rows of a group
-pub group-built : (s : Sheet) (us : List Unresolved) (g : ℕ) (depth : given.Depth) (labelled : Bool) (a n : ℕ) (r : GroupSets)
-    → depthOf depth ≡ (factsAt (s .groups) g) .depth → labelled ≡ hasCover (s .groups) g
-    → SetsBy (judged (rowsGraph (s .subject) (s .start) (s .rows) (s .edges) us (depthOf depth) labelled a n)) n r → SetsBy (judged (groupGraph s us g a n)) n r
-unfolding groupGraph
-group-built s us g depth labelled a n r d l q = rw (d, l) at q
+-- what is lent of a sheet
+module _ (s : Sheet) {bytes : List ℕ} {size start total : ℕ} {offsets targets : List ℕ} {count : ℕ} {chains seqs : List ℕ} {groups : Groups}
+    (w : Lends s bytes size start total offsets targets count chains seqs groups) where
+  pub lent-form : offsetsForm (s .rows .count) (s .edges .count) (take (2 * s .rows .count + 1) (s .edges .offsets)) ≡ true → offsetsForm total count (take (2 * total + 1) offsets) ≡ true
+  lent-form e = rw (w .total-is, w .count-is, w .offsets-are) e
+
+  pub lent-long : LongSheet s → LongColumns bytes offsets targets chains seqs
+  lent-long l = record {
+    bytes-long = ap length (w .bytes-are) ∙ l .subject;
+    offsets-long = ap length (w .offsets-are) ∙ l .edges .offsets;
+    targets-long = ap length (w .targets-are) ∙ l .edges .targets;
+    chains-long = ap length (w .chains-are) ∙ l .rows .chains;
+    seqs-long = ap length (w .seqs-are) ∙ l .rows .seqs;
+  }
+
+  -- what is given with the rows of a group
+  pub group-built : (us : List Unresolved) (g : ℕ) (depth : given.Depth) (labelled : Bool) (a n : ℕ) (r : GroupSets) → depthOf depth ≡ (factsAt groups g) .depth → labelled ≡ hasCover groups g
+      → SetsBy (judged (rowsGraph (take size bytes) start total (cut (take (2 * total + 1) offsets) (take count targets)) us (depthOf depth) labelled chains seqs a n)) n r
+      → SetsBy (judged (groupGraph s us g a n)) n r
+  unfolding groupGraph slotsIn
+  group-built us g depth labelled a n r d l q =
+      rw (d, l, w .bytes-are, w .size-is, w .start-is, w .total-is, w .offsets-are, w .targets-are, w .count-is, w .chains-are, w .seqs-are, w .groups-are) at q

@@ -1,4 +1,4 @@
--- How long the columns of the three sets of some rows are, and sets by value out of what building leaves in six columns.
+-- How long the columns of the three sets of some rows are, and the sets that building leaves in six slices.
 use mathlib.Core.Path.{_≡_, refl, sym, _∙_, ap}
 use mathlib.Core.Bool.{Bool, true}
 use mathlib.Core.Logic.{inl, inr}
@@ -6,13 +6,13 @@ use mathlib.Core.List.{List, [], _∷_, _++_, map}
 use mathlib.Core.Option.{Option, none, some}
 use Prim.Native.Nat.{ℕ, suc, _+_, _-_, _*_, _≤_}
 use native.Mathlib.Omega.{arith}
-use lib.IntN.{ℤ, pos}
-use lib.ListN.{length, take, drop, length-append, length-map, take-append-drop, replicate, length-replicate}
+use lib.IntN.{ℤ}
+use lib.ListN.{length, take, drop, length-append, length-map, take-append-drop}
 use lib.Seq.{sets, sets-eq, take-at, drop-drop}
 use Rattle.lists.specs.Lists.{flat, filter, joined, starts, part, upFrom}
 use Rattle.lists.proofs.Tests.{tested}
 use Rattle.lists.proofs.Flat.{flat-append, joined-append, length-starts}
-use Rattle.columns.specs.Refusal.{unless}
+use Rattle.columns.specs.Refusal.{Verdict, refused, accepted, unless}
 use Rattle.columns.specs.EdgeSet.{EdgeSet, offsetsForm, cut, setOf}
 use Rattle.columns.specs.Reading.{Labels}
 use Rattle.columns.specs.Building.{UnresolvedColumns, Depth, Built, inFile, reverseLists, inboundLists, forwardPart, reversePart, inboundPart, buildRules, builtOf}
@@ -35,7 +35,9 @@ use Rattle.sections.specs.Laid.{edgesOfRow}
 use Rattle.section_sets.specs.Parted.{partGraph, judged, Answers}
 use Rattle.out_file.specs.declared.Sets.{Sets}
 use Rattle.out_file.specs.View.{setIn, builtIn}
-use Rattle.group_sets.specs.ByVerdict.{SetsBy}
+use Rattle.out_file.specs.Lent.{setsOf}
+use Rattle.group_sets.specs.ByVerdict.{SetsBy, lentSets}
+use Rattle.group_sets.specs.ColumnGraphs.{LongSlices}
 
 -- ── no more edges than numbers ───────────────────────────────────────────────────────────────
 
@@ -146,7 +148,7 @@ module _ (subject : List ℕ) (start total : ℕ) (offsets targets : List ℕ) (
             ));
       }
 
--- ── sets by value ────────────────────────────────────────────────────────────────────────────
+-- ── sets in lent slices ──────────────────────────────────────────────────────────────────────
 
 -- what is laid from the start on
 front : {A : Type 0} (xs was col : List A) (m : ℕ) → length xs ≡ m → m ≤ length was → col ≡ sets was 0 xs → take m col ≡ xs
@@ -154,72 +156,54 @@ front xs was col m e h q =
     let z : col ≡ xs ++ drop (0 + length xs) was = q ∙ sets-eq xs was 0 (omega arith) in
     rw z (take-at xs (drop (0 + length xs) was) m e)
 
-set-laid : (n : ℕ) (s : EdgeSet) (c : ℕ) (fo : List ℕ) (fd : List ℤ) → Sized n s → n ≤ 1024 → c ≡ s .count
-    → fo ≡ sets (replicate 2049 0) 0 (s .offsets) → fd ≡ sets (replicate 4096 (pos 0)) 0 (s .deltas) → setIn n (record { count = c; offsets = fo; deltas = fd }) ≡ s
+set-laid : (n : ℕ) (s : EdgeSet) (fo fo′ : List ℕ) (fd fd′ : List ℤ) → Sized n s → n ≤ 1024 → length fo ≡ 2049 → length fd ≡ 4096
+    → fo′ ≡ sets fo 0 (s .offsets) → fd′ ≡ sets fd 0 (s .deltas) → setIn n (record { count = s .count; offsets = fo′; deltas = fd′ }) ≡ s
 unfolding setIn
-set-laid n s c fo fd w l e f g =
-    let o = front (s .offsets) (replicate 2049 0) fo (2 * n + 1) (w .offsets) (rw (length-replicate {A = ℕ} 2049 0) (omega arith)) f in
-    let d = front (s .deltas) (replicate 4096 (pos 0)) fd c (w .deltas ∙ sym e) (rw (length-replicate {A = ℤ} 4096 (pos 0)) (omega (arith, w .few))) g in
-    λ i. record { count = e i; offsets = o i; deltas = d i }
+set-laid n s fo fo′ fd fd′ w l e f g h =
+    let o = front (s .offsets) fo fo′ (2 * n + 1) (w .offsets) (omega arith) g in
+    let d = front (s .deltas) fd fd′ (s .count) (w .deltas) (omega (arith, w .few)) h in
+    λ i. record { count = s .count; offsets = o i; deltas = d i }
 
--- the six columns that building is lent
-abbrev numbers : List ℕ
-numbers = replicate 2049 0
-
-abbrev spans : List ℤ
-spans = replicate 4096 (pos 0)
-
-module _ (b : Built) (n : ℕ) (w : AllSized n b) (l : n ≤ 1024) (r : Encoded) (fo : List ℕ) (fd : List ℤ) (ro : List ℕ) (rd : List ℤ) (io : List ℕ) (id : List ℤ) where
-  told : (o : Option Refusal) → Answers (unless o b) r numbers spans numbers spans numbers spans fo fd ro rd io id → (c : Counts) → r ≡ Edges c
-      → SetsBy (unless o b) n (record {
-        ruling = Kept;
-        sets = record {
-          forward = record { count = c .forward; offsets = fo; deltas = fd };
-          reverse = record { count = c .reverse; offsets = ro; deltas = rd };
-          inbound = record { count = c .inbound; offsets = io; deltas = id };
-        };
-      })
-  unfolding unless SetsBy encodedOf offsetsLaid deltasLaid builtIn
-  told none q c e =
-      let f : c .forward ≡ b .forward .count = cc (q .answer) in
-      let g : c .reverse ≡ b .reverse .count = cc (q .answer) in
-      let h : c .inbound ≡ b .inbound .count = cc (q .answer) in
-      let x = set-laid n (b .forward) (c .forward) fo fd (w .forward) l f (q .forwardOffsets) (q .forwardDeltas) in
-      let y = set-laid n (b .reverse) (c .reverse) ro rd (w .reverse) l g (q .reverseOffsets) (q .reverseDeltas) in
-      let z = set-laid n (b .inbound) (c .inbound) io id (w .inbound) l h (q .inboundOffsets) (q .inboundDeltas) in
-      record {
+module _ (r : Encoded) {fo : List ℕ} {fd : List ℤ} {ro : List ℕ} {rd : List ℤ} {io : List ℕ} {id : List ℤ} {fo′ : List ℕ} {fd′ : List ℤ} {ro′ : List ℕ} {rd′ : List ℤ}
+    {io′ : List ℕ} {id′ : List ℤ} (long : LongSlices fo fd ro rd io id) where
+  told : (b : Built) (n : ℕ) → AllSized n b → n ≤ 1024 → (o : Option Refusal) → Answers (unless o b) r fo fd ro rd io id fo′ fd′ ro′ rd′ io′ id′
+      → SetsBy (unless o b) n (lentSets r fo′ fd′ ro′ rd′ io′ id′)
+  unfolding unless SetsBy encodedOf offsetsLaid deltasLaid builtIn lentSets
+  told b n w l none q =
+      let x = set-laid n (b .forward) fo fo′ fd fd′ (w .forward) l (long .forward-offsets) (long .forward-deltas) (q .forwardOffsets) (q .forwardDeltas) in
+      let y = set-laid n (b .reverse) ro ro′ rd rd′ (w .reverse) l (long .reverse-offsets) (long .reverse-deltas) (q .reverseOffsets) (q .reverseDeltas) in
+      let z = set-laid n (b .inbound) io io′ id id′ (w .inbound) l (long .inbound-offsets) (long .inbound-deltas) (q .inboundOffsets) (q .inboundDeltas) in
+      rw (q .answer)
+      (record {
         ruling = refl;
         sets = λ i. record { forward = x i; reverse = y i; inbound = z i };
-        forward = omega (arith, w .forward .few);
-        reverse = omega (arith, w .reverse .few);
-        inbound = omega (arith, w .inbound .few);
-      }
-  told (some x) q c e = let z : _≡_ {A = ℕ} 0 1 = cc (q .answer) in absurd (omega arith)
-
-told-broken : (o : Option Refusal) (b : Built) (n : ℕ) (r : Encoded) → r ≡ encodedOf (unless o b) → (x : Refusal) → r ≡ Refused x → (s : Sets)
-    → SetsBy (unless o b) n (record { ruling = Broken x; sets = s })
-unfolding unless SetsBy encodedOf
-told-broken none b n r q x e s = let z : _≡_ {A = ℕ} 0 1 = cc in absurd (omega arith)
-told-broken (some y) b n r q x e s = let z : x ≡ y = cc in ap Broken z
-
-module _ (subject : List ℕ) (start total : ℕ) (offsets targets : List ℕ) (records : UnresolvedColumns) (depth : Option Depth) (labels : Option Labels) (a n : ℕ)
-    (r : Encoded) (fo : List ℕ) (fd : List ℤ) (ro : List ℕ) (rd : List ℤ) (io : List ℕ) (id : List ℤ)
-    (q : Answers (judged (partGraph subject start total (cut offsets targets) records depth labels a n)) r numbers spans numbers spans numbers spans fo fd ro rd io id) where
-  pub sets-refused : (x : Refusal) → r ≡ Refused x → (s : Sets)
-      → SetsBy (judged (partGraph subject start total (cut offsets targets) records depth labels a n)) n (record { ruling = Broken x; sets = s })
-  unfolding judged
-  sets-refused x e s = let g = partGraph subject start total (cut offsets targets) records depth labels a n in told-broken (buildRules g) (builtOf g) n r (q .answer) x e s
-
-  pub sets-built : a + n ≤ total → total ≤ 1024 → length targets ≤ 4096 → offsetsForm total (length targets) offsets ≡ true → (c : Counts) → r ≡ Edges c
-      → SetsBy (judged (partGraph subject start total (cut offsets targets) records depth labels a n)) n (record {
-        ruling = Kept;
-        sets = record {
-          forward = record { count = c .forward; offsets = fo; deltas = fd };
-          reverse = record { count = c .reverse; offsets = ro; deltas = rd };
-          inbound = record { count = c .inbound; offsets = io; deltas = id };
-        };
+        forward = w .forward .few;
+        reverse = w .reverse .few;
+        inbound = w .inbound .few;
       })
+  told b n w l (some x) q = rw (q .answer)
+
+  pub sets-lent : (subject : List ℕ) (start total : ℕ) (offsets targets : List ℕ) (records : UnresolvedColumns) (depth : Option Depth) (labels : Option Labels) (a n : ℕ)
+      → a + n ≤ total → total ≤ 1024 → length targets ≤ 4096 → offsetsForm total (length targets) offsets ≡ true
+      → Answers (judged (partGraph subject start total (cut offsets targets) records depth labels a n)) r fo fd ro rd io id fo′ fd′ ro′ rd′ io′ id′
+      → SetsBy (judged (partGraph subject start total (cut offsets targets) records depth labels a n)) n (lentSets r fo′ fd′ ro′ rd′ io′ id′)
   unfolding judged
-  sets-built h few small ok c e =
+  sets-lent subject start total offsets targets records depth labels a n h few small ok q =
       let g = partGraph subject start total (cut offsets targets) records depth labels a n in
-      told (builtOf g) n (graph-sized subject start total offsets targets records depth labels a n h small ok) (omega arith) r fo fd ro rd io id (buildRules g) q c e
+      told (builtOf g) n (graph-sized subject start total offsets targets records depth labels a n h small ok) (omega arith) (buildRules g) q
+
+-- ── sets by value ────────────────────────────────────────────────────────────────────────────
+
+module _ (v : Verdict Built) (n : ℕ) (r : Encoded) (fo : List ℕ) (fd : List ℤ) (ro : List ℕ) (rd : List ℤ) (io : List ℕ) (id : List ℤ)
+    (q : SetsBy v n (lentSets r fo fd ro rd io id)) where
+  pub value-refused : (x : Refusal) → r ≡ Refused x → (s : Sets) → SetsBy v n (record { ruling = Broken x; sets = s })
+  unfolding SetsBy lentSets
+  value-refused x e s = go v (rw e at q)
+    where
+      go : (v : Verdict Built) → SetsBy v n (lentSets (Refused x) fo fd ro rd io id) → SetsBy v n (record { ruling = Broken x; sets = s })
+      go (refused y) p = p
+      go (accepted b) p = let w = p .ruling in let z : _≡_ {A = ℕ} 0 1 = cc in absurd (omega arith)
+
+  pub value-built : (c : Counts) → r ≡ Edges c → SetsBy v n (record { ruling = Kept; sets = setsOf (c .forward) (c .reverse) (c .inbound) fo fd ro rd io id })
+  unfolding lentSets
+  value-built c e = rw e at q

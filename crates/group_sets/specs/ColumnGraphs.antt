@@ -4,30 +4,60 @@ use mathlib.Core.Bool.{Bool, true}
 use mathlib.Core.List.{List}
 use mathlib.Core.Option.{Option}
 use Prim.Native.Nat.{ℕ, _+_, _*_, _≤_, _<_}
-use lib.ListN.{take}
+use lib.IntN.{ℤ}
+use lib.ListN.{length, take}
 use Rattle.lists.specs.Lists.{part}
-use Rattle.columns.specs.Limits.{maxRecords, maxNumbers, maxGroups, maxSubject, end64}
+use Rattle.columns.specs.Limits.{maxRecords, maxNumbers, maxGroups, maxSubject, offsetsRoom, end64}
 use Rattle.columns.specs.EdgeSet.{offsetsForm}
 use Rattle.columns.specs.Building.{Depth, Graph}
 use Rattle.records.specs.Recorded.{labelsGiven}
 use Rattle.archive.specs.File.{Unresolved}
 use Rattle.cleaning.specs.Writing.{unresolvedColumns}
-use Rattle.held.specs.declared.Subject.{Subject}
-use Rattle.held.specs.declared.Rows.{Rows}
-use Rattle.held.specs.declared.Edges.{Edges}
+use Rattle.held.specs.declared.Groups.{Groups}
 use Rattle.held.specs.declared.Sheet.{Sheet}
 use Rattle.held.specs.View.{hasCover, factsAt, slotsIn}
 use Rattle.section_sets.specs.Parted.{partGraph}
 
 -- n rows from row a on, with their unresolved records
-unfoldable pub rowsGraph : Subject → ℕ → Rows → Edges → List Unresolved → Option Depth → Bool → ℕ → ℕ → Graph
-rowsGraph subject start rows edges us depth labelled a n =
-    partGraph (take (subject .length) (subject .bytes)) start (rows .count) (slotsIn (rows .count) edges) (unresolvedColumns us) depth
-    (labelsGiven labelled (part a n (rows .chains)) (part a n (rows .seqs))) a n
+unfoldable pub rowsGraph : List ℕ → ℕ → ℕ → List (List ℕ) → List Unresolved → Option Depth → Bool → List ℕ → List ℕ → ℕ → ℕ → Graph
+rowsGraph subject start total lists us depth labelled chains seqs a n =
+    partGraph subject start total lists (unresolvedColumns us) depth (labelsGiven labelled (part a n chains) (part a n seqs)) a n
 
 -- n rows of group g from row a on
 unfoldable pub groupGraph : Sheet → List Unresolved → ℕ → ℕ → ℕ → Graph
-groupGraph s us g a n = rowsGraph (s .subject) (s .start) (s .rows) (s .edges) us ((factsAt (s .groups) g) .depth) (hasCover (s .groups) g) a n
+groupGraph s us g a n =
+    rowsGraph (take (s .subject .length) (s .subject .bytes)) (s .start) (s .rows .count) (slotsIn (s .rows .count) (s .edges)) us ((factsAt (s .groups) g) .depth) (hasCover (s .groups) g)
+    (s .rows .chains) (s .rows .seqs) a n
+
+-- the columns and the figures that building is lent of a sheet
+pub record Lends (s : Sheet) (bytes : List ℕ) (size start total : ℕ) (offsets targets : List ℕ) (count : ℕ) (chains seqs : List ℕ) (groups : Groups) : Type 0 where
+  pub bytes-are : bytes ≡ s .subject .bytes
+  pub size-is : size ≡ s .subject .length
+  pub start-is : start ≡ s .start
+  pub total-is : total ≡ s .rows .count
+  pub offsets-are : offsets ≡ s .edges .offsets
+  pub targets-are : targets ≡ s .edges .targets
+  pub count-is : count ≡ s .edges .count
+  pub chains-are : chains ≡ s .rows .chains
+  pub seqs-are : seqs ≡ s .rows .seqs
+  pub groups-are : groups ≡ s .groups
+
+-- how long the columns are
+pub record LongColumns (bytes offsets targets chains seqs : List ℕ) : Type 0 where
+  pub bytes-long : length bytes ≡ maxSubject
+  pub offsets-long : length offsets ≡ offsetsRoom
+  pub targets-long : length targets ≡ maxNumbers
+  pub chains-long : length chains ≡ maxRecords
+  pub seqs-long : length seqs ≡ maxRecords
+
+-- and the six slices that are lent for the sets
+pub record LongSlices (fo : List ℕ) (fd : List ℤ) (ro : List ℕ) (rd : List ℤ) (io : List ℕ) (id : List ℤ) : Type 0 where
+  pub forward-offsets : length fo ≡ offsetsRoom
+  pub forward-deltas : length fd ≡ maxNumbers
+  pub reverse-offsets : length ro ≡ offsetsRoom
+  pub reverse-deltas : length rd ≡ maxNumbers
+  pub inbound-offsets : length io ≡ offsetsRoom
+  pub inbound-deltas : length id ≡ maxNumbers
 
 -- a group and rows that are there, within the limits
 pub record Bounded (s : Sheet) (g a n : ℕ) : Type 0 where

@@ -1,17 +1,15 @@
-// Building's rules and the three edge sets of one group's output file, out of a sheet of survivors.
+// Building's rules and the three edge sets of one group's output file, out of a sheet of survivors: in six lent slices, or by value.
 use bigend::wide;
 use encoding::kept::Encoded;
-use held::Edges;
 use held::Groups;
-use held::Rows;
 use held::Sheet;
-use held::Subject;
 use held::Unresolved;
 use out_file::Set;
 use out_file::Sets;
 use records::groups::Depth;
 use rules::slots::Ruling;
 use section_sets::build_part;
+use tidying::long::sheet_long;
 ghost use mathlib.Core.Path.{_≡_};
 ghost use mathlib.Core.Bool.{true};
 ghost use mathlib.Core.List.{map};
@@ -24,10 +22,10 @@ ghost use Rattle.cleaning.specs.Sections.{sectionStart, sectionRows, sectionUnr
 ghost use Rattle.held.specs.View.{hasCover, factsAt, listed, unresolvedAt, sheetIn};
 ghost use Rattle.held.specs.Valid.{sheetOk};
 ghost use Rattle.tidying.specs.Ordered.{ordered};
-ghost use Rattle.tidying.specs.Long.{LongRows, LongEdges};
-ghost use Rattle.section_sets.specs.Parted.{partGraph, Few, judged};
-ghost use Rattle.group_sets.specs.ByVerdict.{SetsBy};
-ghost use Rattle.group_sets.specs.ColumnGraphs.{rowsGraph, groupGraph, Bounded};
+ghost use Rattle.tidying.specs.Long.{LongSheet};
+ghost use Rattle.section_sets.specs.Parted.{judged};
+ghost use Rattle.group_sets.specs.ByVerdict.{SetsBy, lentSets};
+ghost use Rattle.group_sets.specs.ColumnGraphs.{rowsGraph, LongColumns, LongSlices, Lends};
 
 // The broken rule, if one is, and else the sets.
 pub struct GroupSets {
@@ -49,47 +47,192 @@ fn no_sets() -> Sets {
     }
 }
 
-// Builds the n rows from row a on as a file of their own.
-fn build_sets(
-    subject: &[u8],
+// The depth of a group.
+fn depth_at(groups: Groups, g: usize) -> Depth
+    requires { ⌜ g < 16 ⌝ }
+    ensures { λ r. ⌜ depthOf r ≡ (factsAt groups g) .depth ⌝ }
+{
+    if groups.known[g] == 0 {
+        return Depth::Unknown;
+    }
+    Depth::Between(groups.least[g], groups.greatest[g])
+}
+
+// Whether a group has a cover.
+fn is_covered(groups: Groups, g: usize) -> bool
+    requires { ⌜ g < 16 ⌝ }
+    ensures { λ r. ⌜ r ≡ hasCover groups g ⌝ }
+{
+    groups.covered[g] != 0
+}
+
+fn children_long(u: Unresolved)
+    ensures { λ _. ⌜ length (u .children) ≡ 1024 ⌝ }
+{}
+
+// The kinds of records as wider numbers.
+fn wide_kinds(u: Unresolved) -> [u64; 1024]
+    requires { ⌜ u .count ≤ 1024 ⌝ }
+    ensures { λ r. ⌜ (length r ≡ 1024) × (take (u .count) r ≡ map (λ v. v .kind) (listed (unresolvedAt u) (u .count))) ⌝ }
+{
+    let mut out = [0u64; 1024];
+    let mut i = 0;
+    while i < u.count {
+        out[i] = wide(u.kinds[i]);
+        i += 1;
+    }
+    out
+}
+
+// Builds the n rows from row a on of lent columns, each up to its count.
+fn build_rows(
+    bytes: &[u8],
+    size: usize,
     start: u64,
     total: usize,
     offsets: &[u64],
     targets: &[u64],
-    children: &[u64],
-    kinds: &[u64],
-    flags: &[u64],
-    depth: Depth,
-    labelled: bool,
+    count: usize,
     chains: &[u32],
     seqs: &[u32],
+    u: Unresolved,
+    kinds: [u64; 1024],
+    depth: Depth,
+    labelled: bool,
     a: usize,
     n: usize,
-) -> GroupSets
-    requires { ⌜ (a + n ≤ total) × ((total ≤ 1024) × (start + total < end64)) ⌝ }
-    requires { ⌜ (length (now targets) ≤ 4096) × (offsetsForm total (length (now targets)) (now offsets) ≡ true) ⌝ }
-    requires { ⌜ Few (length (now children)) (length (now kinds)) (length (now flags)) (length (now chains)) (length (now seqs)) ⌝ }
-    ensures { λ r. ⌜ SetsBy (judged (partGraph (now (subject .entry)) start total (cut (now (offsets .entry)) (now (targets .entry))) (record { children = now (children .entry); kindsGiven = now (kinds .entry); flags = now (flags .entry) }) (depthOf depth) (labelsGiven labelled (now (chains .entry)) (now (seqs .entry))) a n)) n r ⌝ }
+    fo: &mut [u64],
+    fd: &mut [i64],
+    ro: &mut [u64],
+    rd: &mut [i64],
+    io: &mut [u64],
+    id: &mut [i64],
+) -> Encoded
+    requires { ⌜ (size ≤ 255) × ((a + n ≤ total) × ((total ≤ 1024) × (start + total < end64))) ⌝ }
+    requires { ⌜ (count ≤ 4096) × (offsetsForm total count (take (2 * total + 1) (now offsets)) ≡ true) ⌝ }
+    requires { ⌜ (u .count ≤ 1024) × ((length (u .children) ≡ 1024) × ((length kinds ≡ 1024) × (take (u .count) kinds ≡ map (λ v. v .kind) (listed (unresolvedAt u) (u .count))))) ⌝ }
+    requires { ⌜ LongColumns (now bytes) (now offsets) (now targets) (now chains) (now seqs) ⌝ }
+    requires { ⌜ LongSlices (now fo) (now fd) (now ro) (now rd) (now io) (now id) ⌝ }
+    ensures { λ r. ⌜ SetsBy (judged (rowsGraph (take size (now (bytes .entry))) start total (cut (take (2 * total + 1) (now (offsets .entry))) (take count (now (targets .entry)))) (listed (unresolvedAt u) (u .count)) (depthOf depth) labelled (now (chains .entry)) (now (seqs .entry)) a n)) n (lentSets r (now (fo .exit)) (now (fd .exit)) (now (ro .exit)) (now (rd .exit)) (now (io .exit)) (now (id .exit))) ⌝ }
 {
+    let flags = [0u64; 1024];
+    let children = u.children;
+    let m = u.count;
+    let k = 2 * total + 1;
+    let b = a + n;
+    build_part(
+        &bytes[..size],
+        start,
+        total,
+        &offsets[..k],
+        &targets[..count],
+        &children[..m],
+        &kinds[..m],
+        &flags[..m],
+        depth,
+        labelled,
+        &chains[a..b],
+        &seqs[a..b],
+        a,
+        n,
+        fo,
+        fd,
+        ro,
+        rd,
+        io,
+        id,
+    )
+}
+
+// Building's rules and the three sets of group g of a sheet, whose columns are lent: its n rows stand from row a on, and its unresolved records are
+// given. The sheet itself is not read.
+pub fn lent_sets<'a>(
+    s: Sheet,
+    bytes: &'a [u8],
+    size: usize,
+    start: u64,
+    total: usize,
+    offsets: &'a [u64],
+    targets: &'a [u64],
+    count: usize,
+    chains: &'a [u32],
+    seqs: &'a [u32],
+    groups: Groups,
+    u: Unresolved,
+    g: usize,
+    a: usize,
+    n: usize,
+    fo: &mut [u64],
+    fd: &mut [i64],
+    ro: &mut [u64],
+    rd: &mut [i64],
+    io: &mut [u64],
+    id: &mut [i64],
+) -> Encoded
+    requires { ⌜ (LongSheet s) × ((sheetOk s ≡ true) × ((ordered s ≡ true) × (g < s .groups .count))) ⌝ }
+    requires { ⌜ (a ≡ sectionStart (sheetIn s) g) × (n ≡ sectionRows (sheetIn s) g) ⌝ }
+    requires { ⌜ (u .count ≤ 1024) × (listed (unresolvedAt u) (u .count) ≡ sectionUnresolved (sheetIn s) g) ⌝ }
+    requires { ⌜ Lends s (now bytes) size start total (now offsets) (now targets) count (now chains) (now seqs) groups ⌝ }
+    requires { ⌜ LongSlices (now fo) (now fd) (now ro) (now rd) (now io) (now id) ⌝ }
+    ensures { λ r. ⌜ SetsBy (judged (sectionGraph (sheetIn s) g)) n (lentSets r (now (fo .exit)) (now (fd .exit)) (now (ro .exit)) (now (rd .exit)) (now (io .exit)) (now (id .exit))) ⌝ }
+{
+    children_long(u);
+    let depth = depth_at(groups, g);
+    let labelled = is_covered(groups, g);
+    let kinds = wide_kinds(u);
+    build_rows(
+        bytes,
+        size,
+        start,
+        total,
+        offsets,
+        targets,
+        count,
+        chains,
+        seqs,
+        u,
+        kinds,
+        depth,
+        labelled,
+        a,
+        n,
+        fo,
+        fd,
+        ro,
+        rd,
+        io,
+        id,
+    )
+}
+
+// The same by value: group g, whose n rows stand from row a on and whose unresolved records are given.
+pub fn group_sets(s: Sheet, u: Unresolved, g: usize, a: usize, n: usize) -> GroupSets
+    requires { ⌜ (sheetOk s ≡ true) × ((ordered s ≡ true) × (g < s .groups .count)) ⌝ }
+    requires { ⌜ (a ≡ sectionStart (sheetIn s) g) × (n ≡ sectionRows (sheetIn s) g) ⌝ }
+    requires { ⌜ (u .count ≤ 1024) × (listed (unresolvedAt u) (u .count) ≡ sectionUnresolved (sheetIn s) g) ⌝ }
+    ensures { λ r. ⌜ SetsBy (judged (sectionGraph (sheetIn s) g)) n r ⌝ }
+{
+    sheet_long(s);
     let mut fo = [0u64; 2049];
     let mut fd = [0i64; 4096];
     let mut ro = [0u64; 2049];
     let mut rd = [0i64; 4096];
     let mut io = [0u64; 2049];
     let mut id = [0i64; 4096];
-    let e = build_part(
-        subject,
-        start,
-        total,
-        offsets,
-        targets,
-        children,
-        kinds,
-        flags,
-        depth,
-        labelled,
-        chains,
-        seqs,
+    let e = lent_sets(
+        s,
+        &s.subject.bytes,
+        s.subject.length,
+        s.start,
+        s.rows.count,
+        &s.edges.offsets,
+        &s.edges.targets,
+        s.edges.count,
+        &s.rows.chains,
+        &s.rows.seqs,
+        s.groups,
+        u,
+        g,
         a,
         n,
         &mut fo,
@@ -130,121 +273,4 @@ fn build_sets(
             }
         }
     }
-}
-
-// Builds the n rows from row a on of columns by value.
-fn build_rows(
-    subject: Subject,
-    start: u64,
-    rows: Rows,
-    edges: Edges,
-    u: Unresolved,
-    kinds: [u64; 1024],
-    depth: Depth,
-    labelled: bool,
-    a: usize,
-    n: usize,
-) -> GroupSets
-    requires { ⌜ (subject .length ≤ 255) × ((a + n ≤ rows .count) × ((rows .count ≤ 1024) × (start + rows .count < end64))) ⌝ }
-    requires { ⌜ (edges .count ≤ 4096) × (offsetsForm (rows .count) (edges .count) (take (2 * rows .count + 1) (edges .offsets)) ≡ true) ⌝ }
-    requires { ⌜ (u .count ≤ 1024) × ((length (u .children) ≡ 1024) × ((length kinds ≡ 1024) × (take (u .count) kinds ≡ map (λ v. v .kind) (listed (unresolvedAt u) (u .count))))) ⌝ }
-    requires { ⌜ (length (subject .bytes) ≡ 255) × (LongRows rows × LongEdges edges) ⌝ }
-    ensures { λ r. ⌜ SetsBy (judged (rowsGraph subject start rows edges (listed (unresolvedAt u) (u .count)) (depthOf depth) labelled a n)) n r ⌝ }
-{
-    let flags = [0u64; 1024];
-    let bytes = subject.bytes;
-    let length = subject.length;
-    let offsets = edges.offsets;
-    let targets = edges.targets;
-    let count = edges.count;
-    let chains = rows.chains;
-    let seqs = rows.seqs;
-    let total = rows.count;
-    let children = u.children;
-    let m = u.count;
-    let k = 2 * total + 1;
-    let b = a + n;
-    build_sets(
-        &bytes[..length],
-        start,
-        total,
-        &offsets[..k],
-        &targets[..count],
-        &children[..m],
-        &kinds[..m],
-        &flags[..m],
-        depth,
-        labelled,
-        &chains[a..b],
-        &seqs[a..b],
-        a,
-        n,
-    )
-}
-
-// The depth of a group.
-fn depth_at(groups: Groups, g: usize) -> Depth
-    requires { ⌜ g < 16 ⌝ }
-    ensures { λ r. ⌜ depthOf r ≡ (factsAt groups g) .depth ⌝ }
-{
-    if groups.known[g] == 0 {
-        return Depth::Unknown;
-    }
-    Depth::Between(groups.least[g], groups.greatest[g])
-}
-
-// Whether a group has a cover.
-fn is_covered(groups: Groups, g: usize) -> bool
-    requires { ⌜ g < 16 ⌝ }
-    ensures { λ r. ⌜ r ≡ hasCover groups g ⌝ }
-{
-    groups.covered[g] != 0
-}
-
-// The kinds of records as wider numbers.
-fn wide_kinds(u: Unresolved) -> [u64; 1024]
-    requires { ⌜ u .count ≤ 1024 ⌝ }
-    ensures { λ r. ⌜ take (u .count) r ≡ map (λ v. v .kind) (listed (unresolvedAt u) (u .count)) ⌝ }
-{
-    let mut out = [0u64; 1024];
-    let mut i = 0;
-    while i < u.count {
-        out[i] = wide(u.kinds[i]);
-        i += 1;
-    }
-    out
-}
-
-// Builds the n rows from row a on of a sheet, with the depth and the labels of group g and with records that are given.
-fn build_group(s: Sheet, u: Unresolved, g: usize, a: usize, n: usize) -> GroupSets
-    requires { ⌜ Bounded s g a n × (u .count ≤ 1024) ⌝ }
-    ensures { λ r. ⌜ SetsBy (judged (groupGraph s (listed (unresolvedAt u) (u .count)) g a n)) n r ⌝ }
-{
-    tidying::long::sheet_long(s);
-    let depth = depth_at(s.groups, g);
-    let labelled = is_covered(s.groups, g);
-    let kinds = wide_kinds(u);
-    build_rows(
-        s.subject,
-        s.start,
-        s.rows,
-        s.edges,
-        u,
-        kinds,
-        depth,
-        labelled,
-        a,
-        n,
-    )
-}
-
-// Group g, whose n rows stand from row a on and whose unresolved records are given.
-pub fn group_sets(s: Sheet, u: Unresolved, g: usize, a: usize, n: usize) -> GroupSets
-    requires { ⌜ (sheetOk s ≡ true) × ((ordered s ≡ true) × (g < s .groups .count)) ⌝ }
-    requires { ⌜ (a ≡ sectionStart (sheetIn s) g) × (n ≡ sectionRows (sheetIn s) g) ⌝ }
-    requires { ⌜ (u .count ≤ 1024) × (listed (unresolvedAt u) (u .count) ≡ sectionUnresolved (sheetIn s) g) ⌝ }
-    ensures { λ r. ⌜ SetsBy (judged (sectionGraph (sheetIn s) g)) n r ⌝ }
-{
-    tidying::long::sheet_long(s);
-    build_group(s, u, g, a, n)
 }

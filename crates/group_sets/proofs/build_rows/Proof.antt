@@ -1,6 +1,7 @@
 -- `group_sets::build_rows` meets its contract: each column is lent up to its count.
+use native.Mathlib.Omega.{arith}
 use Rattle.held.proofs.ColumnTurns.{table-count, form-cut}
-use Rattle.group_sets.proofs.LentColumns.{prefix-count, prefix-few, part-few, rows-built}
+use Rattle.group_sets.proofs.LentColumns.{prefix-count, prefix-few, part-few, rows-lent}
 use borrow.Author.Needs.{needs}
 use Rattle.group_sets.proofs.build_rows.Statement.{statement}
 use Rattle.group_sets.proofs.build_rows.Tie as tie
@@ -14,89 +15,118 @@ add-k c = search needs
 add-b : tie.Need-add-b
 add-b c = search needs
 
-array-share-prefix-bytes : tie.Need-array-share-prefix-bytes
-array-share-prefix-bytes c = search needs
+slice-aggregate-build-part : tie.Need-slice-aggregate-build-part
+slice-aggregate-build-part c = search prefix-count
 
-slice-aggregate-build-sets : tie.Need-slice-aggregate-build-sets
-slice-aggregate-build-sets c = search prefix-count
+slice-aggregate-build-part-2 : tie.Need-slice-aggregate-build-part-2
+slice-aggregate-build-part-2 c = search table-count
 
-array-share-prefix-offsets : tie.Need-array-share-prefix-offsets
-array-share-prefix-offsets c = search needs
-
-slice-aggregate-build-sets-2 : tie.Need-slice-aggregate-build-sets-2
-slice-aggregate-build-sets-2 c = search table-count
-
-array-share-prefix-targets : tie.Need-array-share-prefix-targets
-array-share-prefix-targets c = search needs
-
-slice-aggregate-build-sets-3 : tie.Need-slice-aggregate-build-sets-3
-slice-aggregate-build-sets-3 c = search prefix-count
+slice-aggregate-build-part-3 : tie.Need-slice-aggregate-build-part-3
+slice-aggregate-build-part-3 c = search prefix-count
 
 array-share-prefix-children : tie.Need-array-share-prefix-children
 array-share-prefix-children c = search needs
 
-slice-aggregate-build-sets-4 : tie.Need-slice-aggregate-build-sets-4
-slice-aggregate-build-sets-4 c = search prefix-count
+slice-aggregate-build-part-4 : tie.Need-slice-aggregate-build-part-4
+slice-aggregate-build-part-4 c = search prefix-count
 
 array-share-prefix-kinds : tie.Need-array-share-prefix-kinds
 array-share-prefix-kinds c = search needs
 
-slice-aggregate-build-sets-5 : tie.Need-slice-aggregate-build-sets-5
-slice-aggregate-build-sets-5 c = search prefix-count
+slice-aggregate-build-part-5 : tie.Need-slice-aggregate-build-part-5
+slice-aggregate-build-part-5 c = search prefix-count
 
 array-share-prefix-flags : tie.Need-array-share-prefix-flags
 array-share-prefix-flags c = search needs
 
-slice-aggregate-build-sets-6 : tie.Need-slice-aggregate-build-sets-6
-slice-aggregate-build-sets-6 c = search prefix-count
+slice-aggregate-build-part-6 : tie.Need-slice-aggregate-build-part-6
+slice-aggregate-build-part-6 c = search prefix-count
 
-mul-build-sets : tie.Need-mul-build-sets
-mul-build-sets c = search needs
+mul-build-part : tie.Need-mul-build-part
+mul-build-part c = search needs
 
-sub-build-sets : tie.Need-sub-build-sets
-sub-build-sets c = search needs
+sub-build-part : tie.Need-sub-build-part
+sub-build-part c = search needs
 
-part-build-sets-start : tie.Need-part-build-sets-start
-part-build-sets-start c = search needs
+part-build-part-start : tie.Need-part-build-part-start
+part-build-part-start c = search needs
 
-part-build-sets-end : tie.Need-part-build-sets-end
-part-build-sets-end c = search needs
+part-build-part-end : tie.Need-part-build-part-end
+part-build-part-end c = search needs
 
-mul-build-sets-2 : tie.Need-mul-build-sets-2
-mul-build-sets-2 c = search needs
+mul-build-part-2 : tie.Need-mul-build-part-2
+mul-build-part-2 c = search needs
 
-sub-build-sets-2 : tie.Need-sub-build-sets-2
-sub-build-sets-2 c = search needs
+sub-build-part-2 : tie.Need-sub-build-part-2
+sub-build-part-2 c = search needs
 
-part-build-sets-start-2 : tie.Need-part-build-sets-start-2
-part-build-sets-start-2 c = search needs
+part-build-part-start-2 : tie.Need-part-build-part-start-2
+part-build-part-start-2 c = search needs
 
-part-build-sets-end-2 : tie.Need-part-build-sets-end-2
-part-build-sets-end-2 c = search needs
+part-build-part-end-2 : tie.Need-part-build-part-end-2
+part-build-part-end-2 c = search needs
 
-build-sets-requires : tie.Need-build-sets-requires
-build-sets-requires c κs = (
-  search needs,
-  (
-    (search prefix-few, search form-cut),
-    record {
-      children-few = search prefix-few;
-      kinds-few = search prefix-few;
-      flags-few = search prefix-few;
-      chains-few = search part-few;
-      seqs-few = search part-few;
-    },
-  ),
-)
+build-part-requires : tie.Need-build-part-requires
+build-part-requires c κs =
+    let s = c .before .before .before .before .before .before .before .before .before .before .before .before .before .before .before .before .before .before .before .before .before .before .before in
+    let columns = s .pre .1 .1 .1 .0 in
+    let chains = columns .chains-long in
+    let seqs = columns .seqs-long in
+    let slices = s .pre .1 .1 .1 .1 in (
+      s .pre .0 .1,
+      (
+        (prefix-few _ 4096 _ (s .pre .1 .0 .0), form-cut _ _ _ _ (s .pre .1 .0 .0) (columns .targets-long) (s .pre .1 .0 .1)),
+        (
+          record {
+            children-few = search prefix-few;
+            kinds-few = search prefix-few;
+            flags-few = search prefix-few;
+            chains-few = search part-few;
+            seqs-few = search part-few;
+          },
+          record {
+            forward-offsets = omega (arith, slices .forward-offsets);
+            forward-deltas = omega (arith, slices .forward-deltas);
+            reverse-offsets = omega (arith, slices .reverse-offsets);
+            reverse-deltas = omega (arith, slices .reverse-deltas);
+            inbound-offsets = omega (arith, slices .inbound-offsets);
+            inbound-deltas = omega (arith, slices .inbound-deltas);
+          },
+        ),
+      ),
+    )
+
+same-length : tie.Need-same-length
+same-length c = search needs
+
+same-length-2 : tie.Need-same-length-2
+same-length-2 c = search needs
+
+same-length-3 : tie.Need-same-length-3
+same-length-3 c = search needs
+
+same-length-4 : tie.Need-same-length-4
+same-length-4 c = search needs
+
+same-length-5 : tie.Need-same-length-5
+same-length-5 c = search needs
+
+same-length-6 : tie.Need-same-length-6
+same-length-6 c = search needs
 
 returns : tie.Need-returns
 returns c =
-    let s = c .before .before .before .before .before .before .before .before .before .before .before .before .before .before .before .before .before in
-    let few = s .pre .1 .1 .0 .0 in
-    let long = s .pre .1 .1 .0 .1 .0 in
-    let kinds-are = s .pre .1 .1 .0 .1 .1 .1 in
-    let done = c .build-sets .ensures in
-    search rows-built
+    let s = c .before .before .before .before .before .before .before .before .before .before .before .before .before .before .before .before .before .before .before .before .before .before .before .before .before .before .before .before .before .before .before .before .before in
+    let x = s .args in
+    let within = s .pre .0 .1 .0 in
+    let few = s .pre .0 .1 .1 .0 in
+    let small = s .pre .1 .0 .0 in
+    let form = s .pre .1 .0 .1 in
+    let records = s .pre .1 .1 .0 in
+    let targets = s .pre .1 .1 .1 .0 .targets-long in
+    let slices = s .pre .1 .1 .1 .1 in
+    rows-lent (x .bytes .now) (x .size) (x .start) (x .total) (x .offsets .now) (x .targets .now) (x .count) (x .u) _ (x .depth) (x .labelled) (x .chains .now) (x .seqs .now) (x .a) (x .n)
+    _ _ _ _ _ _ _ _ _ _ _ _ _ within few small form (records .0) (records .1 .0) (records .1 .1 .1) targets slices (c .before .before .before .before .before .before .before .before .before .build-part .ensures)
 
 pub build-rows-spec : {M : Type 1} → statement M
 build-rows-spec =
@@ -105,25 +135,28 @@ build-rows-spec =
     mul-k
     add-k
     add-b
-    array-share-prefix-bytes
-    slice-aggregate-build-sets
-    array-share-prefix-offsets
-    slice-aggregate-build-sets-2
-    array-share-prefix-targets
-    slice-aggregate-build-sets-3
+    slice-aggregate-build-part
+    slice-aggregate-build-part-2
+    slice-aggregate-build-part-3
     array-share-prefix-children
-    slice-aggregate-build-sets-4
+    slice-aggregate-build-part-4
     array-share-prefix-kinds
-    slice-aggregate-build-sets-5
+    slice-aggregate-build-part-5
     array-share-prefix-flags
-    slice-aggregate-build-sets-6
-    mul-build-sets
-    sub-build-sets
-    part-build-sets-start
-    part-build-sets-end
-    mul-build-sets-2
-    sub-build-sets-2
-    part-build-sets-start-2
-    part-build-sets-end-2
-    build-sets-requires
+    slice-aggregate-build-part-6
+    mul-build-part
+    sub-build-part
+    part-build-part-start
+    part-build-part-end
+    mul-build-part-2
+    sub-build-part-2
+    part-build-part-start-2
+    part-build-part-end-2
+    build-part-requires
+    same-length
+    same-length-2
+    same-length-3
+    same-length-4
+    same-length-5
+    same-length-6
     returns)

@@ -1,5 +1,7 @@
--- `group_sets::group_sets` meets its contract: the columns of a group are what building is given of it.
-use Rattle.group_sets.proofs.GroupGraphs.{group-bounded, section-built}
+-- `group_sets::group_sets` meets its contract: what building leaves in six columns, or its refusal.
+use mathlib.Core.Path.{refl}
+use native.Mathlib.Omega.{arith}
+use Rattle.group_sets.proofs.SetSizes.{value-refused, value-built}
 use borrow.Author.Needs.{needs}
 use Rattle.group_sets.proofs.group_sets.Statement.{statement}
 use Rattle.group_sets.proofs.group_sets.Tie as tie
@@ -7,11 +9,88 @@ use Rattle.group_sets.proofs.group_sets.Tie as tie
 sheet-long-requires : tie.Need-sheet-long-requires
 sheet-long-requires c κs = search needs
 
-build-group-requires : tie.Need-build-group-requires
-build-group-requires c κs = (search group-bounded, search needs)
+slice-aggregate-lent-sets : tie.Need-slice-aggregate-lent-sets
+slice-aggregate-lent-sets c = search needs
+
+slice-aggregate-lent-sets-2 : tie.Need-slice-aggregate-lent-sets-2
+slice-aggregate-lent-sets-2 c = search needs
+
+slice-aggregate-lent-sets-3 : tie.Need-slice-aggregate-lent-sets-3
+slice-aggregate-lent-sets-3 c = search needs
+
+slice-aggregate-lent-sets-4 : tie.Need-slice-aggregate-lent-sets-4
+slice-aggregate-lent-sets-4 c = search needs
+
+slice-aggregate-lent-sets-5 : tie.Need-slice-aggregate-lent-sets-5
+slice-aggregate-lent-sets-5 c = search needs
+
+slice-aggregate-lent-sets-6 : tie.Need-slice-aggregate-lent-sets-6
+slice-aggregate-lent-sets-6 c = search needs
+
+lent-sets-requires : tie.Need-lent-sets-requires
+lent-sets-requires c κs =
+    let s = c .before .before .before .before .before .before .before .before .before .before .before .before .before .before .before .before .before .before .before in
+    let long = c .before .before .before .before .before .before .before .before .before .before .before .before .before .before .before .before .before .before .sheet-long .ensures in (
+      (long, s .pre .0),
+      (
+        s .pre .1 .0,
+        (
+          s .pre .1 .1,
+          (
+            record {
+              bytes-are = refl;
+              size-is = refl;
+              start-is = refl;
+              total-is = refl;
+              offsets-are = refl;
+              targets-are = refl;
+              count-is = refl;
+              chains-are = refl;
+              seqs-are = refl;
+              groups-are = refl;
+            },
+            record {
+              forward-offsets = search needs;
+              forward-deltas = search needs;
+              reverse-offsets = search needs;
+              reverse-deltas = search needs;
+              inbound-offsets = search needs;
+              inbound-deltas = search needs;
+            },
+          ),
+        ),
+      ),
+    )
+
+enum-known-e : tie.Need-enum-known-e
+enum-known-e c = search needs
+
+no-sets-requires : tie.Need-no-sets-requires
+no-sets-requires c κs = search needs
+
+enum-known-e-2 : tie.Need-enum-known-e-2
+enum-known-e-2 c = search needs
 
 returns : tie.Need-returns
-returns c = search section-built
+returns c = search value-refused
+
+returns-2 : tie.Need-returns-2
+returns-2 c = search value-built
 
 pub group-sets-spec : {M : Type 1} → statement M
-group-sets-spec = tie.close (tie.spec sheet-long-requires build-group-requires returns)
+group-sets-spec =
+    tie.close
+    (tie.spec
+    sheet-long-requires
+    slice-aggregate-lent-sets
+    slice-aggregate-lent-sets-2
+    slice-aggregate-lent-sets-3
+    slice-aggregate-lent-sets-4
+    slice-aggregate-lent-sets-5
+    slice-aggregate-lent-sets-6
+    lent-sets-requires
+    enum-known-e
+    no-sets-requires
+    enum-known-e-2
+    returns
+    returns-2)

@@ -38,7 +38,7 @@ loop-again : tie.Need-loop-again Inv-loop μ-loop
 loop-again c = search (needs, kind-copied)
 
 returns : tie.Need-returns Inv-loop μ-loop
-returns c = search (needs, kinds-copied)
+returns c = (search needs, search (needs, kinds-copied))
 
 pub wide-kinds-spec : {M : Type 1} → statement M
 wide-kinds-spec =
