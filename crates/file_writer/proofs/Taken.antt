@@ -2,11 +2,12 @@
 use mathlib.Core.Path.{_≡_, refl, sym, ap, ap₂, _∙_}
 use mathlib.Core.Bool.{true, false}
 use mathlib.Core.List.{List, [], _∷_, map}
-use Prim.Native.Nat.{ℕ, zero, suc, _+_, _*_, _^_, _≤_, _<_}
+use Prim.Native.Nat.{ℕ, zero, suc, _+_, _-_, _*_, _^_, _≤_, _<_}
 use native.Mathlib.Omega.{arith}
-use lib.ListN.{length, getD, take, replicate, length-replicate}
+use lib.IntN.{ℤ}
+use lib.ListN.{length, getD, take, drop, replicate, length-replicate, length-take, length-drop}
 use lib.Seq.{sets, length-take-le}
-use Rattle.lists.specs.Lists.{upFrom, flat}
+use Rattle.lists.specs.Lists.{upFrom, flat, part}
 use Rattle.columns.specs.Limits.{kinds, maxRecords, maxNumbers, maxSubject, offsetsRoom}
 use Rattle.archive.specs.Encode.{recordBytes, headFields, setsBytes, rowBytes, unresolvedBytes, rootBytes, coverBytes, countedBytes, coverRecord}
 use Rattle.archive_stores.specs.Lent.{zip2, zip3, headFrom, setFrom, rowFrom, unresolvedFrom, rootFrom, rangeFrom, linksFrom, coverFrom}
@@ -19,11 +20,11 @@ use Rattle.held.specs.declared.Roots.{Roots}
 use Rattle.held.specs.View.{listed, unresolvedAt, rootAt}
 use Rattle.out_file.specs.declared.Head.{Head}
 use Rattle.out_file.specs.declared.Set.{Set}
-use Rattle.out_file.specs.declared.Sets.{Sets}
 use Rattle.out_file.specs.declared.Labels.{Labels}
 use Rattle.out_file.specs.declared.Ranges.{Ranges}
 use Rattle.out_file.specs.declared.Links.{Links}
 use Rattle.out_file.specs.declared.Cover.{Cover}
+use Rattle.out_file.specs.Lent.{setsOf}
 use Rattle.out_file.specs.View.{subjectIn, depthIn, setIn, rangeAt, rangesIn, linksIn, coverIn}
 use Rattle.file_writer.specs.Long.{LongSet, LongSets, LongUnresolved, LongRoots, LongLabels, LongRanges, LongLinks}
 use Rattle.file_writer.specs.Flags.{unflagged}
@@ -93,58 +94,61 @@ head-put l at rows h s e = e
 
 -- ── 2 edges ──────────────────────────────────────────────────────────────────────────────────
 
-module _ (n : ℕ) (s : Set) (long : LongSet s) where
-  set-taken : s .count ≤ maxNumbers → setFrom (take (kinds * n + 1) (s .offsets)) (take (s .count) (s .deltas)) ≡ setIn n s
-  unfolding setIn
-  set-taken h = rw (count-of (s .count) maxNumbers (s .deltas) h (long .deltas))
+set-taken : (n : ℕ) (s : Set) → LongSet s → s .count ≤ maxNumbers → setFrom (take (kinds * n + 1) (s .offsets)) (take (s .count) (s .deltas)) ≡ setIn n s
+unfolding setIn
+set-taken n s long h = rw (count-of (s .count) maxNumbers (s .deltas) h (long .deltas))
 
--- the three sets of n rows as their columns are taken
-abbrev pub takenSize : ℕ → Sets → ℕ
-takenSize n s =
-    setsSize (length (take (2 * n + 1) (s .forward .offsets))) (length (take (s .forward .count) (s .forward .deltas)))
-    (length (take (2 * n + 1) (s .reverse .offsets))) (length (take (s .reverse .count) (s .reverse .deltas)))
-    (length (take (2 * n + 1) (s .inbound .offsets))) (length (take (s .inbound .count) (s .inbound .deltas)))
-
-module _ (n : ℕ) (s : Sets) (at : ℕ) (h : n ≤ maxRecords) (long : LongSets s) (a : s .forward .count ≤ maxNumbers) (b : s .reverse .count ≤ maxNumbers) (c : s .inbound .count ≤ maxNumbers) where
-  taken-size : 6 + takenSize n s ≡ edgesSize n (s .forward .count) (s .reverse .count) (s .inbound .count)
+module _ (n f r i : ℕ) (fo : List ℕ) (fd : List ℤ) (ro : List ℕ) (rd : List ℤ) (io : List ℕ) (id : List ℤ) (at : ℕ) (h : n ≤ maxRecords)
+    (long : LongSets (setsOf f r i fo fd ro rd io id)) (a : f ≤ maxNumbers) (b : r ≤ maxNumbers) (c : i ≤ maxNumbers) where
+  taken-size : 6 + setsSize (length (take (2 * n + 1) fo)) (length (take f fd)) (length (take (2 * n + 1) ro)) (length (take r rd)) (length (take (2 * n + 1) io)) (length (take i id))
+      ≡ edgesSize n f r i
   taken-size =
       rw (
-        table-of n (s .forward .offsets) h (long .forward .offsets),
-        count-of (s .forward .count) maxNumbers (s .forward .deltas) a (long .forward .deltas),
-        table-of n (s .reverse .offsets) h (long .reverse .offsets),
-        count-of (s .reverse .count) maxNumbers (s .reverse .deltas) b (long .reverse .deltas),
-        table-of n (s .inbound .offsets) h (long .inbound .offsets),
-        count-of (s .inbound .count) maxNumbers (s .inbound .deltas) c (long .inbound .deltas),
+        table-of n fo h (long .forward .offsets),
+        count-of f maxNumbers fd a (long .forward .deltas),
+        table-of n ro h (long .reverse .offsets),
+        count-of r maxNumbers rd b (long .reverse .deltas),
+        table-of n io h (long .inbound .offsets),
+        count-of i maxNumbers id c (long .inbound .deltas),
       )
 
-  pub edges-room : (o : ℕ) → at + edgesSize n (s .forward .count) (s .reverse .count) (s .inbound .count) ≤ o → at + (6 + takenSize n s) ≤ o
+  pub edges-room : (o : ℕ) → at + edgesSize n f r i ≤ o
+      → at + (6 + setsSize (length (take (2 * n + 1) fo)) (length (take f fd)) (length (take (2 * n + 1) ro)) (length (take r rd)) (length (take (2 * n + 1) io)) (length (take i id))) ≤ o
   edges-room o k = rw taken-size k
 
-  pub edges-short : 2 + takenSize n s < 2 ^ 32
+  pub edges-short : 2 + setsSize (length (take (2 * n + 1) fo)) (length (take f fd)) (length (take (2 * n + 1) ro)) (length (take r rd)) (length (take (2 * n + 1) io)) (length (take i id)) < 2 ^ 32
   edges-short = omega (arith, taken-size)
 
-  pub edges-end : {r : ℕ} → r ≡ at + (6 + takenSize n s) → r ≡ at + edgesSize n (s .forward .count) (s .reverse .count) (s .inbound .count)
+  pub edges-end : {e : ℕ}
+      → e ≡ at + (6 + setsSize (length (take (2 * n + 1) fo)) (length (take f fd)) (length (take (2 * n + 1) ro)) (length (take r rd)) (length (take (2 * n + 1) io)) (length (take i id)))
+      → e ≡ at + edgesSize n f r i
   edges-end k = k ∙ ap (λ m. at + m) taken-size
 
   pub edges-put : {k : List ℕ} (l : List ℕ)
-      → k ≡ sets l at (recordBytes 2 (setsBytes (setFrom (take (2 * n + 1) (s .forward .offsets)) (take (s .forward .count) (s .forward .deltas)))
-      (setFrom (take (2 * n + 1) (s .reverse .offsets)) (take (s .reverse .count) (s .reverse .deltas)))
-      (setFrom (take (2 * n + 1) (s .inbound .offsets)) (take (s .inbound .count) (s .inbound .deltas)))))
-      → k ≡ sets l at (recordBytes 2 (setsBytes (setIn n (s .forward)) (setIn n (s .reverse)) (setIn n (s .inbound))))
+      → k ≡ sets l at (recordBytes 2 (setsBytes (setFrom (take (2 * n + 1) fo) (take f fd)) (setFrom (take (2 * n + 1) ro) (take r rd)) (setFrom (take (2 * n + 1) io) (take i id))))
+      → k ≡ sets l at (recordBytes 2 (setsBytes (setIn n (record { count = f; offsets = fo; deltas = fd })) (setIn n (record { count = r; offsets = ro; deltas = rd }))
+      (setIn n (record { count = i; offsets = io; deltas = id }))))
   edges-put l e =
-      e ∙ rw (set-taken n (s .forward) (long .forward) a, set-taken n (s .reverse) (long .reverse) b, set-taken n (s .inbound) (long .inbound) c)
+      e
+      ∙ rw (
+        set-taken n (record { count = f; offsets = fo; deltas = fd }) (long .forward) a,
+        set-taken n (record { count = r; offsets = ro; deltas = rd }) (long .reverse) b,
+        set-taken n (record { count = i; offsets = io; deltas = id }) (long .inbound) c,
+      )
 
 -- ── 3 rows ───────────────────────────────────────────────────────────────────────────────────
 
 -- rows whose flags are 0 are not erased
-rows-unerased : (n m : ℕ) (ts : List ℕ) → n ≤ m → zip2 rowFrom (take n (replicate m 0)) (take n ts) ≡ map unerasedRow (take n ts)
+rows-unerased : (m : ℕ) (ts : List ℕ) → length ts ≤ m → zip2 rowFrom (take (length ts) (replicate m 0)) ts ≡ map unerasedRow ts
 unfolding zip2 rowFrom
-rows-unerased zero m ts h = refl
-rows-unerased (suc n) zero ts h = absurd (omega arith)
-rows-unerased (suc n) (suc m) [] h = refl
-rows-unerased (suc n) (suc m) (t ∷ ts) h = ap (λ rs. unerasedRow t ∷ rs) (rows-unerased n m ts (omega arith))
+rows-unerased m [] h = refl
+rows-unerased zero (t ∷ ts) h = absurd (omega arith)
+rows-unerased (suc m) (t ∷ ts) h = ap (λ rs. unerasedRow t ∷ rs) (rows-unerased m ts (omega arith))
 
-module _ (n at : ℕ) (ts zs : List ℕ) (h : n ≤ maxRecords) (e : length ts ≡ maxRecords) (z : zs ≡ unflagged) where
+module _ (a n at : ℕ) (ts zs : List ℕ) (h : n ≤ maxRecords) (k : a + n ≤ length ts) (z : zs ≡ unflagged) where
+  tags-count : length (take (a + n - a) (drop a ts)) ≡ n
+  tags-count = simp (length-take, length-drop) (omega arith)
+
   pub flags-fit : n ≤ length zs
   unfolding unflagged
   flags-fit = omega (arith, ap length z ∙ length-replicate {A = ℕ} maxRecords 0)
@@ -152,24 +156,29 @@ module _ (n at : ℕ) (ts zs : List ℕ) (h : n ≤ maxRecords) (e : length ts �
   pub flags-taken : n ≡ length (take n zs)
   flags-taken = sym (length-take-le n zs flags-fit)
 
-  pub rows-even : length (take n zs) ≡ length (take n ts)
-  rows-even = length-take-le n zs flags-fit ∙ taken n maxRecords ts h e
+  pub rows-even : length (take n zs) ≡ length (take (a + n - a) (drop a ts))
+  rows-even = length-take-le n zs flags-fit ∙ sym tags-count
 
-  pub rows-put : {k : List ℕ} (l : List ℕ) → k ≡ sets l at (recordBytes 3 (flat rowBytes (zip2 rowFrom (take n zs) (take n ts))))
-      → k ≡ sets l at (recordBytes 3 (flat rowBytes (map unerasedRow (take n ts))))
-  unfolding unflagged
-  rows-put l d = d ∙ ap (λ rs. sets l at (recordBytes 3 (flat rowBytes rs))) (ap (λ fs. zip2 rowFrom (take n fs) (take n ts)) z ∙ rows-unerased n maxRecords ts h)
+  pub rows-room : (o : ℕ) → at + rowsSize n ≤ o → at + rowsSize (length (take (a + n - a) (drop a ts))) ≤ o
+  rows-room o e = rw tags-count e
+
+  pub rows-short : 2 + length (take (a + n - a) (drop a ts)) * 9 < 2 ^ 32
+  rows-short = omega (arith, tags-count)
+
+  pub rows-end : {r : ℕ} → r ≡ at + rowsSize (length (take (a + n - a) (drop a ts))) → r ≡ at + rowsSize n
+  rows-end e = e ∙ rw tags-count
+
+  pub rows-put : {i : List ℕ} (l : List ℕ) → i ≡ sets l at (recordBytes 3 (flat rowBytes (zip2 rowFrom (take n zs) (take (a + n - a) (drop a ts)))))
+      → i ≡ sets l at (recordBytes 3 (flat rowBytes (map unerasedRow (part a n ts))))
+  unfolding unflagged part
+  rows-put l e =
+      let same : a + n - a ≡ n = omega arith in
+      let ps = take (a + n - a) (drop a ts) in
+      e
+      ∙ ap (λ rs. sets l at (recordBytes 3 (flat rowBytes rs)))
+      (ap₂ (λ fs j. zip2 rowFrom (take j fs) ps) z (sym tags-count) ∙ rows-unerased maxRecords ps (omega (arith, tags-count)) ∙ ap (λ j. map unerasedRow (take j (drop a ts))) same)
 
 module _ (n at : ℕ) (ts : List ℕ) (h : n ≤ maxRecords) (e : length ts ≡ maxRecords) where
-  pub rows-room : (o : ℕ) → at + rowsSize n ≤ o → at + rowsSize (length (take n ts)) ≤ o
-  rows-room o k = rw (count-of n maxRecords ts h e) k
-
-  pub rows-short : 2 + length (take n ts) * 9 < 2 ^ 32
-  rows-short = omega (arith, count-of n maxRecords ts h e)
-
-  pub rows-end : {r : ℕ} → r ≡ at + rowsSize (length (take n ts)) → r ≡ at + rowsSize n
-  rows-end k = k ∙ rw (count-of n maxRecords ts h e)
-
   -- ── 4 unresolved, 5 roots ──────────────────────────────────────────────────────────────────
 
   pub unresolved-room : (o : ℕ) → at + unresolvedSize n ≤ o → at + unresolvedSize (length (take n ts)) ≤ o

@@ -1,29 +1,36 @@
 -- A whole file: how long it is, and its six records one after the other.
-use mathlib.Core.Path.{_≡_, sym, ap, _∙_}
+use mathlib.Core.Path.{_≡_, refl, sym, ap, _∙_}
 use mathlib.Core.Bool.{Bool, true, false, cond}
 use mathlib.Core.List.{List, map}
 use mathlib.Core.Option.{none, some}
-use Prim.Native.Nat.{ℕ, _+_, _≤_}
+use Prim.Native.Nat.{ℕ, _+_, _-_, _≤_, _<_}
 use native.Mathlib.Omega.{arith}
-use lib.ListN.{length, take, length-map}
-use lib.Seq.{sets, length-take-le}
-use Rattle.lists.specs.Lists.{flat}
+use lib.ListN.{length, take, length-map, length-append, replicate, length-replicate}
+use lib.Seq.{sets, length-take-le, take-at}
+use Rattle.lists.specs.Lists.{flat, part}
 use Rattle.lists.proofs.Flat.{length-map-upFrom}
-use Rattle.columns.specs.Limits.{maxRecords, maxNumbers}
+use Rattle.columns.specs.Limits.{maxRecords, maxNumbers, maxSubject}
 use Rattle.archive.specs.File.{CoverColumns}
 use Rattle.archive.specs.Encode.{recordBytes, headFields, headBytes, setsBytes, edgesBytes, rowBytes, unresolvedBytes, rootBytes, countedBytes, coverRecord, fileBytes}
 use Rattle.archive_records.specs.Sizes.{headSize, rowsSize, unresolvedSize, rootsSize}
 use Rattle.archive_writer.proofs.Files.{file-written}
-use Rattle.archive_sizes.specs.FileSize.{edgesSize, coverRecordSize}
+use Rattle.archive_sizes.specs.FileSize.{edgesSize, coverRecordSize, maxFileSize}
 use Rattle.archive_sizes.proofs.Sized.{SetHas, CoverCounts, CoverHas, length-headRecord, length-edges, length-rows, length-unresolved, length-roots, length-file}
 use Rattle.cleaning.specs.Sections.{unerasedRow}
+use Rattle.cleaning.proofs.Parts.{length-part}
+use Rattle.held.specs.declared.Subject.{Subject}
+use Rattle.held.specs.declared.Unresolved.{Unresolved}
+use Rattle.held.specs.declared.Roots.{Roots}
 use Rattle.held.specs.View.{listed, unresolvedAt, rootAt}
+use Rattle.out_file.specs.declared.Head.{Head}
 use Rattle.out_file.specs.declared.Set.{Set}
+use Rattle.out_file.specs.declared.Sets.{Sets}
 use Rattle.out_file.specs.declared.Cover.{Cover}
 use Rattle.out_file.specs.declared.OutFile.{OutFile}
+use Rattle.out_file.specs.Lent.{tagColumn, emptyColumn, noCover, lentFile}
 use Rattle.out_file.specs.View.{setIn, rangeAt, rangesIn, linksIn, coverIn, subjectIn, depthIn, fileIn, Counted}
-use Rattle.file_writer.specs.Long.{LongSet, LongCover, LongFile}
-use Rattle.file_writer.specs.Size.{sizeOf}
+use Rattle.file_writer.specs.Long.{LongSet, LongSets, LongUnresolved, LongRoots, LongCover, LongFile}
+use Rattle.file_writer.specs.Stored.{sizeOf, headEnd, edgesEnd, rowsEnd, unresolvedEnd, fiveEnd, fiveLaid, Stored}
 
 -- ── counts ───────────────────────────────────────────────────────────────────────────────────
 
@@ -52,6 +59,63 @@ cover-has n c h k e =
       toChains = length-take-le (c .links .count) (c .links .to .chains) (omega arith);
       toSeqs = length-take-le (c .links .count) (c .links .to .seqs) (omega arith);
     })
+
+-- ── lent columns ─────────────────────────────────────────────────────────────────────────────
+
+-- the tags that are lent
+module _ (tags : List ℕ) (a n : ℕ) (h : n ≤ maxRecords) (k : a + n ≤ length tags) where
+  pub tags-listed : take n (tagColumn tags a n) ≡ part a n tags
+  unfolding tagColumn
+  tags-listed = take-at (part a n tags) (replicate (maxRecords - n) 0) n (length-part a n tags k)
+
+  tags-long : length (tagColumn tags a n) ≡ maxRecords
+  unfolding tagColumn
+  tags-long =
+      omega (arith, length-append (part a n tags) (replicate (maxRecords - n) 0), length-part a n tags k, length-replicate {A = ℕ} (maxRecords - n) 0)
+
+empty-long : length emptyColumn ≡ maxRecords
+unfolding emptyColumn
+empty-long = length-replicate {A = ℕ} maxRecords 0
+
+pub no-cover-long : LongCover noCover
+no-cover-long = record {
+  labels = record { chains = empty-long; seqs = empty-long };
+  ranges = record { ids = empty-long; minima = empty-long; maxima = empty-long };
+  links = record { from = record { chains = empty-long; seqs = empty-long }; to = record { chains = empty-long; seqs = empty-long } };
+}
+
+module _ (head : Head) (subject : Subject) (tags : List ℕ) (a n : ℕ) (ss : Sets) (u : Unresolved) (ts : Roots) (h : n ≤ maxRecords) (k : a + n ≤ length tags) where
+  pub lent-long : (c : Cover) → length (subject .bytes) ≡ maxSubject → LongSets ss → LongUnresolved u → LongRoots ts → LongCover c → LongFile (lentFile head subject tags a n ss u ts c)
+  lent-long c x y z w v = record { subject = x; tags = tags-long tags a n h k; sets = y; unresolved = z; roots = w; cover = v }
+
+  -- the counts of a file serve without its cover
+  pub few-bare : {c : Cover} → Counted (lentFile head subject tags a n ss u ts c) → Counted (lentFile head subject tags a n ss u ts noCover)
+  few-bare w = record {
+    subject = w .subject;
+    rows = w .rows;
+    forward = w .forward;
+    reverse = w .reverse;
+    inbound = w .inbound;
+    unresolved = w .unresolved;
+    roots = w .roots;
+    ranges = omega arith;
+    links = omega arith;
+  }
+
+  -- the records before a cover
+  pub five-laid : (at : ℕ) (l : List ℕ) {p q r s : ℕ} {i j m o e : List ℕ} → p ≡ at + headSize (subject .length)
+      → q ≡ p + edgesSize n (ss .forward .count) (ss .reverse .count) (ss .inbound .count) → r ≡ q + rowsSize n → s ≡ r + unresolvedSize (u .count)
+      → i ≡ sets l at (recordBytes 1 (headFields (head .first) n (head .group) (subjectIn subject) (depthIn head)))
+      → j ≡ sets i p (recordBytes 2 (setsBytes (setIn n (ss .forward)) (setIn n (ss .reverse)) (setIn n (ss .inbound))))
+      → m ≡ sets j q (recordBytes 3 (flat rowBytes (map unerasedRow (part a n tags))))
+      → o ≡ sets m r (recordBytes 4 (countedBytes unresolvedBytes (listed (unresolvedAt u) (u .count))))
+      → e ≡ sets o s (recordBytes 5 (countedBytes rootBytes (listed (rootAt ts) (ts .count))))
+      → e ≡ fiveLaid (lentFile head subject tags a n ss u ts noCover) l at
+  five-laid at l pe qe re se x y z w v = rw (v, w, z, y, x, se, re, qe, pe, tags-listed tags a n h k)
+
+-- a record after others
+pub then-cover : {p q : ℕ} {k l m : List ℕ} (bytes : List ℕ) → k ≡ l → p ≡ q → m ≡ sets k p bytes → m ≡ sets l q bytes
+then-cover bytes e f g = rw (e, f) at g
 
 -- ── a whole file ─────────────────────────────────────────────────────────────────────────────
 
@@ -91,34 +155,27 @@ module _ (f : OutFile) (few : Counted f) (long : LongFile f) where
   pub file-size : length (fileBytes (fileIn f)) ≡ sizeOf f
   file-size = omega (arith, length-file (fileIn f) rows-are forward-has reverse-has inbound-has covered, subject-is, unresolved-are, roots-are)
 
-  pub file-sized : {r : ℕ} → r ≡ sizeOf f → r ≡ length (fileBytes (fileIn f))
-  file-sized e = e ∙ sym file-size
-
-  pub file-room : (at o : ℕ) → at + length (fileBytes (fileIn f)) ≤ o → at + sizeOf f ≤ o
-  file-room at o h = rw file-size at h
-
   head-is : headFields (f .head .first) (f .rows .count) (f .head .group) (subjectIn (f .subject)) (depthIn (f .head)) ≡ headBytes (fileIn f)
   unfolding headBytes fileIn
   head-is = ap (λ n. headFields (f .head .first) n (f .head .group) (subjectIn (f .subject)) (depthIn (f .head))) (sym rows-are)
 
-  module _ (at : ℕ) {p q r s t : ℕ} (p-is : p ≡ at + headSize (f .subject .length))
-      (q-is : q ≡ p + edgesSize (f .rows .count) (f .sets .forward .count) (f .sets .reverse .count) (f .sets .inbound .count)) (r-is : r ≡ q + rowsSize (f .rows .count))
-      (s-is : s ≡ r + unresolvedSize (f .unresolved .count)) (t-is : t ≡ s + rootsSize (f .roots .count)) where
-    pub records-end : {e : ℕ} → e ≡ t + coverRecordSize (f .cover .present) (f .rows .count) (f .cover .ranges .count) (f .cover .links .count) → e ≡ at + length (fileBytes (fileIn f))
-    records-end h = omega (arith, file-size)
+  pub records-room : (at o : ℕ) {r : ℕ} → r ≡ sizeOf f → at + r ≤ o → fiveEnd f at + coverRecordSize (f .cover .present) (f .rows .count) (f .cover .ranges .count) (f .cover .links .count) ≤ o
+  records-room at o e h = omega arith
 
-    pub records-written : (l : List ℕ) {i j k m n o : List ℕ}
-        → i ≡ sets l at (recordBytes 1 (headFields (f .head .first) (f .rows .count) (f .head .group) (subjectIn (f .subject)) (depthIn (f .head))))
-        → j ≡ sets i p (recordBytes 2 (setsBytes (setIn (f .rows .count) (f .sets .forward)) (setIn (f .rows .count) (f .sets .reverse)) (setIn (f .rows .count) (f .sets .inbound))))
-        → k ≡ sets j q (recordBytes 3 (flat rowBytes (map unerasedRow (take (f .rows .count) (f .rows .tags)))))
-        → m ≡ sets k r (recordBytes 4 (countedBytes unresolvedBytes (listed (unresolvedAt (f .unresolved)) (f .unresolved .count))))
-        → n ≡ sets m s (recordBytes 5 (countedBytes rootBytes (listed (rootAt (f .roots)) (f .roots .count))))
-        → o ≡ sets n t (coverRecord (coverIn (f .rows .count) (f .cover))) → o ≡ sets l at (fileBytes (fileIn f))
-    unfolding fileIn edgesBytes
-    records-written l a b c d e g =
-        file-written (fileIn f) l at (omega (arith, length-headRecord (fileIn f), subject-is))
-        (omega (arith, length-edges (fileIn f) forward-has reverse-has inbound-has))
-        (omega (arith, length-rows (fileIn f .rows), rows-are))
-        (omega (arith, length-unresolved (fileIn f .unresolved), unresolved-are))
-        (omega (arith, length-roots (fileIn f .roots), roots-are))
-        (rw head-is at a) b c d e g
+  records-written : (l : List ℕ) (at : ℕ) → sets (fiveLaid f l at) (fiveEnd f at) (coverRecord (coverIn (f .rows .count) (f .cover))) ≡ sets l at (fileBytes (fileIn f))
+  unfolding fileIn edgesBytes
+  records-written l at =
+      file-written (fileIn f) l at (omega (arith, length-headRecord (fileIn f), subject-is))
+      (omega (arith, length-edges (fileIn f) forward-has reverse-has inbound-has))
+      (omega (arith, length-rows (fileIn f .rows), rows-are))
+      (omega (arith, length-unresolved (fileIn f .unresolved), unresolved-are))
+      (omega (arith, length-roots (fileIn f .roots), roots-are))
+      (ap (λ b. sets l at (recordBytes 1 b)) head-is) refl refl refl refl refl
+
+  module _ (at : ℕ) (was : List ℕ) {r : ℕ} (e : (r ≡ sizeOf f) × (r ≤ maxFileSize)) where
+    -- without room nothing is written
+    pub not-stored : length was < at + r → Stored (fileIn f) at was was r
+    not-stored h = record { length-is = e .0 ∙ sym file-size; few = e .1; stored = λ k. absurd (omega arith) }
+
+    pub all-stored : {is : List ℕ} → is ≡ sets (fiveLaid f was at) (fiveEnd f at) (coverRecord (coverIn (f .rows .count) (f .cover))) → Stored (fileIn f) at was is r
+    all-stored h = record { length-is = e .0 ∙ sym file-size; few = e .1; stored = λ k. h ∙ records-written was at }

@@ -1,3 +1,3 @@
 pub mod Long
 pub mod Flags
-pub mod Size
+pub mod Stored

@@ -1,4 +1,4 @@
-// Each of a file's six records, its columns by value, written into lent bytes at a place; answers the place after it.
+// Each of a file's six records written into lent bytes at a place; answers the place after it.
 use archive_records::record_cover;
 use archive_records::record_edges;
 use archive_records::record_head;
@@ -14,14 +14,12 @@ use out_file::Head;
 use out_file::Labels;
 use out_file::Links;
 use out_file::Ranges;
-use out_file::Sets;
-use out_file::Tags;
 ghost use mathlib.Core.Path.{_≡_};
 ghost use mathlib.Core.List.{map};
 ghost use Prim.Native.Nat.{_+_, _≤_};
 ghost use lib.ListN.{length, take};
 ghost use lib.Seq.{sets};
-ghost use Rattle.lists.specs.Lists.{flat};
+ghost use Rattle.lists.specs.Lists.{flat, part};
 ghost use Rattle.columns.specs.Limits.{maxRecords, maxNumbers, maxSubject};
 ghost use Rattle.archive.specs.Encode.{recordBytes, headFields, setsBytes, rowBytes, unresolvedBytes, rootBytes, coverBytes, countedBytes, coverRecord};
 ghost use Rattle.archive_records.specs.Sizes.{headSize, rowsSize, unresolvedSize, rootsSize, coverBody};
@@ -31,6 +29,7 @@ ghost use Rattle.cleaning.specs.Sections.{unerasedRow};
 ghost use Rattle.held.specs.View.{listed, unresolvedAt, rootAt};
 ghost use Rattle.file_writer.specs.Long.{LongSets, LongUnresolved, LongRoots, LongLabels, LongRanges, LongLinks, LongCover};
 ghost use Rattle.file_writer.specs.Flags.{unflagged};
+ghost use Rattle.out_file.specs.Lent.{setsOf};
 ghost use Rattle.out_file.specs.View.{subjectIn, depthIn, setIn, rangesIn, linksIn, coverIn};
 
 // 1: the file's numbers, its subject and its depth.
@@ -54,22 +53,26 @@ pub fn put_head(out: &mut [u8], at: usize, head: Head, subject: Subject, rows: u
 }
 
 // 2: the three sets of n rows.
-pub fn put_edges(out: &mut [u8], at: usize, s: Sets, n: usize) -> usize
-    requires { ⌜ (at + edgesSize n (s .forward .count) (s .reverse .count) (s .inbound .count) ≤ length (now out)) × (n ≤ maxRecords) × LongSets s ⌝ }
-    requires { ⌜ (s .forward .count ≤ maxNumbers) × (s .reverse .count ≤ maxNumbers) × (s .inbound .count ≤ maxNumbers) ⌝ }
-    ensures { λ _. ⌜ now (out .exit) ≡ sets (now (out .entry)) at (recordBytes 2 (setsBytes (setIn n (s .forward)) (setIn n (s .reverse)) (setIn n (s .inbound)))) ⌝ }
-    ensures { λ r. ⌜ r ≡ at + edgesSize n (s .forward .count) (s .reverse .count) (s .inbound .count) ⌝ }
+pub fn put_edges(
+    out: &mut [u8],
+    at: usize,
+    n: usize,
+    f: usize,
+    r: usize,
+    i: usize,
+    fo: &[u64],
+    fd: &[i64],
+    ro: &[u64],
+    rd: &[i64],
+    io: &[u64],
+    id: &[i64],
+) -> usize
+    requires { ⌜ (at + edgesSize n f r i ≤ length (now out)) × (n ≤ maxRecords) × LongSets (setsOf f r i (now fo) (now fd) (now ro) (now rd) (now io) (now id)) ⌝ }
+    requires { ⌜ (f ≤ maxNumbers) × (r ≤ maxNumbers) × (i ≤ maxNumbers) ⌝ }
+    ensures { λ _. ⌜ now (out .exit) ≡ sets (now (out .entry)) at (recordBytes 2 (setsBytes (setIn n (record { count = f; offsets = now (fo .entry); deltas = now (fd .entry) })) (setIn n (record { count = r; offsets = now (ro .entry); deltas = now (rd .entry) })) (setIn n (record { count = i; offsets = now (io .entry); deltas = now (id .entry) })))) ⌝ }
+    ensures { λ e. ⌜ e ≡ at + edgesSize n f r i ⌝ }
 {
     let k = 2 * n + 1;
-    let fo = s.forward.offsets;
-    let ro = s.reverse.offsets;
-    let io = s.inbound.offsets;
-    let fd = s.forward.deltas;
-    let rd = s.reverse.deltas;
-    let id = s.inbound.deltas;
-    let f = s.forward.count;
-    let r = s.reverse.count;
-    let i = s.inbound.count;
     record_edges(
         out,
         at,
@@ -89,16 +92,15 @@ fn unflagged() -> [u8; 1024]
     [0u8; 1024]
 }
 
-// 3: rows, of which none is erased.
-pub fn put_rows(out: &mut [u8], at: usize, t: Tags) -> usize
-    requires { ⌜ (at + rowsSize (t .count) ≤ length (now out)) × (t .count ≤ maxRecords) × (length (t .tags) ≡ maxRecords) ⌝ }
-    ensures { λ _. ⌜ now (out .exit) ≡ sets (now (out .entry)) at (recordBytes 3 (flat rowBytes (map unerasedRow (take (t .count) (t .tags))))) ⌝ }
-    ensures { λ r. ⌜ r ≡ at + rowsSize (t .count) ⌝ }
+// 3: the n rows from row a on, of which none is erased.
+pub fn put_rows(out: &mut [u8], at: usize, tags: &[u64], a: usize, n: usize) -> usize
+    requires { ⌜ (at + rowsSize n ≤ length (now out)) × (n ≤ maxRecords) × (a + n ≤ length (now tags)) ⌝ }
+    ensures { λ _. ⌜ now (out .exit) ≡ sets (now (out .entry)) at (recordBytes 3 (flat rowBytes (map unerasedRow (part a n (now (tags .entry)))))) ⌝ }
+    ensures { λ r. ⌜ r ≡ at + rowsSize n ⌝ }
 {
-    let n = t.count;
-    let tags = t.tags;
     let flags = unflagged();
-    record_rows(out, at, &flags[..n], &tags[..n])
+    let b = a + n;
+    record_rows(out, at, &flags[..n], &tags[a..b])
 }
 
 // 4: unresolved references.

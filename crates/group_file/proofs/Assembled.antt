@@ -98,14 +98,20 @@ module _ (s : Sheet) (g n : ℕ) (q : GroupSets) (m : SetsBy (judged (sectionGra
   unfolding judged
   by-rules r e = rw (← e) m
 
-  pub made-broken : (f : OutFile) (x : Refusal) → q .ruling ≡ Broken x → Made (sheetIn s) g (record { ruling = Broken x; file = f })
-  unfolding unless SetsBy ruling
-  made-broken f x d = go (buildRules (sectionGraph (sheetIn s) g)) refl
+  pub broken-rule : (x : Refusal) → q .ruling ≡ Broken x → buildRules (sectionGraph (sheetIn s) g) ≡ some x
+  unfolding unless SetsBy
+  broken-rule x d = go (buildRules (sectionGraph (sheetIn s) g)) refl
     where
-      go : (r : Option Refusal) → buildRules (sectionGraph (sheetIn s) g) ≡ r → Made (sheetIn s) g (record { ruling = Broken x; file = f })
+      go : (r : Option Refusal) → buildRules (sectionGraph (sheetIn s) g) ≡ r → r ≡ some x
       go none e = let w = by-rules none e .ruling in let z : _≡_ {A = ℕ} 0 1 = cc in absurd (omega arith)
-      go (some y) e = let w : q .ruling ≡ Broken y = by-rules (some y) e in record {
-        rules = rw e (sym d ∙ w);
+      go (some y) e = let w : q .ruling ≡ Broken y = by-rules (some y) e in cc
+
+  pub made-broken : (f : OutFile) (x : Refusal) → q .ruling ≡ Broken x → Made (sheetIn s) g (record { ruling = Broken x; file = f })
+  unfolding ruling
+  made-broken f x d =
+      let e = broken-rule x d in
+      record {
+        rules = rw e;
         file = λ h. let z : _≡_ {A = ℕ} 0 1 = cc in absurd (omega arith);
         counted = λ h. let z : _≡_ {A = ℕ} 0 1 = cc in absurd (omega arith);
       }
@@ -116,7 +122,7 @@ module _ (s : Sheet) (g n : ℕ) (q : GroupSets) (m : SetsBy (judged (sectionGra
     sets-hold none e = (refl, by-rules none e)
     sets-hold (some y) e = let w : q .ruling ≡ Broken y = by-rules (some y) e in let z : _≡_ {A = ℕ} 0 1 = cc in absurd (omega arith)
 
-    held-sets : (buildRules (sectionGraph (sheetIn s) g) ≡ none) × Holds n (builtOf (sectionGraph (sheetIn s) g)) q
+    pub held-sets : (buildRules (sectionGraph (sheetIn s) g) ≡ none) × Holds n (builtOf (sectionGraph (sheetIn s) g)) q
     held-sets = sets-hold (buildRules (sectionGraph (sheetIn s) g)) refl
 
     pub few-edges : FewEdges (q .sets)

@@ -6,18 +6,25 @@ use Prim.Native.Nat.{ℕ, suc, _+_, _-_, _≤_, _<_}
 use native.Mathlib.Numerals.{add-one}
 use native.Mathlib.Omega.{arith}
 use lib.ListN.{length, length-append}
+use lib.Seq.{sets}
 use Rattle.lists.specs.Lists.{upFrom}
 use Rattle.columns.specs.Refusal.{firstOf, firstIn}
 use Rattle.columns.specs.Building.{buildRules}
 use Rattle.columns.specs.declared.refusal.Refusal.{Refusal}
+use Rattle.bigend.proofs.Several.{sets-append}
 use Rattle.archive.specs.Encode.{fileBytes, encode}
+use Rattle.archive_sizes.specs.FileSize.{maxFileSize}
 use Rattle.cleaning.specs.Sheet.{Sheet}
 use Rattle.cleaning.specs.Sections.{sectionGraph, sectionFile}
 use Rattle.rules.specs.Ruled.{ruling}
+use Rattle.rules.specs.declared.slots.Ruling.{Ruling}
 use Rattle.rules.specs.declared.slots.Ruling.the-variants.{Kept, Broken}
-use Rattle.out_file.specs.View.{fileIn, Counted}
+use Rattle.out_file.specs.View.{Counted}
+use Rattle.file_writer.specs.Stored.{Stored}
 use Rattle.group_file.specs.Made.{Made}
 use Rattle.group_file.specs.declared.GroupFile.{GroupFile}
+use Rattle.group_writer.specs.PutBy.{PutBy}
+use Rattle.group_writer.specs.declared.Put.{Put}
 
 -- ── the rest ─────────────────────────────────────────────────────────────────────────────────
 
@@ -82,24 +89,58 @@ broken-some (some y) x e = cc
 
 -- ── one turn ─────────────────────────────────────────────────────────────────────────────────
 
+module _ (s : Sheet) (g n : ℕ) (h : g < n) {q : Ruling} (m : q ≡ ruling (buildRules (sectionGraph s g))) where
+  -- a group that keeps the rules leaves the others'
+  module _ (k : q ≡ Kept) where
+    kept-rules : buildRules (sectionGraph s g) ≡ none
+    kept-rules = kept-none (buildRules (sectionGraph s g)) (sym m ∙ k)
+
+    goes-on : {t : Option Refusal} → t ≡ rulesFrom s g n → t ≡ rulesFrom s (g + 1) n
+    goes-on e = e ∙ rules-next s g n h kept-rules ∙ ap (λ k. rulesFrom s k n) (sym (add-one g))
+
+  -- the rule that a group breaks is the first
+  stops : {t : Option Refusal} (x : Refusal) → t ≡ rulesFrom s g n → q ≡ Broken x → Broken x ≡ ruling t
+  unfolding ruling
+  stops x e k = rw (e, rules-broken s g n h x (broken-some (buildRules (sectionGraph s g)) x (sym m ∙ k)))
+
+-- of files by value
 module _ (s : Sheet) (g n : ℕ) {r : GroupFile} (m : Made s g r) (h : g < n) where
   module _ (k : r .ruling ≡ Kept) where
-    kept-rules : buildRules (sectionGraph s g) ≡ none
-    kept-rules = kept-none (buildRules (sectionGraph s g)) (sym (m .rules) ∙ k)
-
     pub turn-counted : Counted (r .file)
-    turn-counted = m .counted kept-rules
+    turn-counted = m .counted (kept-rules s g n h (m .rules) k)
 
     pub turn-rules : {t : Option Refusal} → t ≡ rulesFrom s g n → t ≡ rulesFrom s (g + 1) n
-    turn-rules e = e ∙ rules-next s g n h kept-rules ∙ ap (λ k. rulesFrom s k n) (sym (add-one g))
-
-    pub turn-length : {l q : ℕ} (t : ℕ) → l ≡ t + length (bytesFrom s g n) → q ≡ length (fileBytes (fileIn (r .file))) → l ≡ t + q + length (bytesFrom s (g + 1) n)
-    turn-length {l} {q} t e f =
-        let z : length (bytesFrom s g n) ≡ length (fileBytes (fileIn (r .file))) + length (bytesFrom s (g + 1) n) =
-        ap length (bytes-next s g n h) ∙ length-append (fileBytes (sectionFile s g)) (bytesFrom s (suc g) n)
-        ∙ rw (m .file kept-rules, add-one) in
-        omega arith
+    turn-rules e = goes-on s g n h (m .rules) k e
 
   pub turn-broken : {t : Option Refusal} (x : Refusal) → t ≡ rulesFrom s g n → r .ruling ≡ Broken x → Broken x ≡ ruling t
-  unfolding ruling
-  turn-broken x e k = rw (e, rules-broken s g n h x (broken-some (buildRules (sectionGraph s g)) x (sym (m .rules) ∙ k)))
+  turn-broken x e k = stops s g n h (m .rules) x e k
+
+-- of files that are written
+module _ (s : Sheet) (g n at : ℕ) {was is : List ℕ} {r : Put} (m : PutBy s g at was is r) (h : g < n) where
+  module _ (k : r .ruling ≡ Kept) where
+    this : Stored (sectionFile s g) at was is (r .length)
+    this = m .file (kept-rules s g n h (m .rules) k)
+
+    pub put-few : r .length ≤ maxFileSize
+    put-few = this .few
+
+    pub put-rules : {t : Option Refusal} → t ≡ rulesFrom s g n → t ≡ rulesFrom s (g + 1) n
+    put-rules e = goes-on s g n h (m .rules) k e
+
+    two-parts : bytesFrom s g n ≡ fileBytes (sectionFile s g) ++ bytesFrom s (g + 1) n
+    two-parts = bytes-next s g n h ∙ ap (λ k. fileBytes (sectionFile s g) ++ bytesFrom s k n) (sym (add-one g))
+
+    two-lengths : length (bytesFrom s g n) ≡ r .length + length (bytesFrom s (g + 1) n)
+    two-lengths = omega (arith, ap length two-parts, length-append (fileBytes (sectionFile s g)) (bytesFrom s (g + 1) n), this .length-is)
+
+    pub put-length : {l : ℕ} → l ≡ at + length (bytesFrom s g n) → l ≡ at + r .length + length (bytesFrom s (g + 1) n)
+    put-length e = omega (arith, two-lengths)
+
+    pub put-rest : {l o : ℕ} {t : List ℕ} → l ≡ at + length (bytesFrom s g n) → length was ≡ o → (l ≤ o → t ≡ sets was at (bytesFrom s g n))
+        → l ≤ o → t ≡ sets is (at + r .length) (bytesFrom s (g + 1) n)
+    put-rest e f d room =
+        let i : is ≡ sets was at (fileBytes (sectionFile s g)) = this .stored (omega (arith, two-lengths)) in
+        d room ∙ ap (sets was at) two-parts ∙ sets-append was at (fileBytes (sectionFile s g)) (bytesFrom s (g + 1) n) ∙ rw (this .length-is, i)
+
+  pub put-broken : {t : Option Refusal} (x : Refusal) → t ≡ rulesFrom s g n → r .ruling ≡ Broken x → Broken x ≡ ruling t
+  put-broken x e k = stops s g n h (m .rules) x e k

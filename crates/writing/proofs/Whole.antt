@@ -7,8 +7,8 @@ use Prim.Native.Nat.{ℕ, _+_, _-_, _≤_, _<_}
 use native.Mathlib.Numerals.{add-one}
 use native.Mathlib.Omega.{arith}
 use lib.Dec.{leb}
-use lib.ListN.{length, take, drop, length-append}
-use lib.Seq.{sets, sets-eq, take-at, drop-at}
+use lib.ListN.{length, take, drop}
+use lib.Seq.{sets, sets-eq, take-at, drop-at, length-take-le}
 use borrow.Author.Tests.{le-leb, lt-leb, leb-true}
 use Rattle.lists.proofs.Tests.{both}
 use Rattle.lists.proofs.Flat.{length-map-upFrom}
@@ -16,11 +16,9 @@ use Rattle.columns.specs.Limits.{maxGroups, maxSubject}
 use Rattle.columns.specs.Refusal.{unless}
 use Rattle.columns.specs.declared.refusal.Refusal.{Refusal}
 use Rattle.columns.specs.declared.refusal.Refusal.the-variants.{SliceShort}
-use Rattle.bigend.proofs.Several.{sets-append}
-use Rattle.archive.specs.Encode.{fileBytes}
 use Rattle.cleaning.specs.Sheet.{summaryOf}
 use Rattle.cleaning.specs.Writing.{written}
-use Rattle.cleaning.specs.Sections.{sectionFile, sectionRules, sectionBytes}
+use Rattle.cleaning.specs.Sections.{sectionRules, sectionBytes}
 use Rattle.cleaning.specs.Step.{refused, wrote, writeInto}
 use Rattle.cleaning.proofs.SheetFiles.{written-sections}
 use Rattle.held.specs.declared.Sheet.{Sheet}
@@ -31,13 +29,13 @@ use Rattle.tidying.specs.Long.{LongSheet}
 use Rattle.tidying.proofs.TidySheets.{counts, tidy-sheet, filled-sheet}
 use Rattle.rules.specs.Ruled.{ruling}
 use Rattle.rules.specs.declared.slots.Ruling.the-variants.{Kept, Broken}
-use Rattle.out_file.specs.View.{fileIn, Counted}
+use Rattle.out_file.specs.View.{Counted}
 use Rattle.group_file.specs.Made.{Made}
 use Rattle.group_file.specs.declared.GroupFile.{GroupFile}
-use Rattle.writing.specs.Answers.{MeasuredBy, Wrote}
+use Rattle.writing.specs.Answers.{MeasuredBy, Laid, Wrote}
 use Rattle.writing.specs.declared.Measured.{Measured}
 use Rattle.writing.specs.declared.Writing.the-variants.{Length, Refused}
-use Rattle.writing.proofs.Rest.{rulesFrom, bytesFrom, kept-none, broken-some, rules-end, bytes-end, rules-next, rules-first, bytes-next}
+use Rattle.writing.proofs.Rest.{rulesFrom, bytesFrom, kept-none, broken-some, rules-end, bytes-end, rules-next, rules-first}
 
 -- ── where the loops start ────────────────────────────────────────────────────────────────────
 
@@ -68,13 +66,10 @@ module _ (s : Sheet) where
   pub no-rules : sectionRules (sheetIn s) ≡ none → rulesFrom (sheetIn s) 0 (s .groups .count) ≡ none
   no-rules h = sym all-rules ∙ h
 
-  pub all-room : {m : ℕ} → length (sectionBytes (sheetIn s)) ≤ m → 0 + length (bytesFrom (sheetIn s) 0 (s .groups .count)) ≤ m
-  all-room h = omega (arith, all-length)
-
 -- ── where they end ───────────────────────────────────────────────────────────────────────────
 
 module _ (s : Sheet) (g n : ℕ) where
-  pub measured : (t : ℕ) → sectionRules (sheetIn s) ≡ rulesFrom (sheetIn s) g n → length (sectionBytes (sheetIn s)) ≡ t + length (bytesFrom (sheetIn s) g n) → n ≤ g
+  measured : (t : ℕ) → sectionRules (sheetIn s) ≡ rulesFrom (sheetIn s) g n → length (sectionBytes (sheetIn s)) ≡ t + length (bytesFrom (sheetIn s) g n) → n ≤ g
       → MeasuredBy (sheetIn s) (record { ruling = Kept; length = t })
   unfolding ruling
   measured t e f h = record {
@@ -82,17 +77,18 @@ module _ (s : Sheet) (g n : ℕ) where
     length-is = λ k. omega (arith, f, ap length (bytes-end (sheetIn s) g n h));
   }
 
-  pub all-written : {t : List ℕ} (l : List ℕ) (at : ℕ) → t ≡ sets l at (bytesFrom (sheetIn s) g n) → n ≤ g → l ≡ t
-  all-written l at e h = sym (e ∙ ap (sets l at) (bytes-end (sheetIn s) g n h))
+  pub laid : (t : ℕ) (was is : List ℕ) → sectionRules (sheetIn s) ≡ rulesFrom (sheetIn s) g n → length (sectionBytes (sheetIn s)) ≡ t + length (bytesFrom (sheetIn s) g n)
+      → (length (sectionBytes (sheetIn s)) ≤ length was → sets was 0 (sectionBytes (sheetIn s)) ≡ sets is t (bytesFrom (sheetIn s) g n)) → n ≤ g
+      → Laid (sheetIn s) was is (record { ruling = Kept; length = t })
+  laid t was is e f d h = record { measured = measured t e f h; stored = λ k room. sym (d room ∙ ap (sets is t) (bytes-end (sheetIn s) g n h)) }
 
-pub measured-broken : (s : Sheet) (x : Refusal) (t : ℕ) → Broken x ≡ ruling (sectionRules (sheetIn s)) → MeasuredBy (sheetIn s) (record { ruling = Broken x; length = t })
+pub laid-broken : (s : Sheet) (x : Refusal) (t : ℕ) (was is : List ℕ) → Broken x ≡ ruling (sectionRules (sheetIn s)) → Laid (sheetIn s) was is (record { ruling = Broken x; length = t })
 unfolding ruling
-measured-broken s x t e = record {
-  rules = e;
-  length-is = λ k. let f : Broken x ≡ Kept = e ∙ ap ruling k in let z : _≡_ {A = ℕ} 0 1 = cc in absurd (omega arith);
-}
+laid-broken s x t was is e =
+    let never : sectionRules (sheetIn s) ≡ none → ⊥ = λ k. let f : Broken x ≡ Kept = e ∙ ap ruling k in let z : _≡_ {A = ℕ} 0 1 = cc in omega arith in
+    record { measured = record { rules = e; length-is = λ k. absurd (never k) }; stored = λ k room. absurd (never k) }
 
--- ── one turn of the loop that writes ─────────────────────────────────────────────────────────
+-- ── one turn of a loop over files by value ───────────────────────────────────────────────────
 
 module _ (s : Sheet) (g n at : ℕ) {r : GroupFile} (m : Made (sheetIn s) g r) (h : g < n) (k : rulesFrom (sheetIn s) g n ≡ none) where
   pub file-counted : Counted (r .file)
@@ -101,26 +97,14 @@ module _ (s : Sheet) (g n at : ℕ) {r : GroupFile} (m : Made (sheetIn s) g r) (
   pub rest-rules : rulesFrom (sheetIn s) (g + 1) n ≡ none
   rest-rules = sym (rules-next (sheetIn s) g n h (rules-first (sheetIn s) g n h k) ∙ ap (λ x. rulesFrom (sheetIn s) x n) (sym (add-one g))) ∙ k
 
-  same-file : fileIn (r .file) ≡ sectionFile (sheetIn s) g
-  same-file = m .file (rules-first (sheetIn s) g n h k)
+-- ── a room ───────────────────────────────────────────────────────────────────────────────────
 
-  two-parts : bytesFrom (sheetIn s) g n ≡ fileBytes (fileIn (r .file)) ++ bytesFrom (sheetIn s) (g + 1) n
-  two-parts = bytes-next (sheetIn s) g n h ∙ rw (same-file, add-one)
+module _ (n : ℕ) (room : List ℕ) (h : n ≤ 196448) (e : length room ≡ 196448) where
+  pub room-taken : n ≡ length (take n room)
+  room-taken = sym (length-take-le n room (omega arith))
 
-  -- the file has room
-  pub file-room : {m : ℕ} → at + length (bytesFrom (sheetIn s) g n) ≤ m → at + length (fileBytes (fileIn (r .file))) ≤ m
-  file-room u = omega (arith, ap length two-parts, length-append (fileBytes (fileIn (r .file))) (bytesFrom (sheetIn s) (g + 1) n))
-
-  module _ {p : ℕ} (q : p ≡ at + length (fileBytes (fileIn (r .file)))) where
-    -- so have the others
-    pub rest-room : {l m : ℕ} → at + length (bytesFrom (sheetIn s) g n) ≤ l → m ≡ l
-        → p + length (bytesFrom (sheetIn s) (g + 1) n) ≤ m
-    rest-room u e = omega (arith, ap length two-parts, length-append (fileBytes (fileIn (r .file))) (bytesFrom (sheetIn s) (g + 1) n))
-
-    pub rest-written : {t : List ℕ} {now : List ℕ} (out : List ℕ) → t ≡ sets out at (bytesFrom (sheetIn s) g n) → now ≡ sets out at (fileBytes (fileIn (r .file)))
-        → t ≡ sets now p (bytesFrom (sheetIn s) (g + 1) n)
-    rest-written out e f =
-        e ∙ ap (sets out at) two-parts ∙ sets-append out at (fileBytes (fileIn (r .file))) (bytesFrom (sheetIn s) (g + 1) n) ∙ rw (q, f)
+  pub room-count : {o : ℕ} → n ≤ o → 0 + length (take n room) ≤ o
+  room-count k = omega (arith, room-taken)
 
 -- ── what writing answers ─────────────────────────────────────────────────────────────────────
 
@@ -128,7 +112,10 @@ module _ (s : Sheet) (l : LongSheet s) (k : sheetOk s ≡ true) (o : ordered s �
   as-sections : written (summaryOf (sheetIn s)) ≡ unless (sectionRules (sheetIn s)) (sectionBytes (sheetIn s))
   as-sections = written-sections (sheetIn s) (tidy-sheet s l k o) (sym (filled-sheet s l k) ∙ f)
 
-  module _ {m : Measured} (d : MeasuredBy (sheetIn s) m) (was : List ℕ) where
+  module _ {m : Measured} {old room : List ℕ} (q : Laid (sheetIn s) old room m) (was : List ℕ) where
+    d : MeasuredBy (sheetIn s) m
+    d = q .measured
+
     pub wrote-refused : (x : Refusal) → m .ruling ≡ Broken x → Wrote (sheetIn s) was was (Refused x)
     unfolding unless
     wrote-refused x e = record {
@@ -138,7 +125,7 @@ module _ (s : Sheet) (l : LongSheet s) (k : sheetOk s ≡ true) (o : ordered s �
     }
 
     module _ (e : m .ruling ≡ Kept) where
-      pub no-rule : sectionRules (sheetIn s) ≡ none
+      no-rule : sectionRules (sheetIn s) ≡ none
       no-rule = kept-none (sectionRules (sheetIn s)) (sym (d .rules) ∙ e)
 
       all-accepted : writeInto (length was) (written (summaryOf (sheetIn s))) ≡ cond (leb (length (sectionBytes (sheetIn s))) (length was)) (wrote (sectionBytes (sheetIn s))) (refused SliceShort)
@@ -150,18 +137,30 @@ module _ (s : Sheet) (l : LongSheet s) (k : sheetOk s ≡ true) (o : ordered s �
           let q : length was < length (sectionBytes (sheetIn s)) = omega (arith, d .length-is no-rule) in
           record { answer = sym (all-accepted ∙ rw (lt-leb (length (sectionBytes (sheetIn s))) (length was) q)); rest = refl; within = omega arith }
 
-      pub room-for-all : m .length ≤ length was → length (sectionBytes (sheetIn s)) ≤ length was
-      room-for-all h = omega (arith, d .length-is no-rule)
+      module _ (h : m .length ≤ length was) where
+        wrote-all : {is : List ℕ} → is ≡ sets was 0 (sectionBytes (sheetIn s)) → Wrote (sheetIn s) was is (Length (m .length))
+        wrote-all {is} q =
+            let w = sectionBytes (sheetIn s) in
+            let n : m .length ≡ length w = d .length-is no-rule in
+            let z : 0 + length w ≡ length w = omega arith in
+            let p : is ≡ w ++ drop (length w) was = q ∙ sets-eq w was 0 (omega arith) ∙ rw z in
+            let t : take (m .length) is ≡ w = rw (p, n) (take-at w (drop (length w) was) (length w) refl) in
+            record {
+              answer = ap wrote t ∙ sym (all-accepted ∙ rw (le-leb (length w) (length was) (omega arith)));
+              rest = rw (p, n) (drop-at w (drop (length w) was) (length w) refl);
+              within = h;
+            }
 
-      pub wrote-all : {is : List ℕ} → m .length ≤ length was → is ≡ sets was 0 (sectionBytes (sheetIn s)) → Wrote (sheetIn s) was is (Length (m .length))
-      wrote-all {is} h q =
-          let w = sectionBytes (sheetIn s) in
-          let n : m .length ≡ length w = d .length-is no-rule in
-          let z : 0 + length w ≡ length w = omega arith in
-          let p : is ≡ w ++ drop (length w) was = q ∙ sets-eq w was 0 (omega arith) ∙ rw z in
-          let t : take (m .length) is ≡ w = rw (p, n) (take-at w (drop (length w) was) (length w) refl) in
-          record {
-            answer = ap wrote t ∙ sym (all-accepted ∙ rw (le-leb (length w) (length was) (omega arith)));
-            rest = rw (p, n) (drop-at w (drop (length w) was) (length w) refl);
-            within = h;
-          }
+        -- out of the room that it was laid in
+        pub wrote-copy : {is : List ℕ} → length old ≡ 196448 → m .length ≤ 196448 → is ≡ sets was 0 (take (m .length) room) → Wrote (sheetIn s) was is (Length (m .length))
+        wrote-copy o k e =
+            let w = sectionBytes (sheetIn s) in
+            let n : m .length ≡ length w = d .length-is no-rule in
+            let z : 0 + length w ≡ length w = omega arith in
+            let p : room ≡ w ++ drop (length w) old = q .stored no-rule (omega arith) ∙ sets-eq w old 0 (omega arith) ∙ rw z in
+            let c : take (m .length) room ≡ w = rw (p, n) (take-at w (drop (length w) old) (length w) refl) in
+            wrote-all (e ∙ ap (sets was 0) c)
+
+        -- laid where it belongs
+        pub wrote-again : {is : List ℕ} {m′ : Measured} → Laid (sheetIn s) was is m′ → Wrote (sheetIn s) was is (Length (m .length))
+        wrote-again r = wrote-all (r .stored no-rule (omega (arith, d .length-is no-rule)))

@@ -4,6 +4,7 @@ use mathlib.Core.List.{List}
 use mathlib.Core.Option.{none}
 use Prim.Native.Nat.{ℕ, _≤_}
 use lib.ListN.{length, take, drop}
+use lib.Seq.{sets}
 use Rattle.cleaning.specs.Sheet.{Sheet, summaryOf}
 use Rattle.cleaning.specs.Sections.{sectionRules, sectionBytes}
 use Rattle.cleaning.specs.Writing.{written}
@@ -17,6 +18,11 @@ use Rattle.writing.specs.declared.Writing.the-variants.{Length, Refused}
 pub record MeasuredBy (s : Sheet) (r : Measured) : Type 0 where
   pub rules : r .ruling ≡ ruling (sectionRules s)
   pub length-is : sectionRules s ≡ none → r .length ≡ length (sectionBytes s)
+
+-- the same; where no rule is broken and the archive has room, it stands from the start on
+pub record Laid (s : Sheet) (was is : List ℕ) (r : Measured) : Type 0 where
+  pub measured : MeasuredBy s r
+  pub stored : sectionRules s ≡ none → length (sectionBytes s) ≤ length was → is ≡ sets was 0 (sectionBytes s)
 
 -- how many bytes an answer speaks of
 abbrev pub lengthOf : Writing → ℕ

@@ -1,22 +1,16 @@
 // The cleaned archive of a run's survivors: one file for each group, groups rising.
+use bigend_columns::store_bytes;
 use columns::refusal::Refusal;
-use file_writer::size_of_file;
-use file_writer::write_file;
-use group_file::group_file;
+use group_writer::put_group;
 use held::Sheet;
 use rules::slots::Ruling;
 use tidying::long::sheet_long;
 ghost use mathlib.Core.Path.{_≡_};
 ghost use mathlib.Core.Bool.{true};
-ghost use mathlib.Core.Option.{none};
-ghost use Prim.Native.Nat.{_≤_};
-ghost use lib.ListN.{length};
-ghost use lib.Seq.{sets};
-ghost use Rattle.cleaning.specs.Sections.{sectionRules, sectionBytes};
 ghost use Rattle.held.specs.View.{sheetIn};
 ghost use Rattle.held.specs.Valid.{sheetOk};
 ghost use Rattle.tidying.specs.Ordered.{ordered, filled};
-ghost use Rattle.writing.specs.Answers.{MeasuredBy, Wrote};
+ghost use Rattle.writing.specs.Answers.{Laid, Wrote};
 
 // The first broken rule of all groups, or how long the archive is.
 pub struct Measured {
@@ -30,18 +24,35 @@ pub enum Writing {
     Refused(Refusal),
 }
 
-// Building's rules, group by group, and the length of all files.
-pub fn measure(s: Sheet) -> Measured
+// Building's rules, group by group, and the length of all files, each of which is written where it has room.
+fn put_groups(s: Sheet, out: &mut [u8]) -> Measured
     requires { ⌜ (sheetOk s ≡ true) × (ordered s ≡ true) ⌝ }
-    ensures { λ r. ⌜ MeasuredBy (sheetIn s) r ⌝ }
+    ensures { λ r. ⌜ Laid (sheetIn s) (now (out .entry)) (now (out .exit)) r ⌝ }
 {
     sheet_long(s);
+    let mut fo = [0u64; 2049];
+    let mut fd = [0i64; 4096];
+    let mut ro = [0u64; 2049];
+    let mut rd = [0i64; 4096];
+    let mut io = [0u64; 2049];
+    let mut id = [0i64; 4096];
     let n = s.groups.count;
     let mut total: usize = 0;
     let mut g: usize = 0;
     while g < n {
-        let f = group_file(s, g);
-        let v = f.ruling;
+        let p = put_group(
+            s,
+            g,
+            out,
+            total,
+            &mut fo,
+            &mut fd,
+            &mut ro,
+            &mut rd,
+            &mut io,
+            &mut id,
+        );
+        let v = p.ruling;
         match v {
             Ruling::Broken(x) => {
                 return Measured {
@@ -50,7 +61,7 @@ pub fn measure(s: Sheet) -> Measured
                 };
             }
             Ruling::Kept => {
-                total += size_of_file(f.file);
+                total += p.length;
                 g += 1;
             }
         }
@@ -61,30 +72,15 @@ pub fn measure(s: Sheet) -> Measured
     }
 }
 
-// The files of all groups, which keep the rules and have room.
-fn write_groups(s: Sheet, out: &mut [u8])
-    requires { ⌜ (sheetOk s ≡ true) × (ordered s ≡ true) ⌝ }
-    requires { ⌜ (sectionRules (sheetIn s) ≡ none) × (length (sectionBytes (sheetIn s)) ≤ length (now out)) ⌝ }
-    ensures { λ _. ⌜ now (out .exit) ≡ sets (now (out .entry)) 0 (sectionBytes (sheetIn s)) ⌝ }
-{
-    sheet_long(s);
-    let n = s.groups.count;
-    let mut at: usize = 0;
-    let mut g: usize = 0;
-    while g < n {
-        let f = group_file(s, g);
-        at = write_file(f.file, out, at);
-        g += 1;
-    }
-}
-
-// Writes the archive, unless a rule refuses it or it has no room.
+// Writes the archive, unless a rule refuses it or it has no room. The archive is laid in a room of its own first, since nothing changes before the
+// last rule; one that were longer than the room is laid again where it belongs.
 pub fn write_sheet(s: Sheet, out: &mut [u8]) -> Writing
     requires { ⌜ (sheetOk s ≡ true) × ((ordered s ≡ true) × (filled s ≡ true)) ⌝ }
     ensures { λ r. ⌜ Wrote (sheetIn s) (now (out .entry)) (now (out .exit)) r ⌝ }
 {
     sheet_long(s);
-    let m = measure(s);
+    let mut room = [0u8; 196448];
+    let m = put_groups(s, &mut room);
     let v = m.ruling;
     match v {
         Ruling::Broken(x) => Writing::Refused(x),
@@ -93,7 +89,11 @@ pub fn write_sheet(s: Sheet, out: &mut [u8]) -> Writing
             if out.len() < n {
                 return Writing::Refused(Refusal::SliceShort);
             }
-            write_groups(s, out);
+            if n <= 196448 {
+                store_bytes(&room[..n], out, 0);
+                return Writing::Length(n);
+            }
+            put_groups(s, out);
             Writing::Length(n)
         }
     }

@@ -1,12 +1,14 @@
 -- `file_writer::parts::put_rows` meets its contract.
-use Rattle.file_writer.proofs.Taken.{taken, flags-fit, flags-taken, rows-even, rows-room, rows-short, rows-end, rows-put}
+use Rattle.file_writer.proofs.Taken.{flags-fit, flags-taken, rows-even, rows-room, rows-short, rows-end, rows-put}
 use borrow.Author.Needs.{needs}
-use native.Mathlib.Omega.{arith}
 use Rattle.file_writer.proofs.parts.put_rows.Statement.{statement}
 use Rattle.file_writer.proofs.parts.put_rows.Tie as tie
 
 unflagged-requires : tie.Need-unflagged-requires
 unflagged-requires c κs = search needs
+
+add-b : tie.Need-add-b
+add-b c = search needs
 
 array-share-prefix-flags : tie.Need-array-share-prefix-flags
 array-share-prefix-flags c = search flags-fit
@@ -14,11 +16,17 @@ array-share-prefix-flags c = search flags-fit
 slice-aggregate-record-rows : tie.Need-slice-aggregate-record-rows
 slice-aggregate-record-rows c = search flags-taken
 
-array-share-prefix-tags : tie.Need-array-share-prefix-tags
-array-share-prefix-tags c = omega arith
+mul-record-rows : tie.Need-mul-record-rows
+mul-record-rows c = search needs
 
-slice-aggregate-record-rows-2 : tie.Need-slice-aggregate-record-rows-2
-slice-aggregate-record-rows-2 c = search taken
+sub-record-rows : tie.Need-sub-record-rows
+sub-record-rows c = search needs
+
+part-record-rows-start : tie.Need-part-record-rows-start
+part-record-rows-start c = search needs
+
+part-record-rows-end : tie.Need-part-record-rows-end
+part-record-rows-end c = search needs
 
 record-rows-requires : tie.Need-record-rows-requires
 record-rows-requires c κs = (search rows-even, search rows-room, search rows-short)
@@ -34,10 +42,13 @@ put-rows-spec =
     tie.close
     (tie.spec
     unflagged-requires
+    add-b
     array-share-prefix-flags
     slice-aggregate-record-rows
-    array-share-prefix-tags
-    slice-aggregate-record-rows-2
+    mul-record-rows
+    sub-record-rows
+    part-record-rows-start
+    part-record-rows-end
     record-rows-requires
     same-length
     returns)

@@ -1,0 +1,96 @@
+-- The file of a group whose edge sets stand in lent slices, and the group's rules.
+use mathlib.Core.Path.{_≡_, refl, subst}
+use mathlib.Core.Bool.{true}
+use mathlib.Core.List.{List, map}
+use mathlib.Core.Option.{none, some}
+use Prim.Native.Nat.{ℕ, suc, _+_, _-_, _≤_, _<_}
+use native.Mathlib.Omega.{arith}
+use lib.IntN.{ℤ}
+use lib.ListN.{length, getD}
+use Rattle.lists.specs.Lists.{part}
+use Rattle.columns.specs.Building.{buildRules}
+use Rattle.columns.specs.Reading.{labelsOf}
+use Rattle.columns.specs.declared.refusal.Refusal.{Refusal}
+use Rattle.encoding.specs.declared.writing.Counts.{Counts}
+use Rattle.encoding.specs.declared.kept.Encoded.{Encoded}
+use Rattle.encoding.specs.declared.kept.Encoded.the-variants.{Edges, Refused}
+use Rattle.cleaning.specs.Sections.{between, coverWhere, sectionUnresolved, sectionRoots, sectionGraph, sectionFileOf, sectionFile}
+use Rattle.rules.specs.Ruled.{ruling}
+use Rattle.rules.specs.declared.slots.Ruling.the-variants.{Kept, Broken}
+use Rattle.held.specs.declared.Sheet.{Sheet}
+use Rattle.held.specs.declared.Roots.{Roots}
+use Rattle.held.specs.declared.Unresolved.{Unresolved}
+use Rattle.held.specs.View.{listed, hasCover, factsAt, unresolvedAt, rootAt, linkAt, sheetIn}
+use Rattle.held.specs.Valid.{sheetOk}
+use Rattle.tidying.specs.Ordered.{ordered}
+use Rattle.tidying.specs.Long.{LongSheet}
+use Rattle.out_file.specs.declared.Sets.{Sets}
+use Rattle.out_file.specs.declared.Head.{Head}
+use Rattle.out_file.specs.declared.Cover.{Cover}
+use Rattle.out_file.specs.View.{depthIn, coverIn, fileIn, builtIn, Counted}
+use Rattle.out_file.specs.Lent.{setsOf, noCover, lentFile}
+use Rattle.file_writer.specs.Long.{LongSets}
+use Rattle.file_writer.specs.Stored.{Stored}
+use Rattle.file_writer.proofs.Whole.{tags-listed}
+use Rattle.group_cover.proofs.Covered.{covers-none}
+use Rattle.section_sets.specs.Parted.{judged}
+use Rattle.group_sets.specs.ByVerdict.{SetsBy, lentSets}
+use Rattle.group_sets.specs.ColumnGraphs.{LongSlices}
+use Rattle.group_sets.proofs.SetSizes.{value-refused, value-built}
+use Rattle.group_file.specs.Made.{SpanOf, FewEdges}
+use Rattle.group_file.proofs.Spans.{rows-within, span-room}
+use Rattle.group_file.proofs.Assembled.{file-made, file-counted, broken-rule, held-sets, few-edges}
+use Rattle.group_writer.specs.PutBy.{PutBy}
+
+-- ── the file ─────────────────────────────────────────────────────────────────────────────────
+
+pub slices-long : (f r i : ℕ) {fo : List ℕ} {fd : List ℤ} {ro : List ℕ} {rd : List ℤ} {io : List ℕ} {id : List ℤ} → LongSlices fo fd ro rd io id
+    → LongSets (setsOf f r i fo fd ro rd io id)
+slices-long f r i l = record {
+  forward = record { offsets = l .forward-offsets; deltas = l .forward-deltas };
+  reverse = record { offsets = l .reverse-offsets; deltas = l .reverse-deltas };
+  inbound = record { offsets = l .inbound-offsets; deltas = l .inbound-deltas };
+}
+
+module _ (s : Sheet) (g a b : ℕ) (l : LongSheet s) (k : sheetOk s ≡ true) (o : ordered s ≡ true) (h : g < s .groups .count) (p : SpanOf s g a b)
+    (sets : Sets) (u : Unresolved) (roots : Roots) (head : Head) where
+  -- its rows are there
+  pub tags-room : a + (b - a) ≤ length (s .rows .tags)
+  tags-room = omega (arith, span-room s g a b p l k o, l .rows .tags)
+
+  module _ (cover : Cover) (cv : coverIn (b - a) cover ≡ coverWhere (hasCover (s .groups) g) (labelsOf (part a (b - a) (s .rows .chains)) (part a (b - a) (s .rows .seqs)))
+      (map (λ x. x .link) (between (λ x. x .group) g (suc g) (listed (linkAt (s .links)) (s .links .count))))) where
+    pub lent-counted : u .count ≤ 1024 → roots .count ≤ 1024 → FewEdges sets → (cover .ranges .count ≤ 1024) × (cover .links .count ≤ 1024)
+        → Counted (lentFile head (s .subject) (s .rows .tags) a (b - a) sets u roots cover)
+    lent-counted us rs few cs =
+        let room = span-room s g a b p l k o in
+        file-counted s g a b l k o h p sets u roots _ head cover (refl, tags-listed (s .rows .tags) a (b - a) (omega arith) tags-room) us rs few cs room
+
+    pub section-stored : listed (unresolvedAt u) (u .count) ≡ sectionUnresolved (sheetIn s) g → listed (rootAt roots) (roots .count) ≡ sectionRoots (sheetIn s) g
+        → (head .first ≡ s .start + a) × ((head .group ≡ g) × (depthIn head ≡ (factsAt (s .groups) g) .depth)) → {at r : ℕ} {was is : List ℕ}
+        → Stored (fileIn (lentFile head (s .subject) (s .rows .tags) a (b - a) sets u roots cover)) at was is r → Stored (sectionFileOf (sheetIn s) g (builtIn (b - a) sets)) at was is r
+    section-stored us rs hd {at} {r} {was} {is} q =
+        let room = span-room s g a b p l k o in
+        let e = file-made s g a b l k o h p sets u roots _ head cover (refl, tags-listed (s .rows .tags) a (b - a) (omega arith) tags-room) us rs hd cv in
+        subst (λ f. Stored f at was is r) e q
+
+-- ── the verdict ──────────────────────────────────────────────────────────────────────────────
+
+module _ (s : Sheet) (g n : ℕ) (e : Encoded) (fo : List ℕ) (fd : List ℤ) (ro : List ℕ) (rd : List ℤ) (io : List ℕ) (id : List ℤ)
+    (m : SetsBy (judged (sectionGraph (sheetIn s) g)) n (lentSets e fo fd ro rd io id)) (at : ℕ) (was : List ℕ) where
+  pub put-broken : (x : Refusal) (is : List ℕ) → e ≡ Refused x → PutBy (sheetIn s) g at was is (record { ruling = Broken x; length = 0 })
+  unfolding ruling
+  put-broken x is d =
+      let w = broken-rule s g n _ (value-refused _ n e fo fd ro rd io id m x d (setsOf 0 0 0 fo fd ro rd io id)) x refl in
+      record { rules = rw w; file = λ h. let z : _≡_ {A = ℕ} 0 1 = cc in absurd (omega arith) }
+
+  module _ (c : Counts) (d : e ≡ Edges c) where
+    pub edges-few : FewEdges (setsOf (c .forward) (c .reverse) (c .inbound) fo fd ro rd io id)
+    edges-few = few-edges s g n _ (value-built _ n e fo fd ro rd io id m c d) refl
+
+    pub put-kept : {is : List ℕ} {k : ℕ} → Stored (sectionFileOf (sheetIn s) g (builtIn n (setsOf (c .forward) (c .reverse) (c .inbound) fo fd ro rd io id))) at was is k
+        → PutBy (sheetIn s) g at was is (record { ruling = Kept; length = k })
+    unfolding ruling sectionFile
+    put-kept {is} {k} q =
+        let w = held-sets s g n _ (value-built _ n e fo fd ro rd io id m c d) refl in
+        record { rules = rw (w .0); file = λ h. subst (λ b. Stored (sectionFileOf (sheetIn s) g b) at was is k) (w .1 .sets) q }
