@@ -1,13 +1,7 @@
 // A taking's last step: the files of an accepted archive are appended to what a run holds, part by part: each part is grown in place over all files.
-use held::Edges;
 use held::Held;
-use held::Links;
-use held::Roots;
-use held::Rows;
 use held::Sheet;
-use held::Unresolved;
 use storing_links::store_links;
-use storing_names::Names;
 use storing_names::store_names;
 use storing_records::store_roots;
 use storing_records::store_unresolved;

@@ -80,7 +80,7 @@ fn cover_links(
     );
 }
 
-// The links of a file of n rows, after c others.
+// The links of a file, after c others.
 fn add_links(
     groups: &mut [u8; 1024],
     chains: &mut [u32; 1024],
@@ -88,20 +88,22 @@ fn add_links(
     tochains: &mut [u32; 1024],
     toseqs: &mut [u32; 1024],
     c: usize,
-    group: u8,
-    n: usize,
     bytes: &[u8],
-    t: TailAt,
+    f: FileAt,
 )
-    requires { ⌜ HoldsTail (now bytes) n t × (SumsIn (t .covered) (now bytes) n t × Uncovers (t .covered) (t .cover)) ⌝ }
-    requires { ⌜ (c + t .cover .links ≤ 1024) × ((n ≤ 1024) × (t .cover .ranges ≤ 1024)) ⌝ }
-    ensures { λ _. ⌜ linksOf (c + t .cover .links) (now (groups .exit)) (now (chains .exit)) (now (seqs .exit)) (now (tochains .exit)) (now (toseqs .exit)) ≡ linksMore (linksOf c (now (groups .entry)) (now (chains .entry)) (now (seqs .entry)) (now (tochains .entry)) (now (toseqs .entry))) group ((tailIn (now (bytes .entry)) n t) .cover) ⌝ }
+    requires { ⌜ HoldsTail (now bytes) (f .front .head .rows) (f .tail) × (SumsIn (f .tail .covered) (now bytes) (f .front .head .rows) (f .tail) × Uncovers (f .tail .covered) (f .tail .cover)) ⌝ }
+    requires { ⌜ (c + f .tail .cover .links ≤ 1024) × ((f .front .head .rows ≤ 1024) × (f .tail .cover .ranges ≤ 1024)) ⌝ }
+    ensures { λ _. ⌜ linksOf (c + f .tail .cover .links) (now (groups .exit)) (now (chains .exit)) (now (seqs .exit)) (now (tochains .exit)) (now (toseqs .exit)) ≡ linksMore (linksOf c (now (groups .entry)) (now (chains .entry)) (now (seqs .entry)) (now (tochains .entry)) (now (toseqs .entry))) (f .front .head .group) ((tailIn (now (bytes .entry)) (f .front .head .rows) (f .tail)) .cover) ⌝ }
 {
+    let t = f.tail;
     if !t.covered {
         return;
     }
+    let a = f.front;
+    let d = a.head;
+    let n = d.rows as usize;
     let k = t.cover;
-    fill(groups, c, k.links, group);
+    fill(groups, c, k.links, d.group);
     cover_links(chains, seqs, tochains, toseqs, c, n, bytes, t);
 }
 
@@ -123,10 +125,6 @@ pub fn store_links(h: Held, bytes: &[u8]) -> Links
         let FileRead::FileIs(f) = x else {
             break;
         };
-        let a = f.front;
-        let d = a.head;
-        let n = d.rows as usize;
-        let t = f.tail;
         add_links(
             &mut groups,
             &mut chains,
@@ -134,11 +132,10 @@ pub fn store_links(h: Held, bytes: &[u8]) -> Links
             &mut tochains,
             &mut toseqs,
             c,
-            d.group,
-            n,
             bytes,
-            t,
+            f,
         );
+        let t = f.tail;
         let w = t.cover;
         c += w.links;
         p = t.end;
@@ -147,10 +144,7 @@ pub fn store_links(h: Held, bytes: &[u8]) -> Links
     Links {
         count: c,
         groups: groups,
-        from: Ends {
-            chains: chains,
-            seqs: seqs,
-        },
+        from: Ends { chains, seqs },
         to: Ends {
             chains: tochains,
             seqs: toseqs,

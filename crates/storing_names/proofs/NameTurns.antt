@@ -21,7 +21,6 @@ use Rattle.held.specs.declared.Groups.{Groups}
 use Rattle.held.specs.declared.Held.{Held}
 use Rattle.storing_parts.specs.Grown.{groupsWith, subjectNew}
 use Rattle.storing.specs.Joined.{sheetMore, heldMore}
-use Rattle.storing_file.specs.Fits.{HeldRoom}
 use Rattle.storing_file.specs.Steps.{heldNext}
 use Rattle.storing_turns.specs.Parts.{Accepted}
 use Rattle.storing_turns.proofs.Turns.{Walk, walk-start, walk-whole, walk-parts, walk-ordered, walk-room, walk-on, no-file}

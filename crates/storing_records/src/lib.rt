@@ -1,5 +1,4 @@
 // The unresolved references and state roots of a run, grown by those of every file of an archive, in place.
-use archive_reader::records::FileAt;
 use archive_reader::records::FileRead;
 use archive_reader::records::MiddleAt;
 use archive_reader::records::TailAt;

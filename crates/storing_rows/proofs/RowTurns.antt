@@ -1,6 +1,6 @@
 -- The loops over an archive's files that grow the rows and their flags: what one file adds, and one turn.
 use mathlib.Core.Path.{_≡_, refl, sym, ap, _∙_}
-use mathlib.Core.Bool.{Bool, true, false, not}
+use mathlib.Core.Bool.{true, false, not}
 use mathlib.Core.List.{List, map}
 use mathlib.Core.Option.{Option, none, some}
 use Prim.Native.Nat.{ℕ, _≤_, _<_, _+_, _*_}
@@ -16,7 +16,7 @@ use Rattle.archive.specs.File.{CoverColumns, Row}
 use Rattle.archive.specs.Parse.{file, rowAt}
 use Rattle.archive.proofs.Back.{length-several}
 use Rattle.archive_bodies.specs.View.{headIn, coverIn}
-use Rattle.archive_reader.specs.Layout.{partIn, frontIn, middleIn, tailIn, fileFrom, fileIn, fileOf, Holds, HoldsTail, AfterFile}
+use Rattle.archive_reader.specs.Layout.{partIn, frontIn, middleIn, tailIn, fileFrom, fileIn, fileOf, Holds, AfterFile}
 use Rattle.archive_reader.specs.declared.records.TailAt.{TailAt}
 use Rattle.archive_reader.specs.declared.records.FileAt.{FileAt}
 use Rattle.archive_reader.specs.declared.records.FileRead.{FileRead}
@@ -28,7 +28,6 @@ use Rattle.storing_columns.specs.Column.{bit}
 use Rattle.storing_parts.specs.Grown.{rowsWith, labelsWith}
 use Rattle.storing_parts.proofs.Things.{map-several, same-several}
 use Rattle.storing.specs.Joined.{labelsMore, sheetMore, heldMore}
-use Rattle.storing_file.specs.Fits.{HeldRoom}
 use Rattle.storing_file.specs.Steps.{heldNext}
 use Rattle.storing_turns.specs.Parts.{stored, Accepted}
 use Rattle.storing_turns.proofs.Turns.{Walk, walk-start, part-done, walk-room, walk-on, no-file, rows-next, two-are}

@@ -1,6 +1,5 @@
 // The lists of a run grown by one set of every file of an archive, in place.
 use archive_bodies::EdgesAt;
-use archive_reader::records::FileAt;
 use archive_reader::records::FileRead;
 use archive_reader::records::FrontAt;
 use archive_reader::records::Part;

@@ -3,7 +3,6 @@ use mathlib.Core.Path.{_≡_, refl, sym, ap, _∙_}
 use mathlib.Core.Bool.{true, false, not, false≢true}
 use mathlib.Core.List.{List, _∷_, map, foldl}
 use Prim.Native.Nat.{ℕ, suc, _+_, _-_, _≤_, _<_}
-use mathlib.Core.Option.{none}
 use native.Mathlib.Omega.{arith}
 use lib.ListN.{length}
 use borrow.Author.Tests.{lt-leb, not-false}
@@ -20,7 +19,7 @@ use Rattle.archive_reader.specs.declared.records.FileRead.{FileRead}
 use Rattle.archive_reader.specs.declared.records.FileRead.the-variants.{FileIs, NoFile}
 use Rattle.archive_reader.proofs.AtFiles.{files-end, file-past, file-fits, file-counts, file-holds, rows-counted}
 use Rattle.cleaning.specs.Source.{sourceOf}
-use Rattle.cleaning.specs.Held.{heldWith, holdRules}
+use Rattle.cleaning.specs.Held.{heldWith}
 use Rattle.cleaning.specs.History.{filesIn}
 use Rattle.cleaning.proofs.Neat.{Neat}
 use Rattle.held.specs.declared.Held.{Held}
@@ -141,7 +140,7 @@ module _ {A : Type 0} (view : Held → A) (h : Held) (a : A) (l : List ℕ) (k p
       holds : HoldsFile l f
       holds = file-holds l p x b m
 
-      pub uncovers : Uncovers (f .tail .covered) (f .tail .cover)
+      uncovers : Uncovers (f .tail .covered) (f .tail .cover)
       uncovers = file-counts l p x b m .5
 
       pub walk-room : HeldRoom q l f

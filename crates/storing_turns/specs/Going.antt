@@ -1,5 +1,4 @@
 -- What is held after the files of an archive are stored.
-use mathlib.Core.Path.{_≡_}
 use mathlib.Core.Bool.{Bool, true, false}
 use mathlib.Core.List.{List, map, foldl}
 use Rattle.archive.specs.Reader.{Parsed, broken, got}

@@ -12,6 +12,9 @@ use Rattle.storing_links.proofs.cover_links.Reads as cover-links-reads
 returns : tie.Need-returns
 returns c = search links-none
 
+cast-n : tie.Need-cast-n
+cast-n c = search needs
+
 fill-requires : tie.Need-fill-requires
 fill-requires c κs = search needs
 
@@ -22,4 +25,4 @@ returns-2 : tie.Need-returns-2
 returns-2 c = search links-some
 
 pub add-links-spec : {M : Type 1} → statement M
-add-links-spec = tie.close (tie.spec returns fill-requires cover-links-requires returns-2)
+add-links-spec = tie.close (tie.spec returns cast-n fill-requires cover-links-requires returns-2)

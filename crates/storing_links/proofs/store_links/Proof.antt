@@ -32,9 +32,6 @@ enum-known-x c = search needs
 enum-told : tie.Need-enum-told Inv-loop μ-loop
 enum-told c = search needs
 
-cast-n : tie.Need-cast-n Inv-loop μ-loop
-cast-n c = search needs
-
 add-links-requires : tie.Need-add-links-requires Inv-loop μ-loop
 add-links-requires c κs = ((search links-hold, (search links-sums, search links-uncovers)), (search links-room, (search links-rows, search links-ranges)))
 
@@ -66,7 +63,6 @@ store-links-spec =
     file-at-requires
     enum-known-x
     enum-told
-    cast-n
     add-links-requires
     add-c
     next-requires

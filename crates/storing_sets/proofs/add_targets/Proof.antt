@@ -1,3 +1,4 @@
+-- `storing_sets::add_targets` meets its contract.
 use Rattle.storing_sets.proofs.SetTurns.{rows-front, numbers-front}
 use borrow.Author.Needs.{needs}
 use Rattle.storing_sets.proofs.add_targets.Statement.{statement}
@@ -6,27 +7,21 @@ use Rattle.storing_sets.proofs.add_targets.Reads as reads
 use Rattle.storing_sets.proofs.add_targets.Lts as lts
 use Rattle.storing_columns.proofs.put_targets.Reads as put-targets-reads
 
--- src/lib.rt:129:13
 mul-m : tie.Need-mul-m
 mul-m c = search needs
 
--- src/lib.rt:129:13
 add-m : tie.Need-add-m
 add-m c = search needs
 
--- src/lib.rt:135:9
 slice-aggregate-put-targets : tie.Need-slice-aggregate-put-targets
 slice-aggregate-put-targets c = search rows-front
 
--- src/lib.rt:136:9
 slice-aggregate-put-targets-2 : tie.Need-slice-aggregate-put-targets-2
 slice-aggregate-put-targets-2 c = search numbers-front
 
--- src/lib.rt:130:5
 put-targets-requires : tie.Need-put-targets-requires
 put-targets-requires c κs = search needs
 
--- src/lib.rt:116:1
 returns : tie.Need-returns
 returns c = search needs
 

@@ -1,3 +1,4 @@
+-- `storing_sets::read_columns` meets its contract.
 use Rattle.storing_sets.proofs.SetTurns.{set-loaded, table-long, numbers-long}
 use borrow.Author.Needs.{needs}
 use Rattle.storing_sets.proofs.read_columns.Statement.{statement}
@@ -7,39 +8,30 @@ use Rattle.storing_sets.proofs.read_columns.Lts as lts
 use Rattle.bigend_columns.proofs.fill_i64s.Reads as fill-i64s-reads
 use Rattle.bigend_columns.proofs.fill_u64s.Reads as fill-u64s-reads
 
--- src/lib.rt:74:13
 mul-m : tie.Need-mul-m
 mul-m c = search needs
 
--- src/lib.rt:74:13
 add-m : tie.Need-add-m
 add-m c = search needs
 
--- src/lib.rt:75:22
 add-fill-u64s : tie.Need-add-fill-u64s
 add-fill-u64s c = search needs
 
--- src/lib.rt:75:5
 fill-u64s-requires : tie.Need-fill-u64s-requires
 fill-u64s-requires c κs = search needs
 
--- src/lib.rt:76:22
 add-fill-i64s : tie.Need-add-fill-i64s
 add-fill-i64s c = search needs
 
--- src/lib.rt:76:31
 mul-fill-i64s : tie.Need-mul-fill-i64s
 mul-fill-i64s c = search needs
 
--- src/lib.rt:76:22
 add-fill-i64s-2 : tie.Need-add-fill-i64s-2
 add-fill-i64s-2 c = search needs
 
--- src/lib.rt:76:5
 fill-i64s-requires : tie.Need-fill-i64s-requires
 fill-i64s-requires c κs = search needs
 
--- src/lib.rt:63:1
 returns : tie.Need-returns
 returns c = (search (needs, set-loaded), (search (needs, table-long), search (needs, numbers-long)))
 

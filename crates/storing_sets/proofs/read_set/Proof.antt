@@ -1,3 +1,4 @@
+-- `storing_sets::read_set` meets its contract.
 use borrow.Author.Needs.{needs}
 use Rattle.storing_sets.proofs.read_set.Statement.{statement}
 use Rattle.storing_sets.proofs.read_set.Tie as tie
@@ -5,23 +6,18 @@ use Rattle.storing_sets.proofs.read_set.Reads as reads
 use Rattle.storing_sets.proofs.read_set.Lts as lts
 use Rattle.storing_sets.proofs.read_columns.Reads as read-columns-reads
 
--- src/lib.rt:98:18
 sub-read-columns : tie.Need-sub-read-columns
 sub-read-columns c = search needs
 
--- src/lib.rt:98:18
 part-read-columns-start : tie.Need-part-read-columns-start
 part-read-columns-start c = search needs
 
--- src/lib.rt:98:18
 part-read-columns-end : tie.Need-part-read-columns-end
 part-read-columns-end c = search needs
 
--- src/lib.rt:98:5
 read-columns-requires : tie.Need-read-columns-requires
 read-columns-requires c κs = search needs
 
--- src/lib.rt:84:1
 returns : tie.Need-returns
 returns c = search needs
 
