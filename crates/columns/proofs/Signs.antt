@@ -1,6 +1,6 @@
 -- Signed deltas as the machine has them: how far one reaches, and what it names, by whether it is below 0.
 use mathlib.Core.Path.{_≡_, refl, sym, _∙_, ap}
-use mathlib.Core.Bool.{Bool, true, false, not, false≢true}
+use mathlib.Core.Bool.{Bool, true, false, false≢true}
 use Prim.Native.Nat.{ℕ, zero, suc, _+_, _-_, _<_, _≤_, _^_}
 use native.Mathlib.Numerals.{add-one}
 use native.Mathlib.Omega.{arith}
@@ -11,7 +11,7 @@ use mir.Syntax.{w64}
 use mir.Val.{Fits, SFits, toZ, ofZ}
 use mir.ValLaws.{toZ-ofZ}
 use mir.Facts.{fits-natAbs}
-use borrow.Author.Tests.{le-ltb, lt-ltb, le-leb, lt-leb, ltb-true, ltb-false, leb-true, not-true, not-false}
+use borrow.Author.Tests.{le-ltb, lt-ltb, le-leb, lt-leb, ltb-true, ltb-false, leb-true}
 use Rattle.columns.specs.EdgeSet.{isNumber, toNumber, targetOf, allowed, sound}
 use Rattle.columns.specs.Answers.{named}
 
@@ -112,6 +112,16 @@ down-target event (pos zero) h k = omega arith
 down-target event (pos (suc n)) h k = rw (le-ltb event (suc n) k)
 down-target event (negsuc n) h k = absurd (false≢true (sym h))
 
+-- a delta that names no number is not sound, and one that names one is by its side
+module _ (set end event : ℕ) (d : ℤ) where
+  no-number : named event d ≡ false → false ≡ sound set end event d
+  unfolding sound named
+  no-number e = rw e
+
+  by-side : (target : ℕ) (r : Bool) → named event d ≡ true → target ≡ targetOf event d → r ≡ allowed set end event target → r ≡ sound set end event d
+  unfolding sound named
+  by-side target r e k g = rw e (g ∙ ap (allowed set end event) k)
+
 -- the same of a delta as the machine reads it back, and of how far it reaches as a call answers it
 module _ (event : ℕ) (d : ℤ) (far : ℕ) (f : Fits w64 event) (s : SFits w64 d) (m : far ≡ natAbs (toZ w64 (ofZ w64 d))) where
   reach : far ≡ natAbs d
@@ -124,7 +134,7 @@ module _ (event : ℕ) (d : ℤ) (far : ℕ) (f : Fits w64 event) (s : SFits w64
     up : ltZ d (pos 0) ≡ true
     up = rw (toZ-ofZ w64 d s) at h
 
-    pub tells-up : leb event (18446744073709551615 - far) ≡ named event d
+    tells-up : leb event (18446744073709551615 - far) ≡ named event d
     tells-up = rw reach (up-named event d near up)
 
     pub stands-up : event + far ≡ targetOf event d
@@ -135,11 +145,17 @@ module _ (event : ℕ) (d : ℤ) (far : ℕ) (f : Fits w64 event) (s : SFits w64
         let k : event ≤ 2 ^ 64 - 1 - natAbs d = leb-true event (2 ^ 64 - 1 - natAbs d) (up-named event d near up ∙ e) in
         record { fits = omega (arith, reach, near) }
 
+    pub sound-up : (set end : ℕ) (r : Bool) → event ≤ 18446744073709551615 - far → r ≡ allowed set end event (event + far) → r ≡ sound set end event d
+    sound-up set end r k g = by-side set end event d (event + far) r (sym tells-up ∙ le-leb event (18446744073709551615 - far) k) stands-up g
+
+    pub none-up : (set end : ℕ) → 18446744073709551615 - far < event → false ≡ sound set end event d
+    none-up set end k = no-number set end event d (sym tells-up ∙ lt-leb event (18446744073709551615 - far) k)
+
   module _ (h : ltZ (toZ w64 (ofZ w64 d)) (pos 0) ≡ false) where
     down : ltZ d (pos 0) ≡ false
     down = rw (toZ-ofZ w64 d s) at h
 
-    pub tells-down : leb far event ≡ named event d
+    tells-down : leb far event ≡ named event d
     tells-down = rw reach (down-named event d (f .fits) down)
 
     module _ (e : named event d ≡ true) where
@@ -148,6 +164,12 @@ module _ (event : ℕ) (d : ℤ) (far : ℕ) (f : Fits w64 event) (s : SFits w64
 
       pub stands-down : event - far ≡ targetOf event d
       stands-down = rw reach (down-target event d down (rw reach at within-down))
+
+    pub sound-down : (set end : ℕ) (r : Bool) → far ≤ event → r ≡ allowed set end event (event - far) → r ≡ sound set end event d
+    sound-down set end r k g = let e = sym tells-down ∙ le-leb far event k in by-side set end event d (event - far) r e (stands-down e) g
+
+    pub none-down : (set end : ℕ) → event < far → false ≡ sound set end event d
+    none-down set end k = no-number set end event d (sym tells-down ∙ lt-leb far event k)
 
 -- ── the side of a set ────────────────────────────────────────────────────────────────────────
 
@@ -169,19 +191,3 @@ unfolding allowed
 inbound-side zero end event target f g = absurd (f refl)
 inbound-side (suc zero) end event target f g = absurd (g refl)
 inbound-side (suc (suc set)) end event target f g = refl
-
-module _ (set end event : ℕ) (d : ℤ) (s : SFits w64 d) (b : Bool) (e : b ≡ named event (toZ w64 (ofZ w64 d))) where
-  is : b ≡ named event d
-  is = rw (toZ-ofZ w64 d s) at e
-
-  pub no-number : not b ≡ true → false ≡ sound set end event d
-  unfolding sound named
-  no-number h = rw (sym is ∙ not-true b h)
-
-  module _ (h : not b ≡ false) where
-    pub a-number : named event (toZ w64 (ofZ w64 d)) ≡ true
-    a-number = sym e ∙ not-false b h
-
-    pub by-side : (target : ℕ) (r : Bool) → target ≡ targetOf event (toZ w64 (ofZ w64 d)) → r ≡ allowed set end event target → r ≡ sound set end event d
-    unfolding sound named
-    by-side target r k g = rw (sym is ∙ not-false b h) (g ∙ ap (allowed set end event) (k ∙ ap (targetOf event) (toZ-ofZ w64 d s)))

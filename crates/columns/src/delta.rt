@@ -16,18 +16,7 @@ fn magnitude(delta: i64) -> u64
     delta as u64
 }
 
-// Whether event minus delta is a number. A delta below 0 leads up, and may lead past the greatest one.
-fn is_number(event: u64, delta: i64) -> bool
-    ensures { λ r. ⌜ r ≡ named event delta ⌝ }
-{
-    let far = magnitude(delta);
-    if delta < 0 {
-        return event <= 18446744073709551615 - far;
-    }
-    far <= event
-}
-
-// That number.
+// The number event minus delta.
 pub(crate) fn target(event: u64, delta: i64) -> u64
     requires { ⌜ named event delta ≡ true ⌝ }
     ensures { λ r. ⌜ r ≡ targetOf event delta ⌝ }
@@ -55,12 +44,19 @@ fn is_allowed(set: u64, end: u64, event: u64, target: u64) -> bool
     end <= target
 }
 
-// Whether a delta names a number on its set's side.
+// Whether a delta names a number on its set's side. A delta below 0 leads up, and may lead past the greatest number.
 pub(crate) fn is_sound(set: u64, end: u64, event: u64, delta: i64) -> bool
     ensures { λ r. ⌜ r ≡ sound set end event delta ⌝ }
 {
-    if !is_number(event, delta) {
+    let far = magnitude(delta);
+    if delta < 0 {
+        if event <= 18446744073709551615 - far {
+            return is_allowed(set, end, event, event + far);
+        }
         return false;
     }
-    is_allowed(set, end, event, target(event, delta))
+    if far <= event {
+        return is_allowed(set, end, event, event - far);
+    }
+    false
 }
