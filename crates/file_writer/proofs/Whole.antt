@@ -12,7 +12,7 @@ use Rattle.lists.proofs.Flat.{length-map-upFrom}
 use Rattle.columns.specs.Limits.{maxRecords, maxNumbers, maxSubject}
 use Rattle.archive.specs.File.{CoverColumns}
 use Rattle.archive.specs.Encode.{recordBytes, headFields, headBytes, setsBytes, edgesBytes, rowBytes, unresolvedBytes, rootBytes, countedBytes, coverRecord, fileBytes}
-use Rattle.archive_records.specs.Sizes.{headSize, rowsSize, unresolvedSize, rootsSize}
+use Rattle.archive_records.specs.Sizes.{headSize, rowsSize, unresolvedSize}
 use Rattle.archive_writer.proofs.Files.{file-written}
 use Rattle.archive_sizes.specs.FileSize.{edgesSize, coverRecordSize, maxFileSize}
 use Rattle.archive_sizes.proofs.Sized.{SetHas, CoverCounts, CoverHas, length-headRecord, length-edges, length-rows, length-unresolved, length-roots, length-file}
@@ -30,7 +30,7 @@ use Rattle.out_file.specs.declared.OutFile.{OutFile}
 use Rattle.out_file.specs.Lent.{tagColumn, emptyColumn, noCover, lentFile}
 use Rattle.out_file.specs.View.{setIn, rangeAt, rangesIn, linksIn, coverIn, subjectIn, depthIn, fileIn, Counted}
 use Rattle.file_writer.specs.Long.{LongSet, LongSets, LongUnresolved, LongRoots, LongCover, LongFile}
-use Rattle.file_writer.specs.Stored.{sizeOf, headEnd, edgesEnd, rowsEnd, unresolvedEnd, fiveEnd, fiveLaid, Stored}
+use Rattle.file_writer.specs.Stored.{sizeOf, fiveEnd, fiveLaid, Stored}
 
 -- ── counts ───────────────────────────────────────────────────────────────────────────────────
 
@@ -158,9 +158,6 @@ module _ (f : OutFile) (few : Counted f) (long : LongFile f) where
   head-is : headFields (f .head .first) (f .rows .count) (f .head .group) (subjectIn (f .subject)) (depthIn (f .head)) ≡ headBytes (fileIn f)
   unfolding headBytes fileIn
   head-is = ap (λ n. headFields (f .head .first) n (f .head .group) (subjectIn (f .subject)) (depthIn (f .head))) (sym rows-are)
-
-  pub records-room : (at o : ℕ) {r : ℕ} → r ≡ sizeOf f → at + r ≤ o → fiveEnd f at + coverRecordSize (f .cover .present) (f .rows .count) (f .cover .ranges .count) (f .cover .links .count) ≤ o
-  records-room at o e h = omega arith
 
   records-written : (l : List ℕ) (at : ℕ) → sets (fiveLaid f l at) (fiveEnd f at) (coverRecord (coverIn (f .rows .count) (f .cover))) ≡ sets l at (fileBytes (fileIn f))
   unfolding fileIn edgesBytes

@@ -22,7 +22,7 @@ use parts::put_unresolved;
 ghost use mathlib.Core.Path.{_≡_};
 ghost use Prim.Native.Nat.{_+_, _≤_, _<_};
 ghost use lib.ListN.{length};
-ghost use Rattle.columns.specs.Limits.{maxRecords, maxSubject, end64};
+ghost use Rattle.columns.specs.Limits.{maxSubject, end64};
 ghost use Rattle.archive_sizes.specs.FileSize.{maxFileSize};
 ghost use Rattle.out_file.specs.View.{fileIn, Counted};
 ghost use Rattle.out_file.specs.Lent.{setsOf, noCover, lentFile};

@@ -17,7 +17,7 @@ ghost use Prim.Native.Nat.{_+_, _*_, _≤_, _<_};
 ghost use lib.ListN.{length, take};
 ghost use Rattle.columns.specs.Limits.{end64};
 ghost use Rattle.columns.specs.EdgeSet.{offsetsForm, cut};
-ghost use Rattle.records.specs.Recorded.{depthOf, labelsGiven};
+ghost use Rattle.records.specs.Recorded.{depthOf};
 ghost use Rattle.cleaning.specs.Sections.{sectionStart, sectionRows, sectionUnresolved, sectionGraph};
 ghost use Rattle.held.specs.View.{hasCover, factsAt, listed, unresolvedAt, sheetIn};
 ghost use Rattle.held.specs.Valid.{sheetOk};

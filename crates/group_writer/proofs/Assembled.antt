@@ -2,13 +2,11 @@
 use mathlib.Core.Path.{_≡_, refl, subst}
 use mathlib.Core.Bool.{true}
 use mathlib.Core.List.{List, map}
-use mathlib.Core.Option.{none, some}
 use Prim.Native.Nat.{ℕ, suc, _+_, _-_, _≤_, _<_}
 use native.Mathlib.Omega.{arith}
 use lib.IntN.{ℤ}
-use lib.ListN.{length, getD}
+use lib.ListN.{length}
 use Rattle.lists.specs.Lists.{part}
-use Rattle.columns.specs.Building.{buildRules}
 use Rattle.columns.specs.Reading.{labelsOf}
 use Rattle.columns.specs.declared.refusal.Refusal.{Refusal}
 use Rattle.encoding.specs.declared.writing.Counts.{Counts}
@@ -28,17 +26,16 @@ use Rattle.out_file.specs.declared.Sets.{Sets}
 use Rattle.out_file.specs.declared.Head.{Head}
 use Rattle.out_file.specs.declared.Cover.{Cover}
 use Rattle.out_file.specs.View.{depthIn, coverIn, fileIn, builtIn, Counted}
-use Rattle.out_file.specs.Lent.{setsOf, noCover, lentFile}
+use Rattle.out_file.specs.Lent.{setsOf, lentFile}
 use Rattle.file_writer.specs.Long.{LongSets}
 use Rattle.file_writer.specs.Stored.{Stored}
 use Rattle.file_writer.proofs.Whole.{tags-listed}
-use Rattle.group_cover.proofs.Covered.{covers-none}
 use Rattle.section_sets.specs.Parted.{judged}
 use Rattle.group_sets.specs.ByVerdict.{SetsBy, lentSets}
 use Rattle.group_sets.specs.ColumnGraphs.{LongSlices}
 use Rattle.group_sets.proofs.SetSizes.{value-refused, value-built}
 use Rattle.group_file.specs.Made.{SpanOf, FewEdges}
-use Rattle.group_file.proofs.Spans.{rows-within, span-room}
+use Rattle.group_file.proofs.Spans.{span-room}
 use Rattle.group_file.proofs.Assembled.{file-made, file-counted, broken-rule, held-sets, few-edges}
 use Rattle.group_writer.specs.PutBy.{PutBy}
 

@@ -1,6 +1,5 @@
 -- `group_sets::group_sets` meets its contract: what building leaves in six columns, or its refusal.
 use mathlib.Core.Path.{refl}
-use native.Mathlib.Omega.{arith}
 use Rattle.group_sets.proofs.SetSizes.{value-refused, value-built}
 use borrow.Author.Needs.{needs}
 use Rattle.group_sets.proofs.group_sets.Statement.{statement}
