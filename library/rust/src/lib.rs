@@ -22,8 +22,9 @@ pub const CLEANED_MAX: usize = 196_448;
 /// No listing is longer; one is made only where there is so much room.
 pub const LISTING_ROOM: usize = 437_792;
 
-/// A call uses less stack, but more than many threads have: each is made on a thread of its own.
-const STACK: usize = 6 << 20;
+/// A call uses less stack, copies of a run that debug builds make among it, but more than many threads have: each is made on a thread of its
+/// own.
+const STACK: usize = 5 << 20;
 
 /// What a call answers that is made with stack enough.
 fn on_stack<T: Send>(call: impl FnOnce() -> T + Send) -> T {

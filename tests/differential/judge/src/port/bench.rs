@@ -24,6 +24,8 @@ use std::hint::black_box;
 use std::time::{Duration, Instant};
 
 const FIRST: u64 = 1_000_000;
+#[cfg(feature = "archives")]
+const GROUPS: usize = 16;
 const CALLS: usize = 200;
 
 /// The best time of a call in microseconds.
@@ -112,6 +114,20 @@ impl Inputs {
         write::archive(&[File { first: FIRST, group: 0, subject, depth: None, sets, rows, unresolved: Vec::new(), roots: Vec::new(), cover: None }])
     }
 
+    /// The rows in sixteen files, each a group of its own, without inbound edges.
+    #[cfg(feature = "archives")]
+    fn groups(&self) -> Vec<u8> {
+        let each = self.rows / GROUPS;
+        let file = |group: usize| {
+            let (from, first) = (group * each, FIRST + (group * each) as u64);
+            let forward = self.lists[0][2 * from..2 * (from + each)].to_vec();
+            let rows = (from..from + each).map(|row| Row { erased: false, tag: row as u64 }).collect();
+            let (subject, sets) = (b"a".to_vec(), [Set::of(first, &forward), Set::empty(each), Set::empty(each)]);
+            File { first, group: group as u8, subject, depth: None, sets, rows, unresolved: Vec::new(), roots: Vec::new(), cover: None }
+        };
+        write::archive(&(0..GROUPS).map(file).collect::<Vec<_>>())
+    }
+
     /// The original decodes the three sets, the port reads the whole archive that holds them.
     fn archive_read(&self) -> [f64; 2] {
         let (block, bytes) = (blocks::granule(&self.sets, None), self.archive(|_| false));
@@ -141,22 +157,6 @@ impl Inputs {
             end = answer.length;
         });
         assert!(self.archive(|_| false).windows(end).any(|part| part == &out[..end]));
-        [rust, port]
-    }
-
-    /// Both read the archive, renumber it and write it; the original is spared taking's rules. The bytes are the same.
-    #[cfg(feature = "archives")]
-    fn cleaned(&self, erased: fn(u64) -> bool) -> [f64; 2] {
-        let bytes = self.archive(erased);
-        let mut out = vec![0u8; CLEANED];
-        let mut length = 0;
-        let rust = best(|| drop(black_box(cleaning::renumbered(&bytes))));
-        let port = best(|| {
-            let answer = unsafe { ridgeoven_clean(bytes.as_ptr(), bytes.len(), out.as_mut_ptr(), out.len()) };
-            assert_eq!(answer.refusal, 0);
-            length = answer.length;
-        });
-        assert!(cleaning::renumbered(&bytes) == out[..length]);
         [rust, port]
     }
 
@@ -265,6 +265,21 @@ impl Inputs {
     }
 }
 
+/// Both read an archive, renumber it and write it; the original is spared taking's rules. The bytes are the same.
+#[cfg(feature = "archives")]
+fn cleaned(bytes: &[u8]) -> [f64; 2] {
+    let mut out = vec![0u8; CLEANED];
+    let mut length = 0;
+    let rust = best(|| drop(black_box(cleaning::renumbered(bytes))));
+    let port = best(|| {
+        let answer = unsafe { ridgeoven_clean(bytes.as_ptr(), bytes.len(), out.as_mut_ptr(), out.len()) };
+        assert_eq!(answer.refusal, 0);
+        length = answer.length;
+    });
+    assert!(cleaning::renumbered(bytes) == out[..length]);
+    [rust, port]
+}
+
 fn link_columns(links: &[ChainLink]) -> [Vec<u32>; 4] {
     let column = |part: fn(&ChainLink) -> u32| links.iter().map(part).collect::<Vec<u32>>();
     [column(|l| l.from_chain), column(|l| l.from_seq), column(|l| l.to_chain), column(|l| l.to_seq)]
@@ -360,9 +375,11 @@ pub fn table() {
         #[cfg(feature = "archives")]
         for (part, erased) in [("no row erased", (|_| false) as fn(u64) -> bool), ("every fourth row erased", |row| row % 4 == 1)] {
             if each == 1 || !erased(1) {
-                line("clean an archive", &format!("{shape}, {part}"), &sizes.each_ref().map(|one| one.cleaned(erased)));
+                line("clean an archive", &format!("{shape}, {part}"), &sizes.each_ref().map(|one| cleaned(&one.archive(erased))));
             }
         }
+        #[cfg(feature = "archives")]
+        line("clean an archive", &format!("{shape}, sixteen groups"), &sizes.each_ref().map(|one| cleaned(&one.groups())));
         line("parents", shape, &sizes.each_ref().map(Inputs::parents));
         line("children", shape, &sizes.each_ref().map(Inputs::children));
         line("walk", shape, &sizes.each_ref().map(Inputs::walk));
