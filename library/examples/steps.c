@@ -10,7 +10,9 @@ static ridgeoven_step step;
 
 static void accepted(uint64_t refusal) {
     if (refusal != 0) {
-        fprintf(stderr, "refused %llu\n", (unsigned long long)refusal);
+        uint8_t words[RIDGEOVEN_WORDS_ROOM];
+        size_t said = ridgeoven_words(refusal, words, sizeof words).length;
+        fprintf(stderr, "refused %llu: %.*s\n", (unsigned long long)refusal, (int)said, (const char *)words);
         exit(1);
     }
 }

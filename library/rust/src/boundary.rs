@@ -1,4 +1,5 @@
-//! The functions of `ridgeoven.h`.
+//! The functions of `ridgeoven.h`. Whoever calls them gives pointers of slices that have the lengths given, and no slice that is written is
+//! borrowed by anybody else meanwhile.
 
 #[repr(C)]
 pub struct Answer {

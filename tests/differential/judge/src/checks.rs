@@ -10,11 +10,11 @@ pub const ALL: &[(&str, Check)] = &[
     ("records read and written again are the same bytes", records),
     ("a cleaned archive is cleaned to itself", again),
     ("archives that differ in what was erased are cleaned to the same bytes", erased_parts),
-    #[cfg(feature = "archives")]
+    #[cfg(feature = "port")]
     ("the port answers what the original does", port),
-    #[cfg(feature = "archives")]
+    #[cfg(feature = "port")]
     ("the port cleans archives that differ in what was erased to the same bytes", port_twins),
-    #[cfg(feature = "archives")]
+    #[cfg(feature = "port")]
     ("the port's run answers every call as the original's does", port_runs),
 ];
 
@@ -62,19 +62,19 @@ fn twin(bytes: &[u8]) -> Option<Vec<u8>> {
     Some(write::archive(&files))
 }
 
-#[cfg(feature = "archives")]
+#[cfg(feature = "port")]
 fn port(bytes: &[u8]) -> Option<String> {
     crate::port::archives::differs(bytes)
 }
 
 /// Asked of archives that the original accepts, so that every record of their twins stands in its file.
-#[cfg(feature = "archives")]
+#[cfg(feature = "port")]
 fn port_twins(bytes: &[u8]) -> Option<String> {
     cleaning::clean(bytes).ok()?;
     crate::port::archives::twin_differs(bytes, &twin(bytes)?)
 }
 
-#[cfg(feature = "archives")]
+#[cfg(feature = "port")]
 fn port_runs(bytes: &[u8]) -> Option<String> {
     crate::port::runs::differs(bytes)
 }

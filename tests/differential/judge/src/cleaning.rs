@@ -28,7 +28,7 @@ pub fn clean(bytes: &[u8]) -> Result<Cleaned, Number> {
 }
 
 /// The cleaned bytes of an archive that is accepted, without taking's rules: the least that the original does for them.
-#[cfg(feature = "archives")]
+#[cfg(feature = "port")]
 pub fn renumbered(bytes: &[u8]) -> Vec<u8> {
     let files = crate::read::archive(bytes).expect("an archive");
     let renumbering = grouped(&files).and_then(renumber_graph).expect("sound files");
@@ -36,14 +36,14 @@ pub fn renumbered(bytes: &[u8]) -> Vec<u8> {
 }
 
 /// A run over the original, call by call: the sources taken, and once resolved their renumbering.
-#[cfg(feature = "archives")]
+#[cfg(feature = "port")]
 #[derive(Default)]
 pub struct Run {
     files: Vec<File>,
     renumbering: Option<GraphRenumbering>,
 }
 
-#[cfg(feature = "archives")]
+#[cfg(feature = "port")]
 impl Run {
     pub fn take(&mut self, bytes: &[u8]) -> Result<(), Number> {
         self.unresolved()?;

@@ -30,12 +30,12 @@ pub fn compare(folder: &Path) -> io::Result<(usize, Vec<String>)> {
     Ok((agree, differ))
 }
 
-#[cfg(not(feature = "archives"))]
+#[cfg(not(feature = "port"))]
 fn port_agrees(_archive: &[u8]) -> bool {
     true
 }
 
-#[cfg(feature = "archives")]
+#[cfg(feature = "port")]
 fn port_agrees(archive: &[u8]) -> bool {
     crate::port::archives::differs(archive).is_none() && crate::port::runs::differs(archive).is_none()
 }

@@ -4,13 +4,10 @@ use super::boundary::{
     ridgeoven_build, ridgeoven_children, ridgeoven_cover_build, ridgeoven_cover_read, ridgeoven_cover_store, ridgeoven_parents,
     ridgeoven_read_granule, ridgeoven_sums, ridgeoven_walk, ridgeoven_write_edges, ridgeoven_write_rows,
 };
-#[cfg(feature = "archives")]
 use super::archives::CLEANED;
-#[cfg(feature = "archives")]
 use super::boundary::ridgeoven_clean;
 use crate::archive::{File, Row, Set};
 use crate::blocks;
-#[cfg(feature = "archives")]
 use crate::cleaning;
 use crate::questions::OneFile;
 use crate::random::Random;
@@ -24,7 +21,6 @@ use std::hint::black_box;
 use std::time::{Duration, Instant};
 
 const FIRST: u64 = 1_000_000;
-#[cfg(feature = "archives")]
 const GROUPS: usize = 16;
 const CALLS: usize = 200;
 
@@ -115,7 +111,6 @@ impl Inputs {
     }
 
     /// The rows in sixteen files, each a group of its own, without inbound edges.
-    #[cfg(feature = "archives")]
     fn groups(&self) -> Vec<u8> {
         let each = self.rows / GROUPS;
         let file = |group: usize| {
@@ -266,7 +261,6 @@ impl Inputs {
 }
 
 /// Both read an archive, renumber it and write it; the original is spared taking's rules. The bytes are the same.
-#[cfg(feature = "archives")]
 fn cleaned(bytes: &[u8]) -> [f64; 2] {
     let mut out = vec![0u8; CLEANED];
     let mut length = 0;
@@ -372,13 +366,11 @@ pub fn table() {
         line("read a granule", shape, &sizes.each_ref().map(Inputs::read));
         line("read an archive", shape, &sizes.each_ref().map(Inputs::archive_read));
         line("write its edges and rows", shape, &sizes.each_ref().map(Inputs::archive_written));
-        #[cfg(feature = "archives")]
         for (part, erased) in [("no row erased", (|_| false) as fn(u64) -> bool), ("every fourth row erased", |row| row % 4 == 1)] {
             if each == 1 || !erased(1) {
                 line("clean an archive", &format!("{shape}, {part}"), &sizes.each_ref().map(|one| cleaned(&one.archive(erased))));
             }
         }
-        #[cfg(feature = "archives")]
         line("clean an archive", &format!("{shape}, sixteen groups"), &sizes.each_ref().map(|one| cleaned(&one.groups())));
         line("parents", shape, &sizes.each_ref().map(Inputs::parents));
         line("children", shape, &sizes.each_ref().map(Inputs::children));

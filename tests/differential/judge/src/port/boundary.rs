@@ -67,19 +67,16 @@ pub struct Sums {
 }
 
 /// A run is the library's own, given and given back by value.
-#[cfg(feature = "archives")]
 #[derive(Clone, Copy)]
 #[repr(C)]
 pub struct Run([u64; 40_992]);
 
-#[cfg(feature = "archives")]
 #[repr(C)]
 pub struct Step {
     pub run: Run,
     pub refusal: u64,
 }
 
-#[cfg(feature = "archives")]
 #[repr(C)]
 pub struct Renumbered {
     pub refusal: u64,
@@ -87,7 +84,6 @@ pub struct Renumbered {
     pub number: u64,
 }
 
-#[cfg(feature = "archives")]
 unsafe extern "C" {
     pub fn ridgeoven_new() -> Run;
     pub fn ridgeoven_take(run: Run, bytes: *const u8, bytes_len: usize) -> Step;
@@ -95,9 +91,7 @@ unsafe extern "C" {
     pub fn ridgeoven_write(run: Run, out: *mut u8, out_len: usize) -> Answer;
     pub fn ridgeoven_new_number(run: Run, old: u64) -> Renumbered;
     pub fn ridgeoven_reparented(run: Run) -> Answer;
-}
 
-unsafe extern "C" {
     pub fn ridgeoven_sums(bytes: *const u8, bytes_len: usize) -> Sums;
 
     pub fn ridgeoven_write_edges(
@@ -219,9 +213,7 @@ unsafe extern "C" {
         inbound_offsets: *mut u64, inbound_offsets_len: usize, inbound_deltas: *mut i64, inbound_deltas_len: usize,
     ) -> Granule;
 
-    #[cfg(feature = "archives")]
     pub fn ridgeoven_clean(bytes: *const u8, bytes_len: usize, out: *mut u8, out_len: usize) -> Answer;
 
-    #[cfg(feature = "archives")]
     pub fn ridgeoven_list(bytes: *const u8, bytes_len: usize, out: *mut u8, out_len: usize) -> Answer;
 }

@@ -1,12 +1,10 @@
 //! The proved library beside the original (feature `port`).
 
-#[cfg(feature = "archives")]
 pub mod archives;
 pub mod bench;
 mod boundary;
 mod lent;
 pub mod questions;
-#[cfg(feature = "archives")]
 pub mod runs;
 pub mod smallest;
 
