@@ -24,7 +24,11 @@ use Rattle.held.specs.declared.Unresolved as held
 use Rattle.held.specs.declared.Sheet.{Sheet}
 use Rattle.held.specs.View.{hasCover, factsAt, listed, unresolvedAt, slotsIn}
 use Rattle.held.proofs.ColumnTurns.{form-cut}
+use Rattle.held.specs.Valid.{sheetOk}
 use Rattle.tidying.specs.Long.{LongSheet}
+use Rattle.tidying.proofs.TidySheets.{below-events, slots-below}
+use Rattle.sections.specs.Laid.{edgesBefore}
+use Rattle.sections.proofs.Before.{none-before}
 use Rattle.encoding.specs.declared.kept.Encoded.{Encoded}
 use Rattle.section_sets.specs.Parted.{partGraph, judged, Answers}
 use Rattle.group_sets.specs.declared.GroupSets.{GroupSets}
@@ -117,6 +121,13 @@ module _ (s : Sheet) {bytes : List ℕ} {size start total : ℕ} {offsets target
     (w : Lends s bytes size start total offsets targets count chains seqs groups) where
   pub lent-form : offsetsForm (s .rows .count) (s .edges .count) (take (2 * s .rows .count + 1) (s .edges .offsets)) ≡ true → offsetsForm total count (take (2 * total + 1) offsets) ≡ true
   lent-form e = rw (w .total-is, w .count-is, w .offsets-are) e
+
+  -- rows before row a name none of the n rows from there on
+  pub lent-before : (a n : ℕ) → LongSheet s → sheetOk s ≡ true → edgesBefore start (cut (take (2 * total + 1) offsets) (take count targets)) a n ≡ []
+  unfolding slotsIn
+  lent-before a n l k =
+      rw (w .start-is, w .total-is, w .count-is, w .offsets-are, w .targets-are)
+      (none-before (s .start) (slotsIn (s .rows .count) (s .edges)) a n (slots-below (s .start) 0 (slotsIn (s .rows .count) (s .edges)) (below-events s l k)))
 
   pub lent-long : LongSheet s → LongColumns bytes offsets targets chains seqs
   lent-long l = record {

@@ -12,7 +12,7 @@ use section_sets::build_part;
 use tidying::long::sheet_long;
 ghost use mathlib.Core.Path.{_≡_};
 ghost use mathlib.Core.Bool.{true};
-ghost use mathlib.Core.List.{map};
+ghost use mathlib.Core.List.{[], map};
 ghost use Prim.Native.Nat.{_+_, _*_, _≤_, _<_};
 ghost use lib.ListN.{length, take};
 ghost use Rattle.columns.specs.Limits.{end64};
@@ -23,6 +23,7 @@ ghost use Rattle.held.specs.View.{hasCover, factsAt, listed, unresolvedAt, shee
 ghost use Rattle.held.specs.Valid.{sheetOk};
 ghost use Rattle.tidying.specs.Ordered.{ordered};
 ghost use Rattle.tidying.specs.Long.{LongSheet};
+ghost use Rattle.sections.specs.Laid.{edgesBefore};
 ghost use Rattle.section_sets.specs.Parted.{judged};
 ghost use Rattle.group_sets.specs.ByVerdict.{SetsBy, lentSets};
 ghost use Rattle.group_sets.specs.ColumnGraphs.{rowsGraph, LongColumns, LongSlices, Lends};
@@ -84,7 +85,7 @@ fn wide_kinds(u: Unresolved) -> [u64; 1024]
     out
 }
 
-// Builds the n rows from row a on of lent columns, each up to its count.
+// Builds the n rows from row a on of lent columns, each up to its count. Rows before row a name none of them.
 fn build_rows(
     bytes: &[u8],
     size: usize,
@@ -109,7 +110,7 @@ fn build_rows(
     id: &mut [i64],
 ) -> Encoded
     requires { ⌜ (size ≤ 255) × ((a + n ≤ total) × ((total ≤ 1024) × (start + total < end64))) ⌝ }
-    requires { ⌜ (count ≤ 4096) × (offsetsForm total count (take (2 * total + 1) (now offsets)) ≡ true) ⌝ }
+    requires { ⌜ (count ≤ 4096) × ((offsetsForm total count (take (2 * total + 1) (now offsets)) ≡ true) × (edgesBefore start (cut (take (2 * total + 1) (now offsets)) (take count (now targets))) a n ≡ [])) ⌝ }
     requires { ⌜ (u .count ≤ 1024) × ((length (u .children) ≡ 1024) × ((length kinds ≡ 1024) × (take (u .count) kinds ≡ map (λ v. v .kind) (listed (unresolvedAt u) (u .count))))) ⌝ }
     requires { ⌜ LongColumns (now bytes) (now offsets) (now targets) (now chains) (now seqs) ⌝ }
     requires { ⌜ LongSlices (now fo) (now fd) (now ro) (now rd) (now io) (now id) ⌝ }

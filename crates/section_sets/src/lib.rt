@@ -7,6 +7,7 @@ use sections::edges::edges_into;
 use sections::offsets::rebase;
 ghost use mathlib.Core.Path.{_≡_};
 ghost use mathlib.Core.Bool.{true};
+ghost use mathlib.Core.List.{[]};
 ghost use Prim.Native.Nat.{_+_, _-_, _*_, _≤_, _<_};
 ghost use lib.ListN.{length, take, drop};
 ghost use Rattle.lists.specs.Lists.{starts, part};
@@ -16,6 +17,7 @@ ghost use Rattle.columns.specs.Building.{build};
 ghost use Rattle.records.specs.Recorded.{depthOf, labelsGiven};
 ghost use Rattle.encoding.specs.Encoded.{Rooms};
 ghost use Rattle.building.specs.Lent.{graphOf, slicesOf};
+ghost use Rattle.sections.specs.Laid.{edgesBefore};
 ghost use Rattle.section_sets.specs.Parted.{partGraph, Few, judged, Answers};
 
 // Builds a file of n rows from parts of columns: the first 2 * n + 1 offsets, targets[lo..hi], the first m inbound edges.
@@ -77,7 +79,8 @@ fn build_columns(
     )
 }
 
-// The same of the n rows from row a on, whose offsets are given. The inbound edges are those of all other rows.
+// The same of the n rows from row a on, whose offsets are given. The inbound edges are those of all other rows, of which those before name none of the
+// n rows.
 fn build_given(
     subject: &[u8],
     start: u64,
@@ -102,7 +105,7 @@ fn build_given(
     id: &mut [i64],
 ) -> Encoded
     requires { ⌜ (a + n ≤ total) × ((total ≤ 1024) × (start + total < end64)) ⌝ }
-    requires { ⌜ (length (now targets) ≤ 4096) × (offsetsForm total (length (now targets)) (now offsets) ≡ true) ⌝ }
+    requires { ⌜ (length (now targets) ≤ 4096) × ((offsetsForm total (length (now targets)) (now offsets) ≡ true) × (edgesBefore start (cut (now offsets) (now targets)) a n ≡ [])) ⌝ }
     requires { ⌜ Few (length (now children)) (length (now kinds)) (length (now flags)) (length (now chains)) (length (now seqs)) ⌝ }
     requires { ⌜ Rooms (length (now fo)) (length (now fd)) (length (now ro)) (length (now rd)) (length (now io)) (length (now id)) ⌝ }
     requires { ⌜ (2 * n + 1 ≤ length (now offs)) × (take (2 * n + 1) (now offs) ≡ starts 0 (part (2 * a) (2 * n) (cut (now offsets) (now targets)))) ⌝ }
@@ -154,7 +157,7 @@ fn build_given(
 }
 
 // Builds the n rows from row a on as a file of their own: building's rules, and the three sets where they are kept. The file's inbound edges are
-// those of all other rows into it.
+// those of all other rows into it, of which the rows before have none.
 pub fn build_part(
     subject: &[u8],
     start: u64,
@@ -178,7 +181,7 @@ pub fn build_part(
     id: &mut [i64],
 ) -> Encoded
     requires { ⌜ (a + n ≤ total) × ((total ≤ 1024) × (start + total < end64)) ⌝ }
-    requires { ⌜ (length (now targets) ≤ 4096) × (offsetsForm total (length (now targets)) (now offsets) ≡ true) ⌝ }
+    requires { ⌜ (length (now targets) ≤ 4096) × ((offsetsForm total (length (now targets)) (now offsets) ≡ true) × (edgesBefore start (cut (now offsets) (now targets)) a n ≡ [])) ⌝ }
     requires { ⌜ Few (length (now children)) (length (now kinds)) (length (now flags)) (length (now chains)) (length (now seqs)) ⌝ }
     requires { ⌜ Rooms (length (now fo)) (length (now fd)) (length (now ro)) (length (now rd)) (length (now io)) (length (now id)) ⌝ }
     ensures { λ r. ⌜ Answers (judged (partGraph (now (subject .entry)) start total (cut (now (offsets .entry)) (now (targets .entry))) (record { children = now (children .entry); kindsGiven = now (kinds .entry); flags = now (flags .entry) }) (depthOf depth) (labelsGiven labelled (now (chains .entry)) (now (seqs .entry))) a n)) r (now (fo .entry)) (now (fd .entry)) (now (ro .entry)) (now (rd .entry)) (now (io .entry)) (now (id .entry)) (now (fo .exit)) (now (fd .exit)) (now (ro .exit)) (now (rd .exit)) (now (io .exit)) (now (id .exit)) ⌝ }

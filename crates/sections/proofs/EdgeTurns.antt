@@ -1,7 +1,7 @@
 -- Edges laid in three columns, one after the other.
 use mathlib.Core.Path.{_≡_, refl, sym, _∙_, ap}
 use mathlib.Core.Bool.{Bool, true, false}
-use mathlib.Core.List.{List, [], _∷_, _++_, map, map-append, append-nil}
+use mathlib.Core.List.{List, [], _∷_, _++_, map, map-append}
 use Prim.Native.Nat.{ℕ, zero, suc, _+_, _-_, _*_, _≤_, _<_}
 use native.Mathlib.Numerals.{add-one}
 use native.Mathlib.Omega.{arith}
@@ -82,14 +82,6 @@ module _ (total : ℕ) (offsets targets : List ℕ) (ok : offsetsForm total (len
   table : Table (2 * total) (length targets) offsets
   table = table-of total (length targets) offsets ok
 
-  climbs : (s d : ℕ) → s + d ≤ 2 * total → getD offsets s 0 ≤ getD offsets (s + d) 0
-  climbs s zero h = let z : s + 0 ≡ s = omega arith in rw z (omega arith)
-  climbs s (suc d) h =
-      let y : s + suc d ≡ s + d + 1 = omega arith in
-      let q = climbs s d (omega arith) in
-      let r = table .rise (s + d) (omega arith) in
-      rw y (omega arith)
-
   module _ (i : ℕ) (h : i < total) where
     pub low-in : 2 * i < length offsets
     low-in = omega (arith, table .long)
@@ -147,11 +139,6 @@ module _ (total : ℕ) (offsets targets : List ℕ) (ok : offsetsForm total (len
           (laid-more (xs ++ (ys ++ [])) at cs ps ks ys [] p r cs′ ps′ ks′ cs″ ps″ ks″
           (laid-more (xs ++ (ys ++ [])) at cs ps ks xs (ys ++ []) at p cs ps ks cs′ ps′ ks′ (laid-begins (xs ++ (ys ++ [])) at cs ps ks) w) v)
 
-  pub others-low : (a n m : ℕ) → a + n ≤ total → m ≤ getD offsets (2 * a) 0 → m ≤ getD offsets (2 * (a + n)) 0
-  others-low a n m h l =
-      let z : 2 * (a + n) ≡ 2 * a + 2 * n = omega arith in
-      rw z (omega (arith, climbs (2 * a) (2 * n) (omega arith)))
-
   pub others-few : (r : ℕ) → r ≤ getD offsets (2 * total) 0 → length targets ≤ 4096 → r ≤ 4096
   others-few r l m = omega (arith, table .high)
 
@@ -177,17 +164,10 @@ module _ (es : List Edge) (at : ℕ) (cs ps ks : List ℕ) (first end start : �
       (laid-more es at cs ps ks (edgesOfRow first end start lists i) (flat (edgesOfRow first end start lists) (upFrom (suc i) (to - suc i)))
       p r cs′ ps′ ks′ cs″ ps″ ks″ (rw z at w) v)
 
--- the rows before and those after
-pub others-laid : (first end start : ℕ) (lists : List (List ℕ)) (a b total m r : ℕ) (cs ps ks cs′ ps′ ks′ cs″ ps″ ks″ : List ℕ)
-    → Laid (flat (edgesOfRow first end start lists) (upFrom 0 (a - 0))) 0 cs ps ks [] m cs′ ps′ ks′
-    → Laid (flat (edgesOfRow first end start lists) (upFrom b (total - b))) m cs′ ps′ ks′ [] r cs″ ps″ ks″
-    → Laid (flat (edgesOfRow first end start lists) (upFrom 0 a ++ upFrom b (total - b))) 0 cs ps ks [] r cs″ ps″ ks″
-others-laid first end start lists a b total m r cs ps ks cs′ ps′ ks′ cs″ ps″ ks″ w v =
-    let f = edgesOfRow first end start lists in
-    let xs = flat f (upFrom 0 a) in
-    let ys = flat f (upFrom b (total - b)) in
-    let z : a - 0 ≡ a = omega arith in
-    let y : flat f (upFrom 0 a ++ upFrom b (total - b)) ≡ xs ++ (ys ++ []) = flat-append f (upFrom 0 a) (upFrom b (total - b)) ∙ ap (λ l. xs ++ l) (sym (append-nil ys)) in
-    rw y
-    (laid-more (xs ++ (ys ++ [])) 0 cs ps ks ys [] m r cs′ ps′ ks′ cs″ ps″ ks″
-    (laid-more (xs ++ (ys ++ [])) 0 cs ps ks xs (ys ++ []) 0 m cs ps ks cs′ ps′ ks′ (laid-begins (xs ++ (ys ++ [])) 0 cs ps ks) (rw z at w)) v)
+-- the rows before give no edge, so the edges are those of the rows after
+pub others-laid : (first end start : ℕ) (lists : List (List ℕ)) (a b total r : ℕ) (cs ps ks cs′ ps′ ks′ : List ℕ)
+    → flat (edgesOfRow first end start lists) (upFrom 0 a) ≡ []
+    → Laid (flat (edgesOfRow first end start lists) (upFrom b (total - b))) 0 cs ps ks [] r cs′ ps′ ks′
+    → Laid (flat (edgesOfRow first end start lists) (upFrom 0 a ++ upFrom b (total - b))) 0 cs ps ks [] r cs′ ps′ ks′
+others-laid first end start lists a b total r cs ps ks cs′ ps′ ks′ e w =
+    rw (flat-append (edgesOfRow first end start lists) (upFrom 0 a) (upFrom b (total - b)), e) w

@@ -1,3 +1,4 @@
 pub mod PlaceTurns
 pub mod RebaseTurns
 pub mod EdgeTurns
+pub mod Before

@@ -4,7 +4,7 @@ use mathlib.Core.List.{List, map}
 use Prim.Native.Nat.{ℕ, _+_, _*_}
 use lib.ListN.{length}
 use lib.Seq.{sets}
-use Rattle.lists.specs.Lists.{filter, part}
+use Rattle.lists.specs.Lists.{filter, flat, part, upFrom}
 use Rattle.columns.specs.Limits.{kinds}
 use Rattle.columns.specs.Building.{inFile}
 use Rattle.cleaning.specs.Writing.{Edge, edgesInto}
@@ -16,6 +16,10 @@ slotEdges first end child kind ts = map (λ p. record { child = child; parent = 
 -- the edges of the i-th of the rows whose numbers count from `start`
 unfoldable pub edgesOfRow : ℕ → ℕ → ℕ → List (List ℕ) → ℕ → List Edge
 edgesOfRow first end start lists i = edgesInto first end (start + i) 0 (part (kinds * i) kinds lists)
+
+-- the edges of the rows before row a into the n rows from row a on
+abbrev pub edgesBefore : ℕ → List (List ℕ) → ℕ → ℕ → List Edge
+edgesBefore start lists a n = flat (edgesOfRow (start + a) (start + a + n) start lists) (upFrom 0 a)
 
 -- columns in which edges stand from place `at` on are those in which the rest of them stand from place p on
 pub record Laid (es : List Edge) (at : ℕ) (cs ps ks : List ℕ) (rest : List Edge) (p : ℕ) (cs′ ps′ ks′ : List ℕ) : Type 0 where

@@ -10,7 +10,7 @@ ghost use lib.Seq.{slice};
 ghost use Rattle.lists.specs.Lists.{flat, upFrom};
 ghost use Rattle.columns.specs.Limits.{end64};
 ghost use Rattle.columns.specs.EdgeSet.{offsetsForm, cut};
-ghost use Rattle.sections.specs.Laid.{slotEdges, edgesOfRow, Laid};
+ghost use Rattle.sections.specs.Laid.{slotEdges, edgesOfRow, edgesBefore, Laid};
 
 // The edges of a child by a kind: those of targets[from..to] that are numbers of the n rows from `first` on. The result is the place after them.
 fn slot_edges(
@@ -105,7 +105,8 @@ fn rows_edges(
     p
 }
 
-// The edges into the n rows from row a on out of all other rows. The result is how many there are.
+// The edges into the n rows from row a on out of all other rows. Rows before them name none of their numbers, so only the rows after are looked at.
+// The result is how many edges there are.
 pub fn edges_into(
     start: u64,
     total: usize,
@@ -120,25 +121,12 @@ pub fn edges_into(
     requires { ⌜ (a + n ≤ total) × ((total ≤ 1024) × (start + total < end64)) ⌝ }
     requires { ⌜ length (now targets) ≤ 4096 ⌝ }
     requires { ⌜ offsetsForm total (length (now targets)) (now offsets) ≡ true ⌝ }
+    requires { ⌜ edgesBefore start (cut (now offsets) (now targets)) a n ≡ [] ⌝ }
     ensures { λ r. ⌜ r ≤ 4096 ⌝ }
     ensures { λ r. ⌜ Laid (flat (edgesOfRow (start + a) (start + a + n) start (cut (now (offsets .entry)) (now (targets .entry)))) (upFrom 0 a ++ upFrom (a + n) (total - (a + n)))) 0 (now (cs .entry)) (now (ps .entry)) (now (ks .entry)) [] r (now (cs .exit)) (now (ps .exit)) (now (ks .exit)) ⌝ }
 {
     let first = start + (a as u64);
     let b = a + n;
-    let m = rows_edges(
-        first,
-        n,
-        start,
-        total,
-        offsets,
-        targets,
-        0,
-        a,
-        0,
-        cs,
-        ps,
-        ks,
-    );
     rows_edges(
         first,
         n,
@@ -148,7 +136,7 @@ pub fn edges_into(
         targets,
         b,
         total,
-        m,
+        0,
         cs,
         ps,
         ks,

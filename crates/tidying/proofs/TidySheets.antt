@@ -181,7 +181,7 @@ module _ (s : Sheet) (l : LongSheet s) (k : sheetOk s ≡ true) where
 -- ── what is held ─────────────────────────────────────────────────────────────────────────────
 
 -- the parents of slots that pass the test are below the slots' events
-slots-below : (start slot : ℕ) (lists : List (List ℕ)) → earlier start slot lists ≡ true → EachFrom (SlotBelow start) slot lists
+pub slots-below : (start slot : ℕ) (lists : List (List ℕ)) → earlier start slot lists ≡ true → EachFrom (SlotBelow start) slot lists
 unfolding earlier below
 slots-below start slot [] e = tt
 slots-below start slot (ps ∷ lists) e =

@@ -75,7 +75,7 @@ build-part-requires c κs =
     let slices = s .pre .1 .1 .1 .1 in (
       s .pre .0 .1,
       (
-        (prefix-few _ 4096 _ (s .pre .1 .0 .0), form-cut _ _ _ _ (s .pre .1 .0 .0) (columns .targets-long) (s .pre .1 .0 .1)),
+        (prefix-few _ 4096 _ (s .pre .1 .0 .0), (form-cut _ _ _ _ (s .pre .1 .0 .0) (columns .targets-long) (s .pre .1 .0 .1 .0), s .pre .1 .0 .1 .1)),
         (
           record {
             children-few = search prefix-few;
@@ -121,7 +121,7 @@ returns c =
     let within = s .pre .0 .1 .0 in
     let few = s .pre .0 .1 .1 .0 in
     let small = s .pre .1 .0 .0 in
-    let form = s .pre .1 .0 .1 in
+    let form = s .pre .1 .0 .1 .0 in
     let records = s .pre .1 .1 .0 in
     let targets = s .pre .1 .1 .1 .0 .targets-long in
     let slices = s .pre .1 .1 .1 .1 in

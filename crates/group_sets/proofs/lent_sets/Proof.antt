@@ -1,6 +1,6 @@
 -- `group_sets::lent_sets` meets its contract: the columns of a group are what building is given of it.
 use native.Mathlib.Omega.{arith}
-use Rattle.group_sets.proofs.LentColumns.{lent-form, lent-long, group-built}
+use Rattle.group_sets.proofs.LentColumns.{lent-form, lent-before, lent-long, group-built}
 use Rattle.group_sets.proofs.GroupGraphs.{group-bounded, section-built}
 use borrow.Author.Needs.{needs}
 use Rattle.group_sets.proofs.lent_sets.Statement.{statement}
@@ -34,7 +34,7 @@ build-rows-requires c κs =
     let w = s .pre .1 .1 .1 .0 in (
       (omega (arith, b .subject, w .size-is), (omega (arith, b .within, w .total-is), (omega (arith, b .rows, w .total-is), omega (arith, b .last, w .total-is, w .start-is)))),
       (
-        (omega (arith, b .few, w .count-is), lent-form (x .s) w (b .form)),
+        (omega (arith, b .few, w .count-is), (lent-form (x .s) w (b .form), lent-before (x .s) w (x .a) (x .n) (s .pre .0 .0) (s .pre .0 .1 .0))),
         (
           (s .pre .1 .1 .0 .0, (c .before .before .before .before .before .before .before .before .before .children-long .ensures, c .before .before .before .before .before .before .wide-kinds .ensures)),
           (lent-long (x .s) w (s .pre .0 .0), s .pre .1 .1 .1 .1),

@@ -1,5 +1,5 @@
 -- `sections::edges::edges_into` meets its contract.
-use Rattle.sections.proofs.EdgeTurns.{others-low, others-few, others-laid}
+use Rattle.sections.proofs.EdgeTurns.{others-few, others-laid}
 use borrow.Author.Needs.{needs}
 use Rattle.sections.proofs.edges.edges_into.Statement.{statement}
 use Rattle.sections.proofs.edges.edges_into.Tie as tie
@@ -16,12 +16,9 @@ add-b c = search needs
 rows-edges-requires : tie.Need-rows-edges-requires
 rows-edges-requires c κs = (search needs, (search needs, search needs))
 
-rows-edges-requires-2 : tie.Need-rows-edges-requires-2
-rows-edges-requires-2 c κs = (search needs, ((search others-low, search needs), search needs))
-
 returns : tie.Need-returns
 returns c = (search others-few, search others-laid)
 
 pub edges-into-spec : {M : Type 1} → statement M
 edges-into-spec =
-    tie.close (tie.spec add-first add-b rows-edges-requires rows-edges-requires-2 returns)
+    tie.close (tie.spec add-first add-b rows-edges-requires returns)
