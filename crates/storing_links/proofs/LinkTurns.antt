@@ -80,9 +80,8 @@ module _ (l : List ℕ) (n : ℕ) (t : TailAt) where
 abbrev pub linksNow : Held → Links
 linksNow q = q .sheet .links
 
-pub links-start : (h : Held) (l : List ℕ) → Accepted h l
-    → Walk linksNow h (linksOf (h .sheet .links .count) (h .sheet .links .groups) (h .sheet .links .from .chains) (h .sheet .links .from .seqs) (h .sheet .links .to .chains) (h .sheet .links .to .seqs)) l 0 0
-links-start h l a = walk-start linksNow h l a
+pub links-start : (h : Held) (l : List ℕ) {r : Links} → Accepted h l → r ≡ h .sheet .links → Walk linksNow h r l 0 0
+links-start h l a e = rw e (walk-start linksNow h l a)
 
 links-then : (q : Held) (l : List ℕ) (f : FileAt) → linksNow (heldNext q l f) ≡ linksMore (linksNow q) (f .front .head .group) (tailIn l (f .front .head .rows) (f .tail) .cover)
 unfolding heldMore sheetMore fileIn fileFrom frontIn headIn

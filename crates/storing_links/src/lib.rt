@@ -107,7 +107,40 @@ fn add_links(
     cover_links(chains, seqs, tochains, toseqs, c, n, bytes, t);
 }
 
-// The links that are held, with those of the files of an archive more.
+// The links that are held, with those of the files of an archive more, in lent columns. `h` is what the contract speaks of: no
+// column of it is read.
+pub fn grow_links(
+    h: Held,
+    groups: &mut [u8; 1024],
+    chains: &mut [u32; 1024],
+    seqs: &mut [u32; 1024],
+    tochains: &mut [u32; 1024],
+    toseqs: &mut [u32; 1024],
+    count: usize,
+    bytes: &[u8],
+) -> usize
+    requires { ⌜ Accepted h (now bytes) × (linksOf count (now groups) (now chains) (now seqs) (now tochains) (now toseqs) ≡ h .sheet .links) ⌝ }
+    ensures { λ r. ⌜ linksOf r (now (groups .exit)) (now (chains .exit)) (now (seqs .exit)) (now (tochains .exit)) (now (toseqs .exit)) ≡ (stored h (now (bytes .entry))) .links ⌝ }
+{
+    let mut c = count;
+    let mut k: usize = 0;
+    let mut p = 0;
+    while p < bytes.len() {
+        let x = file_at(bytes, p);
+        let FileRead::FileIs(f) = x else {
+            break;
+        };
+        add_links(groups, chains, seqs, tochains, toseqs, c, bytes, f);
+        let t = f.tail;
+        let w = t.cover;
+        c += w.links;
+        p = t.end;
+        k = next(h, k, p);
+    }
+    c
+}
+
+// The same by value.
 pub fn store_links(h: Held, bytes: &[u8]) -> Links
     requires { ⌜ Accepted h (now bytes) ⌝ }
     ensures { λ r. ⌜ r ≡ (stored h (now (bytes .entry))) .links ⌝ }
@@ -117,30 +150,16 @@ pub fn store_links(h: Held, bytes: &[u8]) -> Links
     let mut seqs = h.sheet.links.from.seqs;
     let mut tochains = h.sheet.links.to.chains;
     let mut toseqs = h.sheet.links.to.seqs;
-    let mut c = h.sheet.links.count;
-    let mut k: usize = 0;
-    let mut p = 0;
-    while p < bytes.len() {
-        let x = file_at(bytes, p);
-        let FileRead::FileIs(f) = x else {
-            break;
-        };
-        add_links(
-            &mut groups,
-            &mut chains,
-            &mut seqs,
-            &mut tochains,
-            &mut toseqs,
-            c,
-            bytes,
-            f,
-        );
-        let t = f.tail;
-        let w = t.cover;
-        c += w.links;
-        p = t.end;
-        k = next(h, k, p);
-    }
+    let c = grow_links(
+        h,
+        &mut groups,
+        &mut chains,
+        &mut seqs,
+        &mut tochains,
+        &mut toseqs,
+        h.sheet.links.count,
+        bytes,
+    );
     Links {
         count: c,
         groups: groups,

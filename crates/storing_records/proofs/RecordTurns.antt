@@ -53,9 +53,8 @@ roots-added before n at l a b e f =
 abbrev pub unresolvedNow : Held → Unresolved
 unresolvedNow q = q .sheet .unresolved
 
-pub unresolved-start : (h : Held) (l : List ℕ) → Accepted h l
-    → Walk unresolvedNow h (unresolvedOf (h .sheet .unresolved .count) (h .sheet .unresolved .children) (h .sheet .unresolved .kinds) (h .sheet .unresolved .handles)) l 0 0
-unresolved-start h l a = walk-start unresolvedNow h l a
+pub unresolved-start : (h : Held) (l : List ℕ) {u : Unresolved} → Accepted h l → u ≡ h .sheet .unresolved → Walk unresolvedNow h u l 0 0
+unresolved-start h l a e = rw e (walk-start unresolvedNow h l a)
 
 unresolved-then : (q : Held) (l : List ℕ) (f : FileAt)
     → unresolvedNow (heldNext q l f) ≡ unresolvedWith (unresolvedNow q) (several 13 unresolvedAt (f .middle .count) (drop 4 (partIn l (f .middle .unresolved))))
@@ -93,8 +92,8 @@ module _ (h : Held) (c : ℕ) (a b e : List ℕ) (l : List ℕ) (k p : ℕ) (w :
 abbrev pub rootsNow : Held → Roots × ℕ
 rootsNow q = (q .sheet .roots, q .sheet .rows .count)
 
-pub roots-start : (h : Held) (l : List ℕ) → Accepted h l → Walk rootsNow h (rootsOf (h .sheet .roots .count) (h .sheet .roots .rows) (h .sheet .roots .handles), h .sheet .rows .count) l 0 0
-roots-start h l a = walk-start rootsNow h l a
+pub roots-start : (h : Held) (l : List ℕ) {r : Roots} {n : ℕ} → Accepted h l → r ≡ h .sheet .roots → n ≡ h .sheet .rows .count → Walk rootsNow h (r, n) l 0 0
+roots-start h l a e f = rw (e, f) (walk-start rootsNow h l a)
 
 roots-then : (q : Held) (l : List ℕ) (f : FileAt)
     → heldNext q l f .sheet .roots ≡ rootsWith (q .sheet .roots) (q .sheet .rows .count) (several 16 rootAt (f .tail .count) (drop 4 (partIn l (f .tail .roots))))

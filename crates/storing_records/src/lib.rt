@@ -57,15 +57,20 @@ fn add_unresolved(
     put_unresolved(children, kinds, handles, c, m.count, &bytes[at..end]);
 }
 
-// The unresolved references that are held, with those of the files of an archive more.
-pub fn store_unresolved(h: Held, bytes: &[u8]) -> Unresolved
-    requires { ⌜ Accepted h (now bytes) ⌝ }
-    ensures { λ r. ⌜ r ≡ (stored h (now (bytes .entry))) .unresolved ⌝ }
+// The unresolved references that are held, with those of the files of an archive more, in lent columns. `h` is what the contract
+// speaks of: no column of it is read.
+pub fn grow_unresolved(
+    h: Held,
+    children: &mut [u64; 1024],
+    kinds: &mut [u8; 1024],
+    handles: &mut [u32; 1024],
+    count: usize,
+    bytes: &[u8],
+) -> usize
+    requires { ⌜ Accepted h (now bytes) × (unresolvedOf count (now children) (now kinds) (now handles) ≡ h .sheet .unresolved) ⌝ }
+    ensures { λ r. ⌜ unresolvedOf r (now (children .exit)) (now (kinds .exit)) (now (handles .exit)) ≡ (stored h (now (bytes .entry))) .unresolved ⌝ }
 {
-    let mut children = h.sheet.unresolved.children;
-    let mut kinds = h.sheet.unresolved.kinds;
-    let mut handles = h.sheet.unresolved.handles;
-    let mut c = h.sheet.unresolved.count;
+    let mut c = count;
     let mut k: usize = 0;
     let mut p = 0;
     while p < bytes.len() {
@@ -74,12 +79,31 @@ pub fn store_unresolved(h: Held, bytes: &[u8]) -> Unresolved
             break;
         };
         let m = f.middle;
-        add_unresolved(&mut children, &mut kinds, &mut handles, c, bytes, m);
+        add_unresolved(children, kinds, handles, c, bytes, m);
         c += m.count;
         let t = f.tail;
         p = t.end;
         k = next(h, k, p);
     }
+    c
+}
+
+// The same by value.
+pub fn store_unresolved(h: Held, bytes: &[u8]) -> Unresolved
+    requires { ⌜ Accepted h (now bytes) ⌝ }
+    ensures { λ r. ⌜ r ≡ (stored h (now (bytes .entry))) .unresolved ⌝ }
+{
+    let mut children = h.sheet.unresolved.children;
+    let mut kinds = h.sheet.unresolved.kinds;
+    let mut handles = h.sheet.unresolved.handles;
+    let c = grow_unresolved(
+        h,
+        &mut children,
+        &mut kinds,
+        &mut handles,
+        h.sheet.unresolved.count,
+        bytes,
+    );
     Unresolved {
         count: c,
         children: children,
@@ -124,15 +148,20 @@ fn add_roots(
     put_roots(rows, handles, c, before, t.count, &bytes[at..end]);
 }
 
-// The roots that are held, with those of the files of an archive more.
-pub fn store_roots(h: Held, bytes: &[u8]) -> Roots
-    requires { ⌜ Accepted h (now bytes) ⌝ }
-    ensures { λ r. ⌜ r ≡ (stored h (now (bytes .entry))) .roots ⌝ }
+// The roots that are held, with those of the files of an archive more, in lent columns; `before` rows are held.
+pub fn grow_roots(
+    h: Held,
+    rows: &mut [u64; 1024],
+    handles: &mut [u64; 1024],
+    count: usize,
+    before: usize,
+    bytes: &[u8],
+) -> usize
+    requires { ⌜ Accepted h (now bytes) × ((rootsOf count (now rows) (now handles) ≡ h .sheet .roots) × (before ≡ h .sheet .rows .count)) ⌝ }
+    ensures { λ r. ⌜ rootsOf r (now (rows .exit)) (now (handles .exit)) ≡ (stored h (now (bytes .entry))) .roots ⌝ }
 {
-    let mut rows = h.sheet.roots.rows;
-    let mut handles = h.sheet.roots.handles;
-    let mut c = h.sheet.roots.count;
-    let mut n = h.sheet.rows.count;
+    let mut c = count;
+    let mut n = before;
     let mut k: usize = 0;
     let mut p = 0;
     while p < bytes.len() {
@@ -141,7 +170,7 @@ pub fn store_roots(h: Held, bytes: &[u8]) -> Roots
             break;
         };
         let t = f.tail;
-        add_roots(&mut rows, &mut handles, c, n, bytes, t);
+        add_roots(rows, handles, c, n, bytes, t);
         c += t.count;
         let a = f.front;
         let d = a.head;
@@ -149,6 +178,24 @@ pub fn store_roots(h: Held, bytes: &[u8]) -> Roots
         p = t.end;
         k = next(h, k, p);
     }
+    c
+}
+
+// The same by value.
+pub fn store_roots(h: Held, bytes: &[u8]) -> Roots
+    requires { ⌜ Accepted h (now bytes) ⌝ }
+    ensures { λ r. ⌜ r ≡ (stored h (now (bytes .entry))) .roots ⌝ }
+{
+    let mut rows = h.sheet.roots.rows;
+    let mut handles = h.sheet.roots.handles;
+    let c = grow_roots(
+        h,
+        &mut rows,
+        &mut handles,
+        h.sheet.roots.count,
+        h.sheet.rows.count,
+        bytes,
+    );
     Roots {
         count: c,
         rows: rows,

@@ -89,8 +89,8 @@ rows-added c a b x y l f e g h i =
 abbrev pub rowsNow : Held → Rows
 rowsNow q = q .sheet .rows
 
-pub rows-start : (h : Held) (l : List ℕ) → Accepted h l → Walk rowsNow h (rowsOf (h .sheet .rows .count) (h .sheet .rows .groups) (h .sheet .rows .tags) (h .sheet .rows .chains) (h .sheet .rows .seqs)) l 0 0
-rows-start h l a = walk-start rowsNow h l a
+pub rows-start : (h : Held) (l : List ℕ) {r : Rows} → Accepted h l → r ≡ h .sheet .rows → Walk rowsNow h r l 0 0
+rows-start h l a e = rw e (walk-start rowsNow h l a)
 
 rows-then : (q : Held) (l : List ℕ) (f : FileAt) → rowsNow (heldNext q l f) ≡ rowsMore (rowsNow q) (fileIn l f)
 unfolding heldMore sheetMore
@@ -124,8 +124,8 @@ rows-hold l p z i m = file-holds l p z i m .middle .rows
 abbrev pub flagsNow : Held → List ℕ × ℕ
 flagsNow q = (q .erased, q .sheet .rows .count)
 
-pub flags-start : (h : Held) (l : List ℕ) → Accepted h l → Walk flagsNow h (h .erased, h .sheet .rows .count) l 0 0
-flags-start h l a = walk-start flagsNow h l a
+pub flags-start : (h : Held) (l : List ℕ) {s : List ℕ} {n : ℕ} → Accepted h l → s ≡ h .erased → n ≡ h .sheet .rows .count → Walk flagsNow h (s, n) l 0 0
+flags-start h l a e f = rw (e, f) (walk-start flagsNow h l a)
 
 flags-then : (q : Held) (l : List ℕ) (f : FileAt)
     → heldNext q l f .erased ≡ sets (q .erased) (q .sheet .rows .count) (map (λ r. bit (r .erased)) (several 9 rowAt (f .front .head .rows) (partIn l (f .middle .rows))))

@@ -113,7 +113,40 @@ fn add_rows(
     add_labels(chains, seqs, c, n, bytes, f.tail);
 }
 
-// The rows that are held, with those of the files of an archive more.
+// The rows that are held, with those of the files of an archive more, in lent columns. `h` is what the contract speaks of: no
+// column of it is read.
+pub fn grow_rows(
+    h: Held,
+    groups: &mut [u8; 1024],
+    tags: &mut [u64; 1024],
+    chains: &mut [u32; 1024],
+    seqs: &mut [u32; 1024],
+    count: usize,
+    bytes: &[u8],
+) -> usize
+    requires { ⌜ Accepted h (now bytes) × (rowsOf count (now groups) (now tags) (now chains) (now seqs) ≡ h .sheet .rows) ⌝ }
+    ensures { λ r. ⌜ rowsOf r (now (groups .exit)) (now (tags .exit)) (now (chains .exit)) (now (seqs .exit)) ≡ (stored h (now (bytes .entry))) .rows ⌝ }
+{
+    let mut c = count;
+    let mut k: usize = 0;
+    let mut p = 0;
+    while p < bytes.len() {
+        let x = file_at(bytes, p);
+        let FileRead::FileIs(f) = x else {
+            break;
+        };
+        add_rows(groups, tags, chains, seqs, c, bytes, f);
+        let a = f.front;
+        let d = a.head;
+        c += d.rows as usize;
+        let t = f.tail;
+        p = t.end;
+        k = next(h, k, p);
+    }
+    c
+}
+
+// The same by value.
 pub fn store_rows(h: Held, bytes: &[u8]) -> Rows
     requires { ⌜ Accepted h (now bytes) ⌝ }
     ensures { λ r. ⌜ r ≡ (stored h (now (bytes .entry))) .rows ⌝ }
@@ -122,22 +155,15 @@ pub fn store_rows(h: Held, bytes: &[u8]) -> Rows
     let mut tags = h.sheet.rows.tags;
     let mut chains = h.sheet.rows.chains;
     let mut seqs = h.sheet.rows.seqs;
-    let mut c = h.sheet.rows.count;
-    let mut k: usize = 0;
-    let mut p = 0;
-    while p < bytes.len() {
-        let x = file_at(bytes, p);
-        let FileRead::FileIs(f) = x else {
-            break;
-        };
-        add_rows(&mut groups, &mut tags, &mut chains, &mut seqs, c, bytes, f);
-        let a = f.front;
-        let d = a.head;
-        c += d.rows as usize;
-        let t = f.tail;
-        p = t.end;
-        k = next(h, k, p);
-    }
+    let c = grow_rows(
+        h,
+        &mut groups,
+        &mut tags,
+        &mut chains,
+        &mut seqs,
+        h.sheet.rows.count,
+        bytes,
+    );
     Rows {
         count: c,
         groups: groups,
@@ -147,13 +173,12 @@ pub fn store_rows(h: Held, bytes: &[u8]) -> Rows
     }
 }
 
-// The flags that are held, with those of the files of an archive more.
-pub fn store_flags(h: Held, bytes: &[u8]) -> [u8; 1024]
-    requires { ⌜ Accepted h (now bytes) ⌝ }
-    ensures { λ r. ⌜ r ≡ (stored h (now (bytes .entry))) .erased ⌝ }
+// The flags that are held, with those of the files of an archive more, in a lent column.
+pub fn grow_flags(h: Held, flags: &mut [u8; 1024], rows: usize, bytes: &[u8])
+    requires { ⌜ Accepted h (now bytes) × ((now flags ≡ h .erased) × (rows ≡ h .sheet .rows .count)) ⌝ }
+    ensures { λ _. ⌜ now (flags .exit) ≡ (stored h (now (bytes .entry))) .erased ⌝ }
 {
-    let mut flags = h.erased;
-    let mut c = h.sheet.rows.count;
+    let mut c = rows;
     let mut k: usize = 0;
     let mut p = 0;
     while p < bytes.len() {
@@ -165,11 +190,20 @@ pub fn store_flags(h: Held, bytes: &[u8]) -> [u8; 1024]
         let d = a.head;
         let n = d.rows as usize;
         let m = f.middle;
-        add_flags(&mut flags, c, n, bytes, m.rows);
+        add_flags(flags, c, n, bytes, m.rows);
         c += n;
         let t = f.tail;
         p = t.end;
         k = next(h, k, p);
     }
+}
+
+// The same by value.
+pub fn store_flags(h: Held, bytes: &[u8]) -> [u8; 1024]
+    requires { ⌜ Accepted h (now bytes) ⌝ }
+    ensures { λ r. ⌜ r ≡ (stored h (now (bytes .entry))) .erased ⌝ }
+{
+    let mut flags = h.erased;
+    grow_flags(h, &mut flags, h.sheet.rows.count, bytes);
     flags
 }

@@ -133,8 +133,9 @@ side-next Forward q l f = refl
 side-next Reverse q l f = refl
 side-next Inbound q l f = refl
 
-pub side-start : (side : Side) (h : Held) (l : List ℕ) {e : Edges} → Accepted h l → e ≡ sideOf side (partsOf h) → Walk (sideNow side) h (e, h .sheet .rows .count) l 0 0
-side-start side h l a i = rw i (walk-start (sideNow side) h l a)
+pub side-start : (side : Side) (h : Held) (l : List ℕ) {e : Edges} {n : ℕ} → Accepted h l → e ≡ sideOf side (partsOf h) → n ≡ h .sheet .rows .count
+    → Walk (sideNow side) h (e, n) l 0 0
+side-start side h l a i j = rw (i, j) (walk-start (sideNow side) h l a)
 
 module _ (side : Side) (h : Held) (c : ℕ) (a y : List ℕ) (n : ℕ) (l : List ℕ) (k p : ℕ) (w : Walk (sideNow side) h (listsOf c a y, n) l k p) where
   abbrev e : Edges

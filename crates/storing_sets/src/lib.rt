@@ -155,17 +155,24 @@ fn add_set(
     add_targets(targets, c, d.first, rows, s.count, offsets, deltas);
 }
 
-// The lists of one set, with those of the files of an archive more.
-pub fn store_set(h: Held, e: Edges, side: Side, bytes: &[u8]) -> Edges
-    requires { ⌜ Accepted h (now bytes) × (e ≡ sideOf side (partsOf h)) ⌝ }
-    ensures { λ r. ⌜ r ≡ sideOf side (stored h (now (bytes .entry))) ⌝ }
+// The lists of one set, with those of the files of an archive more, in lent columns. `h` is what the contract speaks of: no column of
+// it is read. The last two arrays are work space.
+pub fn grow_set(
+    h: Held,
+    side: Side,
+    starts: &mut [u64; 2049],
+    targets: &mut [u64; 4096],
+    count: usize,
+    rows: usize,
+    offsets: &mut [u64; 2049],
+    deltas: &mut [i64; 4096],
+    bytes: &[u8],
+) -> usize
+    requires { ⌜ Accepted h (now bytes) × ((listsOf count (now starts) (now targets) ≡ sideOf side (partsOf h)) × (rows ≡ h .sheet .rows .count)) ⌝ }
+    ensures { λ r. ⌜ listsOf r (now (starts .exit)) (now (targets .exit)) ≡ sideOf side (stored h (now (bytes .entry))) ⌝ }
 {
-    let mut offsets = [0u64; 2049];
-    let mut deltas = [0i64; 4096];
-    let mut starts = e.offsets;
-    let mut targets = e.targets;
-    let mut c = e.count;
-    let mut n = h.sheet.rows.count;
+    let mut c = count;
+    let mut n = rows;
     let mut k: usize = 0;
     let mut p = 0;
     while p < bytes.len() {
@@ -176,23 +183,36 @@ pub fn store_set(h: Held, e: Edges, side: Side, bytes: &[u8]) -> Edges
         let a = f.front;
         let d = a.head;
         let s = set_place(side, a.edges);
-        add_set(
-            &mut starts,
-            &mut targets,
-            c,
-            n,
-            bytes,
-            a,
-            s,
-            &mut offsets,
-            &mut deltas,
-        );
+        add_set(starts, targets, c, n, bytes, a, s, offsets, deltas);
         c += s.count;
         n += d.rows as usize;
         let t = f.tail;
         p = t.end;
         k = next(h, k, p);
     }
+    c
+}
+
+// The same by value.
+pub fn store_set(h: Held, e: Edges, side: Side, bytes: &[u8]) -> Edges
+    requires { ⌜ Accepted h (now bytes) × (e ≡ sideOf side (partsOf h)) ⌝ }
+    ensures { λ r. ⌜ r ≡ sideOf side (stored h (now (bytes .entry))) ⌝ }
+{
+    let mut offsets = [0u64; 2049];
+    let mut deltas = [0i64; 4096];
+    let mut starts = e.offsets;
+    let mut targets = e.targets;
+    let c = grow_set(
+        h,
+        side,
+        &mut starts,
+        &mut targets,
+        e.count,
+        h.sheet.rows.count,
+        &mut offsets,
+        &mut deltas,
+        bytes,
+    );
     Edges {
         count: c,
         offsets: starts,

@@ -1,4 +1,4 @@
--- `storing_sets::store_set` meets its contract.
+-- `storing_sets::grow_set` meets its contract.
 use Prim.Native.Nat.{_≤_, _-_}
 use lib.ListN.{length}
 use Rattle.archive_reader.proofs.AtFiles.{file-fits}
@@ -6,20 +6,20 @@ use Rattle.storing_turns.proofs.Turns.{Walk, fewer-left, count-below, count-on}
 use Rattle.storing_sets.specs.Sides.{listsOf}
 use Rattle.storing_sets.proofs.SetTurns.{sideNow, side-start, side-none, side-done, set-holds, set-room, numbers-fit, rows-fit, side-on}
 use borrow.Author.Needs.{needs}
-use Rattle.storing_sets.proofs.store_set.Statement.{statement}
-use Rattle.storing_sets.proofs.store_set.Tie as tie
-use Rattle.storing_sets.proofs.store_set.Reads as reads
-use Rattle.storing_sets.proofs.store_set.Lts as lts
+use Rattle.storing_sets.proofs.grow_set.Statement.{statement}
+use Rattle.storing_sets.proofs.grow_set.Tie as tie
+use Rattle.storing_sets.proofs.grow_set.Reads as reads
+use Rattle.storing_sets.proofs.grow_set.Lts as lts
 use Rattle.archive_reader.proofs.records.file_at.Reads as file-at-reads
 use Rattle.storing_sets.proofs.add_set.Reads as add-set-reads
 use Rattle.storing_sets.proofs.set_place.Reads as set-place-reads
 use Rattle.storing_turns.proofs.next.Reads as next-reads
 
 abbrev Inv-loop : tie.InvT-loop
-Inv-loop h side bytes offsets₀ deltas₀ starts₀ targets₀ c₀ n₀ k₀ p₀ offsets deltas starts targets c n k p = (p ≤ length bytes) × (k ≤ p) × Walk (sideNow side) h (listsOf c starts targets, n) bytes k p
+Inv-loop h side starts₀ targets₀ count rows offsets₀ deltas₀ bytes c₀ n₀ k₀ p₀ starts targets offsets deltas c n k p = (p ≤ length bytes) × (k ≤ p) × Walk (sideNow side) h (listsOf c starts targets, n) bytes k p
 
 abbrev μ-loop : tie.MeasureT-loop
-μ-loop h side bytes offsets₀ deltas₀ starts₀ targets₀ c₀ n₀ k₀ p₀ offsets deltas starts targets c n k p = length bytes - p
+μ-loop h side starts₀ targets₀ count rows offsets₀ deltas₀ bytes c₀ n₀ k₀ p₀ starts targets offsets deltas c n k p = length bytes - p
 
 loop-holds : tie.Need-loop-holds Inv-loop μ-loop
 loop-holds c = (search needs, search needs, search side-start)
@@ -63,8 +63,8 @@ returns c = search side-done
 returns-2 : tie.Need-returns-2 Inv-loop μ-loop
 returns-2 c = search side-none
 
-pub store-set-spec : {M : Type 1} → statement M
-store-set-spec =
+pub grow-set-spec : {M : Type 1} → statement M
+grow-set-spec =
     tie.close
     (tie.spec
     Inv-loop

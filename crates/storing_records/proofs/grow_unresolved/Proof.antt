@@ -1,4 +1,4 @@
--- `storing_records::store_unresolved` meets its contract.
+-- `storing_records::grow_unresolved` meets its contract.
 use Prim.Native.Nat.{_≤_, _-_}
 use lib.ListN.{length}
 use Rattle.archive_reader.proofs.AtFiles.{file-fits}
@@ -6,19 +6,19 @@ use Rattle.storing_turns.proofs.Turns.{Walk, fewer-left, count-below, count-on}
 use Rattle.storing_records.specs.Columns.{unresolvedOf}
 use Rattle.storing_records.proofs.RecordTurns.{unresolvedNow, unresolved-start, unresolved-none, unresolved-done, unresolved-holds, unresolved-room, unresolved-fit, unresolved-on}
 use borrow.Author.Needs.{needs}
-use Rattle.storing_records.proofs.store_unresolved.Statement.{statement}
-use Rattle.storing_records.proofs.store_unresolved.Tie as tie
-use Rattle.storing_records.proofs.store_unresolved.Reads as reads
-use Rattle.storing_records.proofs.store_unresolved.Lts as lts
+use Rattle.storing_records.proofs.grow_unresolved.Statement.{statement}
+use Rattle.storing_records.proofs.grow_unresolved.Tie as tie
+use Rattle.storing_records.proofs.grow_unresolved.Reads as reads
+use Rattle.storing_records.proofs.grow_unresolved.Lts as lts
 use Rattle.archive_reader.proofs.records.file_at.Reads as file-at-reads
 use Rattle.storing_records.proofs.add_unresolved.Reads as add-unresolved-reads
 use Rattle.storing_turns.proofs.next.Reads as next-reads
 
 abbrev Inv-loop : tie.InvT-loop
-Inv-loop h bytes children₀ kinds₀ handles₀ c₀ k₀ p₀ children kinds handles c k p = (p ≤ length bytes) × (k ≤ p) × Walk unresolvedNow h (unresolvedOf c children kinds handles) bytes k p
+Inv-loop h children₀ kinds₀ handles₀ count bytes c₀ k₀ p₀ children kinds handles c k p = (p ≤ length bytes) × (k ≤ p) × Walk unresolvedNow h (unresolvedOf c children kinds handles) bytes k p
 
 abbrev μ-loop : tie.MeasureT-loop
-μ-loop h bytes children₀ kinds₀ handles₀ c₀ k₀ p₀ children kinds handles c k p = length bytes - p
+μ-loop h children₀ kinds₀ handles₀ count bytes c₀ k₀ p₀ children kinds handles c k p = length bytes - p
 
 loop-holds : tie.Need-loop-holds Inv-loop μ-loop
 loop-holds c = (search needs, search needs, search unresolved-start)
@@ -53,8 +53,8 @@ returns c = search unresolved-done
 returns-2 : tie.Need-returns-2 Inv-loop μ-loop
 returns-2 c = search unresolved-none
 
-pub store-unresolved-spec : {M : Type 1} → statement M
-store-unresolved-spec =
+pub grow-unresolved-spec : {M : Type 1} → statement M
+grow-unresolved-spec =
     tie.close
     (tie.spec
     Inv-loop

@@ -1,4 +1,4 @@
--- `storing_rows::store_rows` meets its contract.
+-- `storing_rows::grow_rows` meets its contract.
 use Prim.Native.Nat.{_≤_, _-_}
 use lib.ListN.{length}
 use Rattle.archive_reader.proofs.AtFiles.{file-fits, file-holds}
@@ -6,19 +6,19 @@ use Rattle.storing_turns.proofs.Turns.{Walk, fewer-left, count-below, count-on}
 use Rattle.storing_rows.specs.Rows.{rowsOf}
 use Rattle.storing_rows.proofs.RowTurns.{rowsNow, rows-start, rows-none, rows-done, rows-room, rows-fit, rows-on}
 use borrow.Author.Needs.{needs}
-use Rattle.storing_rows.proofs.store_rows.Statement.{statement}
-use Rattle.storing_rows.proofs.store_rows.Tie as tie
-use Rattle.storing_rows.proofs.store_rows.Reads as reads
-use Rattle.storing_rows.proofs.store_rows.Lts as lts
+use Rattle.storing_rows.proofs.grow_rows.Statement.{statement}
+use Rattle.storing_rows.proofs.grow_rows.Tie as tie
+use Rattle.storing_rows.proofs.grow_rows.Reads as reads
+use Rattle.storing_rows.proofs.grow_rows.Lts as lts
 use Rattle.archive_reader.proofs.records.file_at.Reads as file-at-reads
 use Rattle.storing_rows.proofs.add_rows.Reads as add-rows-reads
 use Rattle.storing_turns.proofs.next.Reads as next-reads
 
 abbrev Inv-loop : tie.InvT-loop
-Inv-loop h bytes groups₀ tags₀ chains₀ seqs₀ c₀ k₀ p₀ groups tags chains seqs c k p = (p ≤ length bytes) × (k ≤ p) × Walk rowsNow h (rowsOf c groups tags chains seqs) bytes k p
+Inv-loop h groups₀ tags₀ chains₀ seqs₀ count bytes c₀ k₀ p₀ groups tags chains seqs c k p = (p ≤ length bytes) × (k ≤ p) × Walk rowsNow h (rowsOf c groups tags chains seqs) bytes k p
 
 abbrev μ-loop : tie.MeasureT-loop
-μ-loop h bytes groups₀ tags₀ chains₀ seqs₀ c₀ k₀ p₀ groups tags chains seqs c k p = length bytes - p
+μ-loop h groups₀ tags₀ chains₀ seqs₀ count bytes c₀ k₀ p₀ groups tags chains seqs c k p = length bytes - p
 
 loop-holds : tie.Need-loop-holds Inv-loop μ-loop
 loop-holds c = (search needs, search needs, search rows-start)
@@ -56,8 +56,8 @@ returns c = search rows-done
 returns-2 : tie.Need-returns-2 Inv-loop μ-loop
 returns-2 c = search rows-none
 
-pub store-rows-spec : {M : Type 1} → statement M
-store-rows-spec =
+pub grow-rows-spec : {M : Type 1} → statement M
+grow-rows-spec =
     tie.close
     (tie.spec
     Inv-loop

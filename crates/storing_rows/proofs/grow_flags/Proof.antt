@@ -1,23 +1,23 @@
--- `storing_rows::store_flags` meets its contract.
+-- `storing_rows::grow_flags` meets its contract.
 use Prim.Native.Nat.{_≤_, _-_}
 use lib.ListN.{length}
 use Rattle.archive_reader.proofs.AtFiles.{file-fits}
 use Rattle.storing_turns.proofs.Turns.{Walk, fewer-left, count-below, count-on}
 use Rattle.storing_rows.proofs.RowTurns.{rows-hold, flagsNow, flags-start, flags-none, flags-done, flags-room, flags-fit, flags-on}
 use borrow.Author.Needs.{needs}
-use Rattle.storing_rows.proofs.store_flags.Statement.{statement}
-use Rattle.storing_rows.proofs.store_flags.Tie as tie
-use Rattle.storing_rows.proofs.store_flags.Reads as reads
-use Rattle.storing_rows.proofs.store_flags.Lts as lts
+use Rattle.storing_rows.proofs.grow_flags.Statement.{statement}
+use Rattle.storing_rows.proofs.grow_flags.Tie as tie
+use Rattle.storing_rows.proofs.grow_flags.Reads as reads
+use Rattle.storing_rows.proofs.grow_flags.Lts as lts
 use Rattle.archive_reader.proofs.records.file_at.Reads as file-at-reads
 use Rattle.storing_rows.proofs.add_flags.Reads as add-flags-reads
 use Rattle.storing_turns.proofs.next.Reads as next-reads
 
 abbrev Inv-loop : tie.InvT-loop
-Inv-loop h bytes flags₀ c₀ k₀ p₀ flags c k p = (p ≤ length bytes) × (k ≤ p) × Walk flagsNow h (flags, c) bytes k p
+Inv-loop h flags₀ rows bytes c₀ k₀ p₀ flags c k p = (p ≤ length bytes) × (k ≤ p) × Walk flagsNow h (flags, c) bytes k p
 
 abbrev μ-loop : tie.MeasureT-loop
-μ-loop h bytes flags₀ c₀ k₀ p₀ flags c k p = length bytes - p
+μ-loop h flags₀ rows bytes c₀ k₀ p₀ flags c k p = length bytes - p
 
 loop-holds : tie.Need-loop-holds Inv-loop μ-loop
 loop-holds c = (search needs, search needs, search flags-start)
@@ -55,8 +55,8 @@ returns c = search flags-done
 returns-2 : tie.Need-returns-2 Inv-loop μ-loop
 returns-2 c = search flags-none
 
-pub store-flags-spec : {M : Type 1} → statement M
-store-flags-spec =
+pub grow-flags-spec : {M : Type 1} → statement M
+grow-flags-spec =
     tie.close
     (tie.spec
     Inv-loop

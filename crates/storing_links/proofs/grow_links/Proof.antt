@@ -1,4 +1,4 @@
--- `storing_links::store_links` meets its contract.
+-- `storing_links::grow_links` meets its contract.
 use Prim.Native.Nat.{_≤_, _-_}
 use lib.ListN.{length}
 use Rattle.archive_reader.proofs.AtFiles.{file-fits}
@@ -6,19 +6,19 @@ use Rattle.storing_turns.proofs.Turns.{Walk, fewer-left, count-below, count-on}
 use Rattle.storing_links.specs.Columns.{linksOf}
 use Rattle.storing_links.proofs.LinkTurns.{linksNow, links-start, no-links, links-done, links-hold, links-sums, links-uncovers, links-room, links-rows, links-ranges, links-fit, links-on}
 use borrow.Author.Needs.{needs}
-use Rattle.storing_links.proofs.store_links.Statement.{statement}
-use Rattle.storing_links.proofs.store_links.Tie as tie
-use Rattle.storing_links.proofs.store_links.Reads as reads
-use Rattle.storing_links.proofs.store_links.Lts as lts
+use Rattle.storing_links.proofs.grow_links.Statement.{statement}
+use Rattle.storing_links.proofs.grow_links.Tie as tie
+use Rattle.storing_links.proofs.grow_links.Reads as reads
+use Rattle.storing_links.proofs.grow_links.Lts as lts
 use Rattle.archive_reader.proofs.records.file_at.Reads as file-at-reads
 use Rattle.storing_links.proofs.add_links.Reads as add-links-reads
 use Rattle.storing_turns.proofs.next.Reads as next-reads
 
 abbrev Inv-loop : tie.InvT-loop
-Inv-loop h bytes groups₀ chains₀ seqs₀ tochains₀ toseqs₀ c₀ k₀ p₀ groups chains seqs tochains toseqs c k p = (p ≤ length bytes) × (k ≤ p) × Walk linksNow h (linksOf c groups chains seqs tochains toseqs) bytes k p
+Inv-loop h groups₀ chains₀ seqs₀ tochains₀ toseqs₀ count bytes c₀ k₀ p₀ groups chains seqs tochains toseqs c k p = (p ≤ length bytes) × (k ≤ p) × Walk linksNow h (linksOf c groups chains seqs tochains toseqs) bytes k p
 
 abbrev μ-loop : tie.MeasureT-loop
-μ-loop h bytes groups₀ chains₀ seqs₀ tochains₀ toseqs₀ c₀ k₀ p₀ groups chains seqs tochains toseqs c k p = length bytes - p
+μ-loop h groups₀ chains₀ seqs₀ tochains₀ toseqs₀ count bytes c₀ k₀ p₀ groups chains seqs tochains toseqs c k p = length bytes - p
 
 loop-holds : tie.Need-loop-holds Inv-loop μ-loop
 loop-holds c = (search needs, search needs, search links-start)
@@ -53,8 +53,8 @@ returns c = search links-done
 returns-2 : tie.Need-returns-2 Inv-loop μ-loop
 returns-2 c = search no-links
 
-pub store-links-spec : {M : Type 1} → statement M
-store-links-spec =
+pub grow-links-spec : {M : Type 1} → statement M
+grow-links-spec =
     tie.close
     (tie.spec
     Inv-loop

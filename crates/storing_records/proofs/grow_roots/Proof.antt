@@ -1,4 +1,4 @@
--- `storing_records::store_roots` meets its contract.
+-- `storing_records::grow_roots` meets its contract.
 use Prim.Native.Nat.{_≤_, _-_}
 use lib.ListN.{length}
 use Rattle.archive_reader.proofs.AtFiles.{file-fits}
@@ -6,19 +6,19 @@ use Rattle.storing_turns.proofs.Turns.{Walk, fewer-left, count-below, count-on}
 use Rattle.storing_records.specs.Columns.{rootsOf}
 use Rattle.storing_records.proofs.RecordTurns.{rootsNow, roots-start, roots-none, roots-done, roots-hold, roots-room, rows-few, roots-inside, roots-fit, rows-fit, roots-on}
 use borrow.Author.Needs.{needs}
-use Rattle.storing_records.proofs.store_roots.Statement.{statement}
-use Rattle.storing_records.proofs.store_roots.Tie as tie
-use Rattle.storing_records.proofs.store_roots.Reads as reads
-use Rattle.storing_records.proofs.store_roots.Lts as lts
+use Rattle.storing_records.proofs.grow_roots.Statement.{statement}
+use Rattle.storing_records.proofs.grow_roots.Tie as tie
+use Rattle.storing_records.proofs.grow_roots.Reads as reads
+use Rattle.storing_records.proofs.grow_roots.Lts as lts
 use Rattle.archive_reader.proofs.records.file_at.Reads as file-at-reads
 use Rattle.storing_records.proofs.add_roots.Reads as add-roots-reads
 use Rattle.storing_turns.proofs.next.Reads as next-reads
 
 abbrev Inv-loop : tie.InvT-loop
-Inv-loop h bytes rows₀ handles₀ c₀ n₀ k₀ p₀ rows handles c n k p = (p ≤ length bytes) × (k ≤ p) × Walk rootsNow h (rootsOf c rows handles, n) bytes k p
+Inv-loop h rows₀ handles₀ count before bytes c₀ n₀ k₀ p₀ rows handles c n k p = (p ≤ length bytes) × (k ≤ p) × Walk rootsNow h (rootsOf c rows handles, n) bytes k p
 
 abbrev μ-loop : tie.MeasureT-loop
-μ-loop h bytes rows₀ handles₀ c₀ n₀ k₀ p₀ rows handles c n k p = length bytes - p
+μ-loop h rows₀ handles₀ count before bytes c₀ n₀ k₀ p₀ rows handles c n k p = length bytes - p
 
 loop-holds : tie.Need-loop-holds Inv-loop μ-loop
 loop-holds c = (search needs, search needs, search roots-start)
@@ -59,8 +59,8 @@ returns c = search roots-done
 returns-2 : tie.Need-returns-2 Inv-loop μ-loop
 returns-2 c = search roots-none
 
-pub store-roots-spec : {M : Type 1} → statement M
-store-roots-spec =
+pub grow-roots-spec : {M : Type 1} → statement M
+grow-roots-spec =
     tie.close
     (tie.spec
     Inv-loop
