@@ -28,14 +28,20 @@ pub struct Seen {
 }
 
 // The rules of a file that looks back at what was seen.
-fn next_rules(s: Seen, bytes: &[u8], f: FileAt) -> Ruling
+fn next_rules(
+    s: Seen,
+    bytes: &[u8],
+    f: FileAt,
+    offsets: &mut [u64; 2049],
+    deltas: &mut [i64; 4096],
+) -> Ruling
     requires { ⌜ s .length ≤ length (s .subject) ⌝ }
     requires { ⌜ HoldsFile (now bytes) f × Small f ⌝ }
     ensures { λ r. ⌜ r ≡ ruling (fileRules (seenOf s) (fileIn (now (bytes .entry)) f)) ⌝ }
 {
     let n = s.length;
     let name = s.subject;
-    file_rules(bytes, f, s.back, &name[..n])
+    file_rules(bytes, f, s.back, &name[..n], offsets, deltas)
 }
 
 // What is seen of a subject that is lent by itself.
@@ -94,6 +100,9 @@ pub fn files_rules(bytes: &[u8], back: Back, subject: &[u8]) -> Ruling
     requires { ⌜ (length (now subject) ≤ 255) × Within (totalsOf (parse (now bytes))) ⌝ }
     ensures { λ r. ⌜ r ≡ ruling (rulesOf (backOf back (now (subject .entry))) (parse (now (bytes .entry)))) ⌝ }
 {
+    // work space, made once for the sets of all files
+    let mut offsets = [0u64; 2049];
+    let mut deltas = [0i64; 4096];
     let mut s = see(back, subject);
     let mut k: usize = 0;
     let mut p = 0;
@@ -102,7 +111,7 @@ pub fn files_rules(bytes: &[u8], back: Back, subject: &[u8]) -> Ruling
         let FileRead::FileIs(f) = x else {
             return Ruling::Kept;
         };
-        let r = next_rules(s, bytes, f);
+        let r = next_rules(s, bytes, f, &mut offsets, &mut deltas);
         match r {
             Ruling::Broken(y) => {
                 return Ruling::Broken(y);

@@ -56,8 +56,13 @@ fn front_rules(bytes: &[u8], f: FrontAt, covered: bool, back: Back, before: &[u8
     body_rules(&bytes[at..end], h, covered, back, before)
 }
 
-// 17 to 19.
-fn edges_rules(bytes: &[u8], f: FrontAt) -> Ruling
+// 17 to 19. The two arrays are work space, here and in what calls this.
+fn edges_rules(
+    bytes: &[u8],
+    f: FrontAt,
+    offsets: &mut [u64; 2049],
+    deltas: &mut [i64; 4096],
+) -> Ruling
     requires { ⌜ HoldsSets (now bytes) (f .head .rows) (f .edges) (f .sets) ⌝ }
     requires { ⌜ (f .head .rows ≤ 1024) × (f .head .first + f .head .rows < end64) ⌝ }
     requires { ⌜ (f .edges .forwards ≤ 4096) × ((f .edges .reverses ≤ 4096) × (f .edges .inbounds ≤ 4096)) ⌝ }
@@ -80,6 +85,8 @@ fn edges_rules(bytes: &[u8], f: FrontAt) -> Ruling
         s.reverses,
         s.inbound,
         s.inbounds,
+        offsets,
+        deltas,
     )
 }
 
@@ -145,14 +152,19 @@ fn tail_rules(bytes: &[u8], h: HeadAt, m: MiddleAt, t: TailAt) -> Ruling
 }
 
 // 17 to 19, 16, 6, 7, 22 of a file whose numbers fit.
-fn rest_rules(bytes: &[u8], f: FileAt) -> Ruling
+fn rest_rules(
+    bytes: &[u8],
+    f: FileAt,
+    offsets: &mut [u64; 2049],
+    deltas: &mut [i64; 4096],
+) -> Ruling
     requires { ⌜ HoldsFile (now bytes) f × Small f ⌝ }
     requires { ⌜ f .front .head .first + f .front .head .rows < end64 ⌝ }
     ensures { λ r. ⌜ r ≡ ruling (restRules (now (bytes .entry)) f) ⌝ }
 {
     let a = f.front;
     let h = a.head;
-    let r = edges_rules(bytes, a);
+    let r = edges_rules(bytes, a, offsets, deltas);
     match r {
         Ruling::Broken(x) => Ruling::Broken(x),
         Ruling::Kept => tail_rules(bytes, h, f.middle, f.tail),
@@ -160,7 +172,14 @@ fn rest_rules(bytes: &[u8], f: FileAt) -> Ruling
 }
 
 // The rules of one file, which looks back at rows of the subject `before`.
-pub fn file_rules(bytes: &[u8], f: FileAt, back: Back, before: &[u8]) -> Ruling
+pub fn file_rules(
+    bytes: &[u8],
+    f: FileAt,
+    back: Back,
+    before: &[u8],
+    offsets: &mut [u64; 2049],
+    deltas: &mut [i64; 4096],
+) -> Ruling
     requires { ⌜ HoldsFile (now bytes) f × Small f ⌝ }
     ensures { λ r. ⌜ r ≡ ruling (fileRules (backOf back (now (before .entry))) (fileIn (now (bytes .entry)) f)) ⌝ }
 {
@@ -168,6 +187,6 @@ pub fn file_rules(bytes: &[u8], f: FileAt, back: Back, before: &[u8]) -> Ruling
     let r = front_rules(bytes, f.front, t.covered, back, before);
     match r {
         Ruling::Broken(x) => Ruling::Broken(x),
-        Ruling::Kept => rest_rules(bytes, f),
+        Ruling::Kept => rest_rules(bytes, f, offsets, deltas),
     }
 }

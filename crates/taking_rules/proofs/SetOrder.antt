@@ -28,23 +28,33 @@ use Rattle.taking_rules.specs.Back.{setsRules, laterRules}
 pub take-sets : {A : Type 0} (l vs : List A) (n : ℕ) → length vs ≡ n → n ≤ length l → take n (sets l 0 vs) ≡ vs
 take-sets l vs n d h = rw (← d, sets-eq vs l 0 (omega arith)) (take-append-seam vs (drop (0 + length vs) l))
 
-module _ (b : List ℕ) (rows p n : ℕ) (h : rows ≤ 1024) (k : n ≤ 4096) (os₀ os : List ℕ) (ds₀ ds : List ℤ) (e : os ≡ sets os₀ 0 (column 8 (2 * rows + 1) b (p + 4)))
+module _ (b : List ℕ) (rows p n : ℕ) (os₀ : List ℕ) (ds₀ : List ℤ) {os : List ℕ} {ds : List ℤ} (e : os ≡ sets os₀ 0 (column 8 (2 * rows + 1) b (p + 4)))
     (f : ds ≡ sets ds₀ 0 (map signedOf (column 8 n b (p + 4 + (2 * rows + 1) * 8)))) (u : length os₀ ≡ 2049) (v : length ds₀ ≡ 4096) where
-  pub offsets-count : 2 * rows + 1 ≡ length (take (2 * rows + 1) os)
-  offsets-count = sym (length-take-le (2 * rows + 1) os (rw (e, length-sets, u) (omega arith)))
+  pub offsets-long : length os ≡ 2049
+  offsets-long = rw (e, length-sets) u
 
-  pub deltas-count : n ≡ length (take n ds)
-  deltas-count = sym (length-take-le n ds (rw (f, length-sets, v) k))
+  pub deltas-long : length ds ≡ 4096
+  deltas-long = rw (f, length-sets) v
 
-  pub set-loaded : (set first end : ℕ) {r : checks.Checked} → r ≡ checkedOf (setRules set first rows end (columnsOf n (take (2 * rows + 1) os) (take n ds)))
-      → r ≡ checkedOf (setRules set first rows end (setIn b rows p n))
+  pub set-loaded : rows ≤ 1024 → n ≤ 4096 → columnsOf n (take (2 * rows + 1) os) (take n ds) ≡ setIn b rows p n
   unfolding setIn
-  set-loaded set first end g =
+  set-loaded h k =
       let x : take (2 * rows + 1) (sets os₀ 0 (column 8 (2 * rows + 1) b (p + 4))) ≡ column 8 (2 * rows + 1) b (p + 4)
       = take-sets os₀ (column 8 (2 * rows + 1) b (p + 4)) (2 * rows + 1) (length-several _ _ _ _) (omega arith) in
       let y : take n (sets ds₀ 0 (map signedOf (column 8 n b (p + 4 + (2 * rows + 1) * 8)))) ≡ map signedOf (column 8 n b (p + 4 + (2 * rows + 1) * 8))
       = take-sets ds₀ (map signedOf (column 8 n b (p + 4 + (2 * rows + 1) * 8))) n (simp (length-map, length-several)) (omega arith) in
-      rw (← x, ← y, ← e, ← f) g
+      rw (e, f, x, y)
+
+module _ (rows n : ℕ) (h : rows ≤ 1024) (k : n ≤ 4096) where
+  pub offsets-count : (os : List ℕ) → length os ≡ 2049 → 2 * rows + 1 ≡ length (take (2 * rows + 1) os)
+  offsets-count os u = sym (length-take-le (2 * rows + 1) os (omega arith))
+
+  pub deltas-count : (ds : List ℤ) → length ds ≡ 4096 → n ≡ length (take n ds)
+  deltas-count ds v = sym (length-take-le n ds (omega arith))
+
+-- the rules of the columns that were read are those of the set
+pub rules-loaded : (set first rows end : ℕ) (y x : EdgeSet) {r : checks.Checked} → y ≡ x → r ≡ checkedOf (setRules set first rows end y) → r ≡ checkedOf (setRules set first rows end x)
+rules-loaded set first rows end y x e g = rw (← e) g
 
 -- ── what is answered of a set ────────────────────────────────────────────────────────────────
 

@@ -20,12 +20,12 @@ use Rattle.taking_files.proofs.all.see.Reads as see-reads
 use Rattle.taking_files.proofs.all.see_after.Reads as see-after-reads
 
 abbrev Inv-loop : tie.InvT-loop
-Inv-loop bytes subject s₀ k₀ p₀ s k p =
+Inv-loop bytes subject offsets₀ deltas₀ s₀ k₀ p₀ offsets deltas s k p =
     (p ≤ length bytes) × (k ≤ p) × (s .length ≤ length (s .subject)) × Within (totalsOf (files (length bytes - k) bytes p))
     × (ruling (rulesOf (seenOf s₀) (parse bytes)) ≡ ruling (rulesOf (seenOf s) (files (length bytes - k) bytes p)))
 
 abbrev μ-loop : tie.MeasureT-loop
-μ-loop bytes subject s₀ k₀ p₀ s k p = length bytes - p
+μ-loop bytes subject offsets₀ deltas₀ s₀ k₀ p₀ offsets deltas s k p = length bytes - p
 
 see-requires : tie.Need-see-requires Inv-loop μ-loop
 see-requires c κs = search needs
