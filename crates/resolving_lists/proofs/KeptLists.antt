@@ -26,8 +26,8 @@ use Rattle.held.specs.View.{slotsIn}
 use Rattle.held.specs.Valid.{edgesOk}
 use Rattle.compacting.specs.Columns.{gone, survive}
 use Rattle.resolving.proofs.KeptColumns.{front-length}
-use Rattle.resolving.proofs.Asking.{form-here}
-use Rattle.resolving_lists.specs.Renewal.{EdgesKept, Renewal}
+use Rattle.resolving.proofs.Asking.{form-here, edges-few, edges-table}
+use Rattle.resolving_lists.specs.Renewal.{EdgesKept, Renewal, edgesOf, renewedOf}
 
 -- ── rows under their count ───────────────────────────────────────────────────────────────────
 
@@ -65,7 +65,7 @@ module _ (flags : List ℕ) (lists : List (List ℕ)) (w : length lists ≡ kind
       ∙ ap (λ k. kinds * k) (length-keep es (upFrom 0 (length es)) (length-upFrom 0 (length es))))
 
   edges-built : (offs all : List ℕ) (r : ℕ) → length all ≡ 4096 → Built offs all (length (keepSlots (gone flags) lists)) r (keepSlots (gone flags) lists)
-      → EdgesKept flags lists (record { count = r; offsets = offs; targets = all })
+      → EdgesKept flags lists (edgesOf r offs all)
   unfolding slotsIn edgesOk
   edges-built offs all r l b =
       let ks = keepSlots (gone flags) lists in
@@ -77,7 +77,7 @@ module _ (flags : List ℕ) (lists : List (List ℕ)) (w : length lists ≡ kind
 pub kept-edges : (n m : ℕ) (flags offsets targets offs all : List ℕ) (r : ℕ) → n ≤ 1024 → length flags ≡ 1024 → m ≤ 4096 → length targets ≡ 4096
     → offsetsForm n m (take (2 * n + 1) offsets) ≡ true → length all ≡ 4096
     → Built offs all (length (keepSlots (gone (take n flags)) (cut (take (2 * n + 1) offsets) (take m targets)))) r (keepSlots (gone (take n flags)) (cut (take (2 * n + 1) offsets) (take m targets)))
-    → EdgesKept (take n flags) (cut (take (2 * n + 1) offsets) (take m targets)) (record { count = r; offsets = offs; targets = all })
+    → EdgesKept (take n flags) (cut (take (2 * n + 1) offsets) (take m targets)) (edgesOf r offs all)
 kept-edges n m flags offsets targets offs all r h l i k f q b =
     edges-built (take n flags) (cut (take (2 * n + 1) offsets) (take m targets))
     (rows-length (length (take n flags)) (take (2 * n + 1) offsets) (take m targets) (form-here n m flags offsets targets h l i k f)) offs all r q b
@@ -109,13 +109,29 @@ module _ (n : ℕ) (lists : List (List ℕ)) (g : Grown) (offs all : List ℕ) (
         kept = λ f. absurd (true≢false f);
       }
 
-module _ (start n : ℕ) (flags : List ℕ) (e : Edges) (g : Grown) (offs all : List ℕ)
-    (x : Result g offs all (2 * n) (newLists start (take n flags) (cut (take (2 * n + 1) (e .offsets)) (take (e .count) (e .targets))))) (l : length all ≡ 4096) where
-  pub edges-kept : (m : ℕ) → g ≡ Upto m → (q : Edges) → EdgesKept (take n flags) (cut (take (2 * n + 1) offs) (take m all)) q
-      → Renewal (take n flags) (newLists start (take n flags) (slotsIn n e)) (record { edges = q; over = false })
-  unfolding slotsIn
-  edges-kept m f q k = renewed-kept n (newLists start (take n flags) (slotsIn n e)) g offs all x l m f (take n flags) q k
+-- lists in form, by their columns
+module _ (n c : ℕ) (os ts : List ℕ) (ok : edgesOk n (edgesOf c os ts) ≡ true) where
+  pub columns-few : c ≤ 4096
+  columns-few = edges-few n (edgesOf c os ts) ok
 
-  pub edges-over : g ≡ Full → Renewal (take n flags) (newLists start (take n flags) (slotsIn n e)) (record { edges = e; over = true })
+  pub columns-table : offsetsForm n c (take (2 * n + 1) os) ≡ true
+  columns-table = edges-table n (edgesOf c os ts) ok
+
+module _ (start n c : ℕ) (flags os ts : List ℕ) (g : Grown) (offs all : List ℕ)
+    (x : Result g offs all (2 * n) (newLists start (take n flags) (cut (take (2 * n + 1) os) (take c ts)))) (l : length all ≡ 4096) where
+  pub edges-kept : (m : ℕ) → g ≡ Upto m → (k : ℕ) (os′ ts′ : List ℕ) → EdgesKept (take n flags) (cut (take (2 * n + 1) offs) (take m all)) (edgesOf k os′ ts′)
+      → Renewal (take n flags) (newLists start (take n flags) (slotsIn n (edgesOf c os ts))) (renewedOf (Upto k) os′ ts′)
   unfolding slotsIn
-  edges-over f = renewed-over n (newLists start (take n flags) (slotsIn n e)) g offs all x l f (take n flags) e
+  edges-kept m f k os′ ts′ q = renewed-kept n (newLists start (take n flags) (slotsIn n (edgesOf c os ts))) g offs all x l m f (take n flags) (edgesOf k os′ ts′) q
+
+  pub edges-over : g ≡ Full → (os′ ts′ : List ℕ) → Renewal (take n flags) (newLists start (take n flags) (slotsIn n (edgesOf c os ts))) (renewedOf Full os′ ts′)
+  unfolding slotsIn
+  edges-over f os′ ts′ = renewed-over n (newLists start (take n flags) (slotsIn n (edgesOf c os ts))) g offs all x l f (take n flags) (edgesOf 0 os′ ts′)
+
+-- the answer, by its cases
+module _ (flags : List ℕ) (lists : List (List ℕ)) (g : Grown) (os ts : List ℕ) (x : Renewal flags lists (renewedOf g os ts)) where
+  pub renewal-upto : (m : ℕ) → g ≡ Upto m → Renewal flags lists (renewedOf (Upto m) os ts)
+  renewal-upto m e = rw e at x
+
+  pub renewal-full : g ≡ Full → Renewal flags lists (renewedOf Full os ts)
+  renewal-full e = rw e at x

@@ -8,6 +8,8 @@ use lib.ListN.{length}
 use Rattle.lists.specs.Lists.{joined}
 use Rattle.columns.specs.Limits.{maxNumbers}
 use Rattle.cleaning.specs.Survivors.{keepSlots}
+use Rattle.renumber.specs.declared.Grown.{Grown}
+use Rattle.renumber.specs.declared.Grown.the-variants.{Upto, Full}
 use Rattle.held.specs.declared.Edges.{Edges}
 use Rattle.held.specs.View.{slotsIn}
 use Rattle.held.specs.Valid.{edgesOk}
@@ -23,3 +25,12 @@ pub record EdgesKept (flags : List ℕ) (lists : List (List ℕ)) (q : Edges) : 
 pub record Renewal (flags : List ℕ) (lists : List (List ℕ)) (r : Renewed) : Type 0 where
   pub over : r .over ≡ ltb maxNumbers (length (joined lists))
   pub kept : r .over ≡ false → EdgesKept flags lists (r .edges)
+
+-- lists by their columns
+abbrev pub edgesOf : ℕ → List ℕ → List ℕ → Edges
+edgesOf c os ts = record { count = c; offsets = os; targets = ts }
+
+-- the answer over columns: how many numbers the lists hold, or that there is no room
+abbrev pub renewedOf : Grown → List ℕ → List ℕ → Renewed
+renewedOf (Upto m) os ts = record { edges = edgesOf m os ts; over = false }
+renewedOf Full os ts = record { edges = edgesOf 0 os ts; over = true }

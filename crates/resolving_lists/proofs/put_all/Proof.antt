@@ -34,14 +34,8 @@ slice-aggregate-put-lists-4 c = search (needs, numbers-count)
 put-lists-requires : tie.Need-put-lists-requires
 put-lists-requires c κs = (search form-here, ((search table-room, search numbers-room), search needs))
 
-same-length : tie.Need-same-length
-same-length c = search needs
-
-same-length-2 : tie.Need-same-length-2
-same-length-2 c = search needs
-
 returns : tie.Need-returns
-returns c = search lists-counted
+returns c = (search lists-counted, search needs)
 
 pub put-all-spec : {M : Type 1} → statement M
 put-all-spec =
@@ -56,6 +50,4 @@ put-all-spec =
     slice-aggregate-put-lists-3
     slice-aggregate-put-lists-4
     put-lists-requires
-    same-length
-    same-length-2
     returns)
