@@ -8,6 +8,10 @@ use Rattle.held.specs.declared.Unresolved.{Unresolved}
 use Rattle.held.specs.declared.Roots.{Roots}
 use Rattle.compacting.specs.Columns.{survive, keptIn, newRows}
 
+-- rows by their columns
+abbrev pub rowsOf : ℕ → List ℕ → List ℕ → List ℕ → List ℕ → Rows
+rowsOf c groups tags chains seqs = record { count = c; groups = groups; tags = tags; chains = chains; seqs = seqs }
+
 -- the rows that survive
 pub record RowsKept (flags : List ℕ) (r q : Rows) : Type 0 where
   pub count : q .count ≡ survive flags

@@ -6,20 +6,47 @@ ghost use mathlib.Core.Path.{_≡_};
 ghost use Prim.Native.Nat.{_≤_};
 ghost use lib.ListN.{length, take};
 ghost use Rattle.compacting.specs.Columns.{flagsOf};
-ghost use Rattle.resolving.specs.Kept.{RowsKept, UnresolvedKept, ChildrenMoved, RootsKept, RootsMoved};
+ghost use Rattle.resolving.specs.Kept.{rowsOf, RowsKept, UnresolvedKept, ChildrenMoved, RootsKept, RootsMoved};
+
+// The rows whose flags are 0, in place; answers how many they are.
+pub fn keep_rows(
+    groups: &mut [u8; 1024],
+    tags: &mut [u64; 1024],
+    chains: &mut [u32; 1024],
+    seqs: &mut [u32; 1024],
+    flags: &[u8],
+) -> usize
+    requires { ⌜ length (now flags) ≤ 1024 ⌝ }
+    ensures { λ r. ⌜ RowsKept (now (flags .entry)) (rowsOf (length (now (flags .entry))) (now (groups .entry)) (now (tags .entry)) (now (chains .entry)) (now (seqs .entry)))
+        (rowsOf r (now (groups .exit)) (now (tags .exit)) (now (chains .exit)) (now (seqs .exit))) ⌝ }
+{
+    compacting::long::long8(groups);
+    compacting::long::long64(tags);
+    compacting::long::long32(chains);
+    compacting::long::long32(seqs);
+    compacting::narrow::keep8(groups, flags);
+    compacting::wide::keep64(tags, flags);
+    compacting::middle::keep32(chains, flags);
+    compacting::middle::keep32(seqs, flags)
+}
 
 // The rows whose flags are 0.
 pub fn kept_rows(r: Rows, flags: &[u8]) -> Rows
     requires { ⌜ (length (now flags) ≡ r .count) × (r .count ≤ 1024) ⌝ }
     ensures { λ q. ⌜ RowsKept (now (flags .entry)) r q ⌝ }
 {
-    let mut q = r;
-    compacting::narrow::keep8(&mut q.groups, flags);
-    compacting::wide::keep64(&mut q.tags, flags);
-    compacting::middle::keep32(&mut q.chains, flags);
-    let n = compacting::middle::keep32(&mut q.seqs, flags);
-    q.count = n;
-    q
+    let mut groups = r.groups;
+    let mut tags = r.tags;
+    let mut chains = r.chains;
+    let mut seqs = r.seqs;
+    let n = keep_rows(&mut groups, &mut tags, &mut chains, &mut seqs, flags);
+    Rows {
+        count: n,
+        groups: groups,
+        tags: tags,
+        chains: chains,
+        seqs: seqs,
+    }
 }
 
 // The unresolved records whose flags are 0.

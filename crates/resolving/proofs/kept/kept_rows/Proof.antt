@@ -1,30 +1,14 @@
--- `resolving::kept::kept_rows` meets its contract: every column keeps as many.
-use Rattle.resolving.proofs.KeptColumns.{column-kept}
+-- `resolving::kept::kept_rows` meets its contract: its columns are kept in place.
+use Rattle.resolving.proofs.KeptColumns.{rows-counted}
 use borrow.Author.Needs.{needs}
 use Rattle.resolving.proofs.kept.kept_rows.Statement.{statement}
 use Rattle.resolving.proofs.kept.kept_rows.Tie as tie
 
-keep8-requires : tie.Need-keep8-requires
-keep8-requires c κs = search needs
-
-keep64-requires : tie.Need-keep64-requires
-keep64-requires c κs = search needs
-
-keep32-requires : tie.Need-keep32-requires
-keep32-requires c κs = search needs
-
-keep32-requires-2 : tie.Need-keep32-requires-2
-keep32-requires-2 c κs = search needs
+keep-rows-requires : tie.Need-keep-rows-requires
+keep-rows-requires c κs = search needs
 
 returns : tie.Need-returns
-returns c = record {
-  count = search needs;
-  groups = search column-kept;
-  tags = search column-kept;
-  chains = search column-kept;
-  seqs = search column-kept;
-}
+returns c = search rows-counted
 
 pub kept-rows-spec : {M : Type 1} → statement M
-kept-rows-spec =
-    tie.close (tie.spec keep8-requires keep64-requires keep32-requires keep32-requires-2 returns)
+kept-rows-spec = tie.close (tie.spec keep-rows-requires returns)
