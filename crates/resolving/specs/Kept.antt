@@ -6,11 +6,17 @@ use lib.ListN.{take}
 use Rattle.held.specs.declared.Rows.{Rows}
 use Rattle.held.specs.declared.Unresolved.{Unresolved}
 use Rattle.held.specs.declared.Roots.{Roots}
-use Rattle.compacting.specs.Columns.{survive, keptIn, newRows}
+use Rattle.compacting.specs.Columns.{survive, keptIn}
 
--- rows by their columns
+-- rows and records by their columns
 abbrev pub rowsOf : ℕ → List ℕ → List ℕ → List ℕ → List ℕ → Rows
 rowsOf c groups tags chains seqs = record { count = c; groups = groups; tags = tags; chains = chains; seqs = seqs }
+
+abbrev pub unresolvedOf : ℕ → List ℕ → List ℕ → List ℕ → Unresolved
+unresolvedOf c children kinds handles = record { count = c; children = children; kinds = kinds; handles = handles }
+
+abbrev pub rootsOf : ℕ → List ℕ → List ℕ → Roots
+rootsOf c rows handles = record { count = c; rows = rows; handles = handles }
 
 -- the rows that survive
 pub record RowsKept (flags : List ℕ) (r q : Rows) : Type 0 where
@@ -27,21 +33,8 @@ pub record UnresolvedKept (flags : List ℕ) (u q : Unresolved) : Type 0 where
   pub kinds : take (q .count) (q .kinds) ≡ keptIn flags (take (u .count) (u .kinds))
   pub handles : take (q .count) (q .handles) ≡ keptIn flags (take (u .count) (u .handles))
 
--- children under new numbers, all else as it was
-pub record ChildrenMoved (numbers : List ℕ) (start : ℕ) (u q : Unresolved) : Type 0 where
-  pub count : q .count ≡ u .count
-  pub children : take (q .count) (q .children) ≡ newRows start 0 numbers (take (u .count) (u .children))
-  pub kinds : q .kinds ≡ u .kinds
-  pub handles : q .handles ≡ u .handles
-
 -- the roots that survive, by the flags of the records
 pub record RootsKept (flags : List ℕ) (r q : Roots) : Type 0 where
   pub count : q .count ≡ survive flags
   pub rows : take (q .count) (q .rows) ≡ keptIn flags (take (r .count) (r .rows))
   pub handles : take (q .count) (q .handles) ≡ keptIn flags (take (r .count) (r .handles))
-
--- roots at their new rows, all else as it was
-pub record RootsMoved (numbers : List ℕ) (start : ℕ) (r q : Roots) : Type 0 where
-  pub count : q .count ≡ r .count
-  pub rows : take (q .count) (q .rows) ≡ newRows 0 start numbers (take (r .count) (r .rows))
-  pub handles : q .handles ≡ r .handles

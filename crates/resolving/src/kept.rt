@@ -1,12 +1,10 @@
 // The rows and records of a run without its erased rows.
-use held::Roots;
 use held::Rows;
-use held::Unresolved;
 ghost use mathlib.Core.Path.{_≡_};
 ghost use Prim.Native.Nat.{_≤_};
 ghost use lib.ListN.{length, take};
 ghost use Rattle.compacting.specs.Columns.{flagsOf};
-ghost use Rattle.resolving.specs.Kept.{rowsOf, RowsKept, UnresolvedKept, ChildrenMoved, RootsKept, RootsMoved};
+ghost use Rattle.resolving.specs.Kept.{rowsOf, unresolvedOf, rootsOf, RowsKept, UnresolvedKept, RootsKept};
 
 // The rows whose flags are 0, in place; answers how many they are.
 pub fn keep_rows(
@@ -49,69 +47,69 @@ pub fn kept_rows(r: Rows, flags: &[u8]) -> Rows
     }
 }
 
-// The unresolved records whose flags are 0.
-fn keep_unresolved(u: Unresolved, flags: &[u8]) -> Unresolved
-    requires { ⌜ (length (now flags) ≡ u .count) × (u .count ≤ 1024) ⌝ }
-    ensures { λ q. ⌜ UnresolvedKept (now (flags .entry)) u q ⌝ }
+// The unresolved records whose own flags are 0, in place; answers how many they are.
+fn compact_unresolved(
+    children: &mut [u64; 1024],
+    kinds: &mut [u8; 1024],
+    handles: &mut [u32; 1024],
+    gone: &[u8],
+) -> usize
+    requires { ⌜ (length (now gone) ≤ 1024) × (length (now children) ≡ 1024) ⌝ }
+    ensures { λ r. ⌜ UnresolvedKept (now (gone .entry)) (unresolvedOf (length (now (gone .entry))) (now (children .entry)) (now (kinds .entry)) (now (handles .entry)))
+        (unresolvedOf r (now (children .exit)) (now (kinds .exit)) (now (handles .exit))) ⌝ }
+    ensures { λ _. ⌜ length (now (children .exit)) ≡ 1024 ⌝ }
 {
-    let mut q = u;
-    compacting::narrow::keep8(&mut q.kinds, flags);
-    compacting::middle::keep32(&mut q.handles, flags);
-    let n = compacting::wide::keep64(&mut q.children, flags);
-    q.count = n;
-    q
+    compacting::long::long8(kinds);
+    compacting::long::long32(handles);
+    compacting::narrow::keep8(kinds, gone);
+    compacting::middle::keep32(handles, gone);
+    compacting::wide::keep64(children, gone)
 }
 
-// The unresolved records of rows that survive, by the flags of the rows.
-pub fn kept_unresolved(u: Unresolved, flags: &[u8], start: u64) -> Unresolved
-    requires { ⌜ u .count ≤ 1024 ⌝ }
-    ensures { λ q. ⌜ UnresolvedKept (flagsOf start (now (flags .entry)) (take (u .count) (u .children))) u q ⌝ }
+// The unresolved records of rows that survive, by the flags of the rows, in place; answers how many they are.
+pub fn keep_unresolved(
+    children: &mut [u64; 1024],
+    kinds: &mut [u8; 1024],
+    handles: &mut [u32; 1024],
+    count: usize,
+    flags: &[u8],
+    start: u64,
+) -> usize
+    requires { ⌜ (count ≤ 1024) × (length (now children) ≡ 1024) ⌝ }
+    ensures { λ r. ⌜ UnresolvedKept (flagsOf start (now (flags .entry)) (take count (now (children .entry)))) (unresolvedOf count (now (children .entry)) (now (kinds .entry)) (now (handles .entry)))
+        (unresolvedOf r (now (children .exit)) (now (kinds .exit)) (now (handles .exit))) ⌝ }
+    ensures { λ _. ⌜ length (now (children .exit)) ≡ 1024 ⌝ }
 {
-    let n = u.count;
     let mut gone = [0u8; 1024];
-    compacting::following::put_flags(&mut gone, &u.children, n, flags, start);
-    keep_unresolved(u, &gone[..n])
+    compacting::following::put_flags(&mut gone, children, count, flags, start);
+    compact_unresolved(children, kinds, handles, &gone[..count])
 }
 
-// Unresolved records, their children under new numbers.
-pub fn move_children(u: Unresolved, numbers: &[u64], start: u64) -> Unresolved
-    requires { ⌜ u .count ≤ 1024 ⌝ }
-    ensures { λ q. ⌜ ChildrenMoved (now (numbers .entry)) start u q ⌝ }
+// The roots whose own flags are 0, in place; answers how many they are.
+fn compact_roots(rows: &mut [u64; 1024], handles: &mut [u64; 1024], gone: &[u8]) -> usize
+    requires { ⌜ (length (now gone) ≤ 1024) × (length (now rows) ≡ 1024) ⌝ }
+    ensures { λ r. ⌜ RootsKept (now (gone .entry)) (rootsOf (length (now (gone .entry))) (now (rows .entry)) (now (handles .entry)))
+        (rootsOf r (now (rows .exit)) (now (handles .exit))) ⌝ }
+    ensures { λ _. ⌜ length (now (rows .exit)) ≡ 1024 ⌝ }
 {
-    let mut q = u;
-    compacting::following::move_rows(&mut q.children, u.count, numbers, start, 0);
-    q
+    compacting::long::long64(handles);
+    compacting::wide::keep64(handles, gone);
+    compacting::wide::keep64(rows, gone)
 }
 
-// The roots whose flags are 0.
-fn keep_roots(r: Roots, flags: &[u8]) -> Roots
-    requires { ⌜ (length (now flags) ≡ r .count) × (r .count ≤ 1024) ⌝ }
-    ensures { λ q. ⌜ RootsKept (now (flags .entry)) r q ⌝ }
+// The roots of rows that survive, by the flags of the rows, in place; answers how many they are.
+pub fn keep_roots(
+    rows: &mut [u64; 1024],
+    handles: &mut [u64; 1024],
+    count: usize,
+    flags: &[u8],
+) -> usize
+    requires { ⌜ (count ≤ 1024) × (length (now rows) ≡ 1024) ⌝ }
+    ensures { λ r. ⌜ RootsKept (flagsOf 0 (now (flags .entry)) (take count (now (rows .entry)))) (rootsOf count (now (rows .entry)) (now (handles .entry)))
+        (rootsOf r (now (rows .exit)) (now (handles .exit))) ⌝ }
+    ensures { λ _. ⌜ length (now (rows .exit)) ≡ 1024 ⌝ }
 {
-    let mut q = r;
-    compacting::wide::keep64(&mut q.handles, flags);
-    let n = compacting::wide::keep64(&mut q.rows, flags);
-    q.count = n;
-    q
-}
-
-// The roots of rows that survive, by the flags of the rows.
-pub fn kept_roots(r: Roots, flags: &[u8]) -> Roots
-    requires { ⌜ r .count ≤ 1024 ⌝ }
-    ensures { λ q. ⌜ RootsKept (flagsOf 0 (now (flags .entry)) (take (r .count) (r .rows))) r q ⌝ }
-{
-    let n = r.count;
     let mut gone = [0u8; 1024];
-    compacting::following::put_flags(&mut gone, &r.rows, n, flags, 0);
-    keep_roots(r, &gone[..n])
-}
-
-// Roots at their new rows, which count from 0.
-pub fn move_roots(r: Roots, numbers: &[u64], start: u64) -> Roots
-    requires { ⌜ r .count ≤ 1024 ⌝ }
-    ensures { λ q. ⌜ RootsMoved (now (numbers .entry)) start r q ⌝ }
-{
-    let mut q = r;
-    compacting::following::move_rows(&mut q.rows, r.count, numbers, 0, start);
-    q
+    compacting::following::put_flags(&mut gone, rows, count, flags, 0);
+    compact_roots(rows, handles, &gone[..count])
 }

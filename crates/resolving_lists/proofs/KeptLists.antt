@@ -32,9 +32,6 @@ use Rattle.resolving_lists.specs.Renewal.{EdgesKept, Renewal, edgesOf, r
 -- ── rows under their count ───────────────────────────────────────────────────────────────────
 
 module _ (n : ℕ) (flags : List ℕ) (h : n ≤ 1024) (l : length flags ≡ 1024) where
-  pub flags-few : length (take n flags) ≤ 1024
-  flags-few = omega (arith, front-length n flags h l)
-
   pub numbers-fit : (start : ℕ) → start + n ≤ 2 ^ 64 - 1 → start + length (take n flags) ≤ 2 ^ 64 - 1
   numbers-fit start k = rw (front-length n flags h l) k
 

@@ -9,7 +9,7 @@ use lib.Dec.{eqb, leb, ltb}
 use lib.ListN.{length, getD, take, length-map}
 use lib.Seq.{getD-take, length-take-le}
 use borrow.Author.Tests.{leb-true, ltb-true}
-use Rattle.lists.specs.Lists.{all, filter, Each}
+use Rattle.lists.specs.Lists.{all, filter, upFrom, Each}
 use Rattle.lists.proofs.Tests.{both, all-each}
 use Rattle.lists.proofs.Each.{each-imp, each-getD}
 use Rattle.columns.specs.Building.{inFile}
@@ -21,8 +21,8 @@ use Rattle.held.specs.declared.Unresolved.{Unresolved}
 use Rattle.held.specs.declared.Roots.{Roots}
 use Rattle.held.specs.View.{listed, unresolvedAt, rootAt}
 use Rattle.held.specs.Valid.{below}
-use Rattle.compacting.specs.Columns.{gone, survive, keptIn, flagsOf}
-use Rattle.resolving.specs.Kept.{UnresolvedKept, ChildrenMoved, RootsKept, RootsMoved}
+use Rattle.compacting.specs.Columns.{gone, survive, keptIn, flagsOf, newRows}
+use Rattle.resolving.specs.Kept.{unresolvedOf, rootsOf, UnresolvedKept, RootsKept}
 use Rattle.resolving.proofs.KeptRecords.{unresolved-survive, roots-survive}
 use Rattle.resolving.proofs.MovedRecords.{children-moved, roots-moved}
 
@@ -75,55 +75,56 @@ module _ (base : ℕ) (flags xs col : List ℕ) (c : ℕ) (h : c ≡ survive (fl
 -- ── records ──────────────────────────────────────────────────────────────────────────────────
 
 module _ (start : ℕ) (flags ns : List ℕ) (n : take (length flags) ns ≡ numbersFrom start flags) where
-  pub children-new : (u k q : Unresolved) → u .count ≤ 1024 → length (u .children) ≡ 1024
-      → all (inFile start (start + length flags)) (take (u .count) (u .children)) ≡ true
-      → UnresolvedKept (flagsOf start flags (take (u .count) (u .children))) u k → ChildrenMoved ns start k q
-      → listed (unresolvedAt q) (q .count) ≡ keepUnresolved start (gone flags) (listed (unresolvedAt u) (u .count))
+  pub children-new : (c m : ℕ) (cs ks hs cs′ ks′ hs′ ys : List ℕ) → c ≤ 1024 → length cs ≡ 1024
+      → all (inFile start (start + length flags)) (take c cs) ≡ true
+      → UnresolvedKept (flagsOf start flags (take c cs)) (unresolvedOf c cs ks hs) (unresolvedOf m cs′ ks′ hs′) → take m ys ≡ newRows start 0 ns (take m cs′)
+      → listed (unresolvedAt (unresolvedOf m ys ks′ hs′)) m ≡ keepUnresolved start (gone flags) (listed (unresolvedAt (unresolvedOf c cs ks hs)) c)
   unfolding keepUnresolved inFile
-  children-new u k q h l o kept moved =
-      let xs = take (u .count) (u .children) in
+  children-new c m cs ks hs cs′ ks′ hs′ ys h l o kept moved =
+      let xs = take c cs in
       let inside = each-imp (λ x. (leb start x && ltb x (start + length flags)) ≡ true) (λ x. x - start < length flags) xs
       (λ x b. let t = both (leb start x) (ltb x (start + length flags)) b in omega (arith, leb-true start x (t .0), ltb-true x (start + length flags) (t .1)))
       (all-each (inFile start (start + length flags)) xs o) in
       let f : List File.Unresolved → List File.Unresolved = map (λ x. record { child = start + rankIn (gone flags) (x .child - start); kind = x .kind; handle = x .handle }) in
-      children-moved (gone flags) (length flags) start ns (front-rank start flags ns n) k q moved
-      (long-of (k .count) (k .children) (kept-length start flags xs (k .children) (k .count) (kept .count) (kept .children)))
-      (kept-each start flags xs (k .children) (k .count) (kept .count) (kept .children) (λ x. x - start < length flags) inside)
-      ∙ ap f (unresolved-survive start flags u k (omega arith) kept)
+      children-moved (gone flags) (length flags) start ns (front-rank start flags ns n) m cs′ ys ks′ hs′ moved
+      (long-of m cs′ (kept-length start flags xs cs′ m (kept .count) (kept .children)))
+      (kept-each start flags xs cs′ m (kept .count) (kept .children) (λ x. x - start < length flags) inside)
+      ∙ ap f (unresolved-survive start flags (unresolvedOf c cs ks hs) (unresolvedOf m cs′ ks′ hs′) (omega arith) kept)
 
-  pub roots-new : (r k q : Roots) → r .count ≤ 1024 → length (r .rows) ≡ 1024 → all (below (length flags)) (take (r .count) (r .rows)) ≡ true
-      → RootsKept (flagsOf 0 flags (take (r .count) (r .rows))) r k → RootsMoved ns start k q
-      → listed (rootAt q) (q .count) ≡ keepRoots (gone flags) (listed (rootAt r) (r .count))
+  pub roots-new : (c m : ℕ) (rs hs rs′ hs′ ys : List ℕ) → c ≤ 1024 → length rs ≡ 1024 → all (below (length flags)) (take c rs) ≡ true
+      → RootsKept (flagsOf 0 flags (take c rs)) (rootsOf c rs hs) (rootsOf m rs′ hs′) → take m ys ≡ newRows 0 start ns (take m rs′)
+      → listed (rootAt (rootsOf m ys hs′)) m ≡ keepRoots (gone flags) (listed (rootAt (rootsOf c rs hs)) c)
   unfolding keepRoots below
-  roots-new r k q h l o kept moved =
-      let xs = take (r .count) (r .rows) in
+  roots-new c m rs hs rs′ hs′ ys h l o kept moved =
+      let xs = take c rs in
       let inside = each-imp (λ x. ltb x (length flags) ≡ true) (λ x. x < length flags) xs (λ x b. ltb-true x (length flags) b) (all-each (below (length flags)) xs o) in
       let f : List File.Root → List File.Root = map (λ x. record { row = rankIn (gone flags) (x .row); handle = x .handle }) in
-      roots-moved (gone flags) (length flags) start ns (front-rank start flags ns n) k q moved
-      (long-of (k .count) (k .rows) (kept-length 0 flags xs (k .rows) (k .count) (kept .count) (kept .rows)))
-      (kept-each 0 flags xs (k .rows) (k .count) (kept .count) (kept .rows) (λ x. x < length flags) inside)
-      ∙ ap f (roots-survive flags r k (omega arith) kept)
+      roots-moved (gone flags) (length flags) start ns (front-rank start flags ns n) m rs′ ys hs′ moved
+      (long-of m rs′ (kept-length 0 flags xs rs′ m (kept .count) (kept .rows)))
+      (kept-each 0 flags xs rs′ m (kept .count) (kept .rows) (λ x. x < length flags) inside)
+      ∙ ap f (roots-survive flags (rootsOf c rs hs) (rootsOf m rs′ hs′) (omega arith) kept)
+
+-- of no records none is left
+pub children-none : (start c : ℕ) (es : List Bool) (u q : Unresolved) → c ≡ 0 → listed (unresolvedAt q) 0 ≡ keepUnresolved start es (listed (unresolvedAt u) c)
+unfolding keepUnresolved filter upFrom
+children-none start c es u q e = rw e
+
+pub roots-none : (c : ℕ) (es : List Bool) (r q : Roots) → c ≡ 0 → listed (rootAt q) 0 ≡ keepRoots es (listed (rootAt r) c)
+unfolding keepRoots filter upFrom
+roots-none c es r q e = rw e
 
 -- no more records than there were
-module _ (base : ℕ) (flags : List ℕ) where
-  module _ (u k : Unresolved) (h : u .count ≤ 1024) (l : length (u .children) ≡ 1024) (kept : UnresolvedKept (flagsOf base flags (take (u .count) (u .children))) u k) where
-    children-kept : k .count ≤ u .count
-    children-kept =
-        omega (arith, kept-few base flags (take (u .count) (u .children)) (k .children) (k .count) (kept .count) (kept .children), length-take-le (u .count) (u .children) (omega arith))
+module _ (base : ℕ) (flags : List ℕ) (c m : ℕ) (h : c ≤ 1024) where
+  module _ (cs ks hs cs′ ks′ hs′ : List ℕ) (l : length cs ≡ 1024) (kept : UnresolvedKept (flagsOf base flags (take c cs)) (unresolvedOf c cs ks hs) (unresolvedOf m cs′ ks′ hs′)) where
+    pub children-few : m ≤ c
+    children-few = omega (arith, kept-few base flags (take c cs) cs′ m (kept .count) (kept .children), length-take-le c cs (omega arith))
 
-    pub children-room : k .count ≤ 1024
-    children-room = omega (arith, children-kept)
+    pub children-room : m ≤ 1024
+    children-room = omega (arith, children-few)
 
-    pub children-few : (start : ℕ) (ns : List ℕ) (q : Unresolved) → ChildrenMoved ns start k q → q .count ≤ u .count
-    children-few start ns q moved = omega (arith, moved .count, children-kept)
+  module _ (rs hs rs′ hs′ : List ℕ) (l : length rs ≡ 1024) (kept : RootsKept (flagsOf base flags (take c rs)) (rootsOf c rs hs) (rootsOf m rs′ hs′)) where
+    pub roots-few : m ≤ c
+    roots-few = omega (arith, kept-few base flags (take c rs) rs′ m (kept .count) (kept .rows), length-take-le c rs (omega arith))
 
-  module _ (r k : Roots) (h : r .count ≤ 1024) (l : length (r .rows) ≡ 1024) (kept : RootsKept (flagsOf base flags (take (r .count) (r .rows))) r k) where
-    roots-kept : k .count ≤ r .count
-    roots-kept =
-        omega (arith, kept-few base flags (take (r .count) (r .rows)) (k .rows) (k .count) (kept .count) (kept .rows), length-take-le (r .count) (r .rows) (omega arith))
-
-    pub roots-room : k .count ≤ 1024
-    roots-room = omega (arith, roots-kept)
-
-    pub roots-few : (start : ℕ) (ns : List ℕ) (q : Roots) → RootsMoved ns start k q → q .count ≤ r .count
-    roots-few start ns q moved = omega (arith, moved .count, roots-kept)
+    pub roots-room : m ≤ 1024
+    roots-room = omega (arith, roots-few)

@@ -1,8 +1,8 @@
 -- `resolving_lists::put_all` meets its contract: the parts are in form.
 use Rattle.held.proofs.ColumnTurns.{table-count, numbers-count}
-use Rattle.resolving.proofs.KeptColumns.{front-count}
+use Rattle.resolving.proofs.KeptColumns.{front-count, front-few}
 use Rattle.resolving.proofs.Asking.{form-here}
-use Rattle.resolving_lists.proofs.KeptLists.{flags-few, numbers-fit, table-room, numbers-room, lists-counted}
+use Rattle.resolving_lists.proofs.KeptLists.{numbers-fit, table-room, numbers-room, lists-counted}
 use borrow.Author.Needs.{needs}
 use Rattle.resolving_lists.proofs.put_all.Statement.{statement}
 use Rattle.resolving_lists.proofs.put_all.Tie as tie
@@ -17,7 +17,7 @@ slice-aggregate-new-numbers : tie.Need-slice-aggregate-new-numbers
 slice-aggregate-new-numbers c = search (needs, front-count)
 
 new-numbers-requires : tie.Need-new-numbers-requires
-new-numbers-requires c κs = (search flags-few, search numbers-fit)
+new-numbers-requires c κs = (search front-few, search numbers-fit)
 
 slice-aggregate-put-lists : tie.Need-slice-aggregate-put-lists
 slice-aggregate-put-lists c = search (needs, front-count)

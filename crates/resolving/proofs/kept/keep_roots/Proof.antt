@@ -1,21 +1,30 @@
--- `resolving::kept::keep_roots` meets its contract: both columns keep as many.
-use Rattle.resolving.proofs.KeptColumns.{column-kept}
+-- `resolving::kept::keep_roots` meets its contract: the flags are those of the rows that the records name.
+use Rattle.resolving.proofs.KeptColumns.{front-few, front-count, roots-named}
 use borrow.Author.Needs.{needs}
 use Rattle.resolving.proofs.kept.keep_roots.Statement.{statement}
 use Rattle.resolving.proofs.kept.keep_roots.Tie as tie
 
-keep64-requires : tie.Need-keep64-requires
-keep64-requires c κs = search needs
+put-flags-requires : tie.Need-put-flags-requires
+put-flags-requires c κs = search needs
 
-keep64-requires-2 : tie.Need-keep64-requires-2
-keep64-requires-2 c κs = search needs
+array-share-prefix-gone : tie.Need-array-share-prefix-gone
+array-share-prefix-gone c = search needs
+
+slice-aggregate-compact-roots : tie.Need-slice-aggregate-compact-roots
+slice-aggregate-compact-roots c = search (needs, front-count)
+
+compact-roots-requires : tie.Need-compact-roots-requires
+compact-roots-requires c κs = (search front-few, search needs)
 
 returns : tie.Need-returns
-returns c = record {
-  count = search needs;
-  rows = search column-kept;
-  handles = search column-kept;
-}
+returns c = (search roots-named, search needs)
 
 pub keep-roots-spec : {M : Type 1} → statement M
-keep-roots-spec = tie.close (tie.spec keep64-requires keep64-requires-2 returns)
+keep-roots-spec =
+    tie.close
+    (tie.spec
+    put-flags-requires
+    array-share-prefix-gone
+    slice-aggregate-compact-roots
+    compact-roots-requires
+    returns)

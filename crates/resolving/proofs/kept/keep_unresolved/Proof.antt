@@ -1,25 +1,30 @@
--- `resolving::kept::keep_unresolved` meets its contract: every column keeps as many.
-use Rattle.resolving.proofs.KeptColumns.{column-kept}
+-- `resolving::kept::keep_unresolved` meets its contract: the flags are those of the rows that the records name.
+use Rattle.resolving.proofs.KeptColumns.{front-few, front-count, unresolved-named}
 use borrow.Author.Needs.{needs}
 use Rattle.resolving.proofs.kept.keep_unresolved.Statement.{statement}
 use Rattle.resolving.proofs.kept.keep_unresolved.Tie as tie
 
-keep8-requires : tie.Need-keep8-requires
-keep8-requires c κs = search needs
+put-flags-requires : tie.Need-put-flags-requires
+put-flags-requires c κs = search needs
 
-keep32-requires : tie.Need-keep32-requires
-keep32-requires c κs = search needs
+array-share-prefix-gone : tie.Need-array-share-prefix-gone
+array-share-prefix-gone c = search needs
 
-keep64-requires : tie.Need-keep64-requires
-keep64-requires c κs = search needs
+slice-aggregate-compact-unresolved : tie.Need-slice-aggregate-compact-unresolved
+slice-aggregate-compact-unresolved c = search (needs, front-count)
+
+compact-unresolved-requires : tie.Need-compact-unresolved-requires
+compact-unresolved-requires c κs = (search front-few, search needs)
 
 returns : tie.Need-returns
-returns c = record {
-  count = search needs;
-  children = search column-kept;
-  kinds = search column-kept;
-  handles = search column-kept;
-}
+returns c = (search unresolved-named, search needs)
 
 pub keep-unresolved-spec : {M : Type 1} → statement M
-keep-unresolved-spec = tie.close (tie.spec keep8-requires keep32-requires keep64-requires returns)
+keep-unresolved-spec =
+    tie.close
+    (tie.spec
+    put-flags-requires
+    array-share-prefix-gone
+    slice-aggregate-compact-unresolved
+    compact-unresolved-requires
+    returns)
