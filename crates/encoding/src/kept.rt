@@ -6,6 +6,7 @@ use columns::refusal::Refusal;
 use rules::slots::Ruling;
 use rules::slots::index;
 ghost use mathlib.Core.Path.{_≡_};
+ghost use Prim.Native.Nat.{_≤_};
 ghost use lib.ListN.{length};
 ghost use Rattle.columns.specs.EdgeSet.{cut};
 ghost use Rattle.records.specs.Recorded.{inboundOf};
@@ -18,7 +19,7 @@ pub enum Encoded {
     Refused(Refusal),
 }
 
-// 11 to 15, then the three sets of the n rows from row `from` on.
+// 11 to 15, then the three sets of the n rows from row `from` on. offs, list and w are work space.
 pub fn encode_kept(
     first: u64,
     rows: usize,
@@ -35,9 +36,13 @@ pub fn encode_kept(
     rd: &mut [i64],
     io: &mut [u64],
     id: &mut [i64],
+    offs: &mut [u64],
+    list: &mut [u64],
+    w: &mut [u64],
 ) -> Encoded
     requires { ⌜ Early first rows (now offsets) (now targets) (length (now children)) ⌝ }
     requires { ⌜ Rooms (length (now fo)) (length (now fd)) (length (now ro)) (length (now rd)) (length (now io)) (length (now id)) ⌝ }
+    requires { ⌜ (2049 ≤ length (now offs)) × ((4096 ≤ length (now list)) × (4096 ≤ length (now w))) ⌝ }
     ensures { λ r. ⌜ r ≡ encodedOf (lateVerdict first rows (cut (now (offsets .entry)) (now (targets .entry))) (inboundOf (now (children .entry)) (now (parents .entry)) (now (kinds .entry))) from n) ⌝ }
     ensures { λ _. ⌜ now (fo .exit) ≡ offsetsLaid 0 (lateVerdict first rows (cut (now (offsets .entry)) (now (targets .entry))) (inboundOf (now (children .entry)) (now (parents .entry)) (now (kinds .entry))) from n) (now (fo .entry)) ⌝ }
     ensures { λ _. ⌜ now (fd .exit) ≡ deltasLaid 0 (lateVerdict first rows (cut (now (offsets .entry)) (now (targets .entry))) (inboundOf (now (children .entry)) (now (parents .entry)) (now (kinds .entry))) from n) (now (fd .entry)) ⌝ }
@@ -46,8 +51,6 @@ pub fn encode_kept(
     ensures { λ _. ⌜ now (io .exit) ≡ offsetsLaid 2 (lateVerdict first rows (cut (now (offsets .entry)) (now (targets .entry))) (inboundOf (now (children .entry)) (now (parents .entry)) (now (kinds .entry))) from n) (now (io .entry)) ⌝ }
     ensures { λ _. ⌜ now (id .exit) ≡ deltasLaid 2 (lateVerdict first rows (cut (now (offsets .entry)) (now (targets .entry))) (inboundOf (now (children .entry)) (now (parents .entry)) (now (kinds .entry))) from n) (now (id .entry)) ⌝ }
 {
-    let mut offs = [0u64; 2049];
-    let mut list = [0u64; 4096];
     let r = late_rules(
         first,
         rows,
@@ -58,8 +61,9 @@ pub fn encode_kept(
         kinds,
         from,
         n,
-        &mut offs,
-        &mut list,
+        offs,
+        list,
+        w,
     );
     match r {
         Ruling::Broken(x) => Encoded::Refused(x),
@@ -72,8 +76,8 @@ pub fn encode_kept(
                 n,
                 offsets,
                 targets,
-                &offs,
-                &list,
+                offs,
+                list,
                 m,
                 fo,
                 fd,

@@ -57,7 +57,7 @@ fn table_rules(
     )
 }
 
-// 13 to 15, of inbound edges that keep 11 and 12. Their lists are left in `offs` and `list`.
+// 13 to 15, of inbound edges that keep 11 and 12. Their lists are left in `offs` and `list`. w is work space.
 fn arranged_rules(
     first: u64,
     rows: usize,
@@ -70,18 +70,19 @@ fn arranged_rules(
     n: usize,
     offs: &mut [u64],
     list: &mut [u64],
+    w: &mut [u64],
 ) -> Ruling
     requires { ⌜ Early first rows (now offsets) (now targets) (length (now children)) ⌝ }
     requires { ⌜ Edges first rows (now children) (now parents) (now kinds) ⌝ }
-    requires { ⌜ (2049 ≤ length (now offs)) × (4096 ≤ length (now list)) ⌝ }
+    requires { ⌜ (2049 ≤ length (now offs)) × ((4096 ≤ length (now list)) × (4096 ≤ length (now w))) ⌝ }
     ensures { λ r. ⌜ r ≡ ruling (tableRules first rows (cut (now (offsets .entry)) (now (targets .entry))) (inboundLists first rows (inboundOf (now (children .entry)) (now (parents .entry)) (now (kinds .entry)))) from n) ⌝ }
     ensures { λ _. ⌜ Arranged rows (inboundLists first rows (inboundOf (now (children .entry)) (now (parents .entry)) (now (kinds .entry)))) (now (offs .exit)) (now (list .exit)) ⌝ }
 {
-    let m = arrange(first, rows, children, parents, kinds, offs, list);
+    let m = arrange(first, rows, children, parents, kinds, offs, list, w);
     table_rules(first, rows, offsets, targets, offs, list, m, from, n)
 }
 
-// 11 to 15. Where all are kept, the inbound lists are left in `offs` and `list`.
+// 11 to 15. Where all are kept, the inbound lists are left in `offs` and `list`. w is work space.
 pub(crate) fn late_rules(
     first: u64,
     rows: usize,
@@ -94,9 +95,10 @@ pub(crate) fn late_rules(
     n: usize,
     offs: &mut [u64],
     list: &mut [u64],
+    w: &mut [u64],
 ) -> Ruling
     requires { ⌜ Early first rows (now offsets) (now targets) (length (now children)) ⌝ }
-    requires { ⌜ (2049 ≤ length (now offs)) × (4096 ≤ length (now list)) ⌝ }
+    requires { ⌜ (2049 ≤ length (now offs)) × ((4096 ≤ length (now list)) × (4096 ≤ length (now w))) ⌝ }
     ensures { λ r. ⌜ r ≡ ruling (lateRules first rows (cut (now (offsets .entry)) (now (targets .entry))) (inboundOf (now (children .entry)) (now (parents .entry)) (now (kinds .entry))) from n) ⌝ }
     ensures { λ r. ⌜ (r ≡ Kept → Arranged rows (inboundLists first rows (inboundOf (now (children .entry)) (now (parents .entry)) (now (kinds .entry)))) (now (offs .exit)) (now (list .exit))) ⌝ }
 {
@@ -115,6 +117,7 @@ pub(crate) fn late_rules(
             n,
             offs,
             list,
+            w,
         ),
     }
 }

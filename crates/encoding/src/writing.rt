@@ -3,7 +3,7 @@ use sets::write_set;
 use sets::write_table;
 use sets::write_turned;
 ghost use mathlib.Core.Path.{_≡_};
-ghost use Prim.Native.Nat.{_+_, _*_};
+ghost use Prim.Native.Nat.{_+_, _*_, _≤_};
 ghost use lib.ListN.{length, take};
 ghost use lib.Seq.{sets};
 ghost use Rattle.columns.specs.EdgeSet.{cut};
@@ -18,7 +18,8 @@ pub struct Counts {
     pub inbound: usize,
 }
 
-// Writes the three sets. The inbound lists stand at the start of `offs` and `list`, m entries in all.
+// Writes the three sets. The inbound lists stand at the start of `offs` and `list`, m entries in all; the reverse set comes last, so that both are
+// its work space.
 pub(crate) fn write_sets(
     first: u64,
     rows: usize,
@@ -26,8 +27,8 @@ pub(crate) fn write_sets(
     n: usize,
     offsets: &[u64],
     targets: &[u64],
-    offs: &[u64],
-    list: &[u64],
+    offs: &mut [u64],
+    list: &mut [u64],
     m: usize,
     fo: &mut [u64],
     fd: &mut [i64],
@@ -37,6 +38,7 @@ pub(crate) fn write_sets(
     id: &mut [i64],
 ) -> Counts
     requires { ⌜ Ready first rows from n (now offsets) (now targets) (now offs) (now list) m ⌝ }
+    requires { ⌜ (2049 ≤ length (now offs)) × (4096 ≤ length (now list)) ⌝ }
     requires { ⌜ Rooms (length (now fo)) (length (now fd)) (length (now ro)) (length (now rd)) (length (now io)) (length (now id)) ⌝ }
     ensures { λ r. ⌜ r ≡ countsOf (setAt first from n (cut (now (offsets .entry)) (now (targets .entry)))) (setAt first from n (reverseLists first rows (cut (now (offsets .entry)) (now (targets .entry)))))
         (setAt first from n (cut (take (2 * rows + 1) (now (offs .entry))) (take m (now (list .entry))))) ⌝ }
@@ -48,8 +50,8 @@ pub(crate) fn write_sets(
     ensures { λ _. ⌜ now (id .exit) ≡ sets (now (id .entry)) 0 (setAt first from n (cut (take (2 * rows + 1) (now (offs .entry))) (take m (now (list .entry)))) .deltas) ⌝ }
 {
     let forward = write_set(first, rows, from, n, offsets, targets, fo, fd);
-    let reverse = write_turned(first, rows, from, n, offsets, targets, ro, rd);
     let inbound = write_table(first, rows, from, n, offs, list, m, io, id);
+    let reverse = write_turned(first, rows, from, n, offsets, targets, ro, rd, offs, list);
     Counts {
         forward: forward,
         reverse: reverse,

@@ -7,7 +7,7 @@ use Prim.Native.Nat.{ℕ, zero, suc, _+_, _-_, _*_, _≤_, _<_}
 use native.Mathlib.Omega.{arith}
 use lib.Dec.{leb, ltb, eqb}
 use lib.IntN.{ℤ}
-use lib.ListN.{length, getD, take, drop, length-map, drop-of-length-le, length-take, length-drop, replicate, length-replicate}
+use lib.ListN.{length, getD, take, drop, length-map, drop-of-length-le, length-take, length-drop}
 use lib.Seq.{slice, sets, sets-eq, length-sets, take-at, length-slice}
 use borrow.Author.Tests.{leb-true, eqb-true, le-ltb}
 use Rattle.lists.specs.Lists.{flat, joined, starts, part, upFrom, any}
@@ -151,19 +151,16 @@ module _ (subject : List ℕ) (first n : ℕ) (offs ts cs ks fs : List ℕ) (dep
 
 -- ── what is lent of some rows ────────────────────────────────────────────────────────────────
 
-abbrev zeros : List ℕ
-zeros = replicate 4096 0
-
 -- columns keep their length
-module _ (es : List Edge) (m : ℕ) (ic ip ik : List ℕ) (l : Laid es 0 zeros zeros zeros [] m ic ip ik) where
-  pub children-long : 4096 ≡ length ic
-  children-long = sym (ap length (sym (l .children)) ∙ length-sets zeros 0 (map (λ e. e .child) es) ∙ length-replicate {A = ℕ} 4096 0)
+module _ (es : List Edge) (m : ℕ) (w0 w1 w2 ic ip ik : List ℕ) (l : Laid es 0 w0 w1 w2 [] m ic ip ik) where
+  children-long : length ic ≡ length w0
+  children-long = ap length (sym (l .children)) ∙ length-sets w0 0 (map (λ e. e .child) es)
 
-  pub parents-long : 4096 ≡ length ip
-  parents-long = sym (ap length (sym (l .parents)) ∙ length-sets zeros 0 (map (λ e. e .parent) es) ∙ length-replicate {A = ℕ} 4096 0)
+  parents-long : length ip ≡ length w1
+  parents-long = ap length (sym (l .parents)) ∙ length-sets w1 0 (map (λ e. e .parent) es)
 
-  pub kinds-long : 4096 ≡ length ik
-  kinds-long = sym (ap length (sym (l .kindsGiven)) ∙ length-sets zeros 0 (map (λ e. e .kind) es) ∙ length-replicate {A = ℕ} 4096 0)
+  kinds-long : length ik ≡ length w2
+  kinds-long = ap length (sym (l .kindsGiven)) ∙ length-sets w2 0 (map (λ e. e .kind) es)
 
 -- the edges of all rows but some into those
 abbrev othersInto : ℕ → ℕ → List (List ℕ) → ℕ → ℕ → List Edge
@@ -195,11 +192,8 @@ module _ (start total : ℕ) (offsets targets : List ℕ) (a n : ℕ) (h : a + n
     module _ (subject cs ks fs : List ℕ) (depth : given.Depth) (labelled : Bool) (chains seqs offs : List ℕ)
         (ho : 2 * n + 1 ≤ length offs) (eo : take (2 * n + 1) offs ≡ starts 0 (part (2 * a) (2 * n) (cut offsets targets)))
         (w : Few (length cs) (length ks) (length fs) (length chains) (length seqs))
-        (m : ℕ) (hm : m ≤ 4096) (ic ip ik : List ℕ)
-        (l : Laid (othersInto start total (cut offsets targets) a n) 0 zeros zeros zeros [] m ic ip ik) where
-      long : m ≤ length zeros
-      long = rw (length-replicate {A = ℕ} 4096 0) hm
-
+        (m : ℕ) (hm : m ≤ 4096) (w0 w1 w2 ic ip ik : List ℕ) (h0 : length ic ≡ 4096) (h1 : length ip ≡ 4096) (h2 : length ik ≡ 4096)
+        (l : Laid (othersInto start total (cut offsets targets) a n) 0 w0 w1 w2 [] m ic ip ik) where
       graph-lent : graphOf subject (start + a) n (take (2 * n + 1) offs) (take (hi - lo) (drop lo targets)) cs ks fs depth labelled chains seqs (take m ic) (take m ip) (take m ik) 0 n
           ≡ partGraph subject start total (cut offsets targets) (record { children = cs; kindsGiven = ks; flags = fs }) (depthOf depth) (labelsGiven labelled chains seqs) a n
       unfolding partGraph inboundColumns part
@@ -207,9 +201,9 @@ module _ (start total : ℕ) (offsets targets : List ℕ) (a n : ℕ) (h : a + n
           let es = othersInto start total (cut offsets targets) a n in
           let t : take (hi - lo) (drop lo targets) ≡ joined (part (2 * a) (2 * n) (cut offsets targets)) =
           ap₂ (λ x y. take (y - x) (drop x targets)) el eh ∙ sym (targets-lent total a n offsets targets ok h) in
-          let c = children-lent es m zeros zeros zeros ic ip ik l long in
-          let p = parents-lent es m zeros zeros zeros ic ip ik l long in
-          let k = kinds-lent es m zeros zeros zeros ic ip ik l long in
+          let c = children-lent es m w0 w1 w2 ic ip ik l (omega (arith, children-long es m w0 w1 w2 ic ip ik l)) in
+          let p = parents-lent es m w0 w1 w2 ic ip ik l (omega (arith, parents-long es m w0 w1 w2 ic ip ik l)) in
+          let k = kinds-lent es m w0 w1 w2 ic ip ik l (omega (arith, kinds-long es m w0 w1 w2 ic ip ik l)) in
           λ i. record {
             subject = subject;
             first = start + a;
@@ -241,11 +235,9 @@ module _ (start total : ℕ) (offsets targets : List ℕ) (a n : ℕ) (h : a + n
 
 -- ── offsets in a column of their own ─────────────────────────────────────────────────────────
 
-pub offs-long : (vs offs : List ℕ) → offs ≡ sets (replicate 2049 0) 0 vs → 2049 ≡ length offs
-offs-long vs offs e = sym (ap length e ∙ length-sets (replicate 2049 0) 0 vs ∙ length-replicate {A = ℕ} 2049 0)
-
-pub offsets-given : (total a n : ℕ) (offsets targets offs : List ℕ) → offsetsForm total (length targets) offsets ≡ true → a + n ≤ total → total ≤ 1024
-    → offs ≡ sets (replicate 2049 0) 0 (map (λ o. o - getD offsets (2 * a) 0) (part (2 * a) (suc (2 * n)) offsets))
+pub offsets-given : (total a n : ℕ) (offsets targets was offs : List ℕ) → offsetsForm total (length targets) offsets ≡ true → a + n ≤ total → total ≤ 1024 → length offs ≡ 2049
+    → offs ≡ sets was 0 (map (λ o. o - getD offsets (2 * a) 0) (part (2 * a) (suc (2 * n)) offsets))
     → take (2 * n + 1) offs ≡ starts 0 (part (2 * a) (2 * n) (cut offsets targets))
-offsets-given total a n offsets targets offs ok h few e =
-    offsets-lent total a n offsets targets ok h (replicate 2049 0) offs (rw (length-replicate {A = ℕ} 2049 0) (omega arith)) e
+offsets-given total a n offsets targets was offs ok h few l e =
+    let z : length offs ≡ length was = ap length e ∙ length-sets was 0 (map (λ o. o - getD offsets (2 * a) 0) (part (2 * a) (suc (2 * n)) offsets)) in
+    offsets-lent total a n offsets targets ok h was offs (omega arith) e

@@ -1,5 +1,5 @@
 // The rules and the three sets of some of the rows of flat columns, built as a file of their own.
-use building::encode::encode_graph_blocks;
+use building::encode::encode_lent;
 use encoding::kept::Encoded;
 use records::groups::Depth;
 use rules::slots::index;
@@ -21,11 +21,12 @@ ghost use Rattle.sections.specs.Laid.{edgesBefore};
 ghost use Rattle.section_sets.specs.Parted.{partGraph, Few, judged, Answers};
 
 // Builds a file of n rows from parts of columns: the first 2 * n + 1 offsets, targets[lo..hi], the first m inbound edges.
+// offs, list and w are work space.
 fn build_columns(
     subject: &[u8],
     first: u64,
     n: usize,
-    offs: &[u64],
+    base: &[u64],
     targets: &[u64],
     lo: usize,
     hi: usize,
@@ -46,17 +47,20 @@ fn build_columns(
     rd: &mut [i64],
     io: &mut [u64],
     id: &mut [i64],
+    offs: &mut [u64; 2049],
+    list: &mut [u64; 4096],
+    w: &mut [u64; 4096],
 ) -> Encoded
-    requires { ⌜ (n ≤ 1024) × ((2 * n + 1 ≤ length (now offs)) × ((lo ≤ hi) × (hi ≤ length (now targets)))) ⌝ }
+    requires { ⌜ (n ≤ 1024) × ((2 * n + 1 ≤ length (now base)) × ((lo ≤ hi) × (hi ≤ length (now targets)))) ⌝ }
     requires { ⌜ (m ≤ length (now cs)) × ((m ≤ length (now ps)) × (m ≤ length (now ks))) ⌝ }
-    ensures { λ r. ⌜ Answers (build (graphOf (now (subject .entry)) first n (take (2 * n + 1) (now (offs .entry))) (take (hi - lo) (drop lo (now (targets .entry)))) (now (children .entry)) (now (kinds .entry)) (now (flags .entry)) depth labelled (now (chains .entry)) (now (seqs .entry)) (take m (now (cs .entry))) (take m (now (ps .entry))) (take m (now (ks .entry))) 0 n) (slicesOf (length (now (fo .entry))) (length (now (fd .entry))) (length (now (ro .entry))) (length (now (rd .entry))) (length (now (io .entry))) (length (now (id .entry))))) r (now (fo .entry)) (now (fd .entry)) (now (ro .entry)) (now (rd .entry)) (now (io .entry)) (now (id .entry)) (now (fo .exit)) (now (fd .exit)) (now (ro .exit)) (now (rd .exit)) (now (io .exit)) (now (id .exit)) ⌝ }
+    ensures { λ r. ⌜ Answers (build (graphOf (now (subject .entry)) first n (take (2 * n + 1) (now (base .entry))) (take (hi - lo) (drop lo (now (targets .entry)))) (now (children .entry)) (now (kinds .entry)) (now (flags .entry)) depth labelled (now (chains .entry)) (now (seqs .entry)) (take m (now (cs .entry))) (take m (now (ps .entry))) (take m (now (ks .entry))) 0 n) (slicesOf (length (now (fo .entry))) (length (now (fd .entry))) (length (now (ro .entry))) (length (now (rd .entry))) (length (now (io .entry))) (length (now (id .entry))))) r (now (fo .entry)) (now (fd .entry)) (now (ro .entry)) (now (rd .entry)) (now (io .entry)) (now (id .entry)) (now (fo .exit)) (now (fd .exit)) (now (ro .exit)) (now (rd .exit)) (now (io .exit)) (now (id .exit)) ⌝ }
 {
     let k = 2 * n + 1;
-    encode_graph_blocks(
+    encode_lent(
         subject,
         first,
         n,
-        &offs[..k],
+        &base[..k],
         &targets[lo..hi],
         children,
         kinds,
@@ -76,11 +80,14 @@ fn build_columns(
         rd,
         io,
         id,
+        offs,
+        list,
+        w,
     )
 }
 
 // The same of the n rows from row a on, whose offsets are given. The inbound edges are those of all other rows, of which those before name none of the
-// n rows.
+// n rows. The last six arrays are work space.
 fn build_given(
     subject: &[u8],
     start: u64,
@@ -96,35 +103,28 @@ fn build_given(
     seqs: &[u32],
     a: usize,
     n: usize,
-    offs: &[u64],
+    base: &[u64],
     fo: &mut [u64],
     fd: &mut [i64],
     ro: &mut [u64],
     rd: &mut [i64],
     io: &mut [u64],
     id: &mut [i64],
+    cs: &mut [u64; 4096],
+    ps: &mut [u64; 4096],
+    ks: &mut [u64; 4096],
+    offs: &mut [u64; 2049],
+    list: &mut [u64; 4096],
+    w: &mut [u64; 4096],
 ) -> Encoded
     requires { ⌜ (a + n ≤ total) × ((total ≤ 1024) × (start + total < end64)) ⌝ }
     requires { ⌜ (length (now targets) ≤ 4096) × ((offsetsForm total (length (now targets)) (now offsets) ≡ true) × (edgesBefore start (cut (now offsets) (now targets)) a n ≡ [])) ⌝ }
     requires { ⌜ Few (length (now children)) (length (now kinds)) (length (now flags)) (length (now chains)) (length (now seqs)) ⌝ }
     requires { ⌜ Rooms (length (now fo)) (length (now fd)) (length (now ro)) (length (now rd)) (length (now io)) (length (now id)) ⌝ }
-    requires { ⌜ (2 * n + 1 ≤ length (now offs)) × (take (2 * n + 1) (now offs) ≡ starts 0 (part (2 * a) (2 * n) (cut (now offsets) (now targets)))) ⌝ }
+    requires { ⌜ (2 * n + 1 ≤ length (now base)) × (take (2 * n + 1) (now base) ≡ starts 0 (part (2 * a) (2 * n) (cut (now offsets) (now targets)))) ⌝ }
     ensures { λ r. ⌜ Answers (judged (partGraph (now (subject .entry)) start total (cut (now (offsets .entry)) (now (targets .entry))) (record { children = now (children .entry); kindsGiven = now (kinds .entry); flags = now (flags .entry) }) (depthOf depth) (labelsGiven labelled (now (chains .entry)) (now (seqs .entry))) a n)) r (now (fo .entry)) (now (fd .entry)) (now (ro .entry)) (now (rd .entry)) (now (io .entry)) (now (id .entry)) (now (fo .exit)) (now (fd .exit)) (now (ro .exit)) (now (rd .exit)) (now (io .exit)) (now (id .exit)) ⌝ }
 {
-    let mut cs = [0u64; 4096];
-    let mut ps = [0u64; 4096];
-    let mut ks = [0u64; 4096];
-    let m = edges_into(
-        start,
-        total,
-        offsets,
-        targets,
-        a,
-        n,
-        &mut cs,
-        &mut ps,
-        &mut ks,
-    );
+    let m = edges_into(start, total, offsets, targets, a, n, cs, ps, ks);
     let first = start + (a as u64);
     let lo = index(offsets[2 * a]);
     let hi = index(offsets[2 * a + 2 * n]);
@@ -132,7 +132,7 @@ fn build_given(
         subject,
         first,
         n,
-        offs,
+        base,
         targets,
         lo,
         hi,
@@ -143,9 +143,9 @@ fn build_given(
         labelled,
         chains,
         seqs,
-        &cs,
-        &ps,
-        &ks,
+        cs,
+        ps,
+        ks,
         m,
         fo,
         fd,
@@ -153,11 +153,15 @@ fn build_given(
         rd,
         io,
         id,
+        offs,
+        list,
+        w,
     )
 }
 
 // Builds the n rows from row a on as a file of their own: building's rules, and the three sets where they are kept. The file's inbound edges are
-// those of all other rows into it, of which the rows before have none.
+// those of all other rows into it, of which the rows before have none. The last seven arrays are work space: what they
+// hold does not matter.
 pub fn build_part(
     subject: &[u8],
     start: u64,
@@ -179,6 +183,13 @@ pub fn build_part(
     rd: &mut [i64],
     io: &mut [u64],
     id: &mut [i64],
+    cs: &mut [u64; 4096],
+    ps: &mut [u64; 4096],
+    ks: &mut [u64; 4096],
+    base: &mut [u64; 2049],
+    offs: &mut [u64; 2049],
+    list: &mut [u64; 4096],
+    w: &mut [u64; 4096],
 ) -> Encoded
     requires { ⌜ (a + n ≤ total) × ((total ≤ 1024) × (start + total < end64)) ⌝ }
     requires { ⌜ (length (now targets) ≤ 4096) × ((offsetsForm total (length (now targets)) (now offsets) ≡ true) × (edgesBefore start (cut (now offsets) (now targets)) a n ≡ [])) ⌝ }
@@ -186,8 +197,7 @@ pub fn build_part(
     requires { ⌜ Rooms (length (now fo)) (length (now fd)) (length (now ro)) (length (now rd)) (length (now io)) (length (now id)) ⌝ }
     ensures { λ r. ⌜ Answers (judged (partGraph (now (subject .entry)) start total (cut (now (offsets .entry)) (now (targets .entry))) (record { children = now (children .entry); kindsGiven = now (kinds .entry); flags = now (flags .entry) }) (depthOf depth) (labelsGiven labelled (now (chains .entry)) (now (seqs .entry))) a n)) r (now (fo .entry)) (now (fd .entry)) (now (ro .entry)) (now (rd .entry)) (now (io .entry)) (now (id .entry)) (now (fo .exit)) (now (fd .exit)) (now (ro .exit)) (now (rd .exit)) (now (io .exit)) (now (id .exit)) ⌝ }
 {
-    let mut offs = [0u64; 2049];
-    rebase(total, targets.len(), offsets, 2 * a, 2 * n, &mut offs);
+    rebase(total, targets.len(), offsets, 2 * a, 2 * n, base);
     build_given(
         subject,
         start,
@@ -203,12 +213,18 @@ pub fn build_part(
         seqs,
         a,
         n,
-        &offs,
+        base,
         fo,
         fd,
         ro,
         rd,
         io,
         id,
+        cs,
+        ps,
+        ks,
+        offs,
+        list,
+        w,
     )
 }

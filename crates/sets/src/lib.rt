@@ -164,7 +164,7 @@ pub fn write_table(
     )
 }
 
-// Writes the reverse set of the n rows from row `from` on, and answers how many edges it has.
+// Writes the reverse set of the n rows from row `from` on, and answers how many edges it has. offs and list are work space.
 pub fn write_turned(
     first: u64,
     rows: usize,
@@ -174,15 +174,16 @@ pub fn write_turned(
     targets: &[u64],
     starts: &mut [u64],
     deltas: &mut [i64],
+    offs: &mut [u64],
+    list: &mut [u64],
 ) -> usize
     requires { ⌜ Turnable first rows from n (now offsets) (now targets) ⌝ }
     requires { ⌜ (2 * n < length (now starts)) × (4096 ≤ length (now deltas)) ⌝ }
+    requires { ⌜ (2049 ≤ length (now offs)) × (4096 ≤ length (now list)) ⌝ }
     ensures { λ r. ⌜ r ≡ setAt first from n (reverseLists first rows (cut (now (offsets .entry)) (now (targets .entry)))) .count ⌝ }
     ensures { λ _. ⌜ now (starts .exit) ≡ sets (now (starts .entry)) 0 (setAt first from n (reverseLists first rows (cut (now (offsets .entry)) (now (targets .entry)))) .offsets) ⌝ }
     ensures { λ _. ⌜ now (deltas .exit) ≡ sets (now (deltas .entry)) 0 (setAt first from n (reverseLists first rows (cut (now (offsets .entry)) (now (targets .entry)))) .deltas) ⌝ }
 {
-    let mut offs = [0u64; 2049];
-    let mut list = [0u64; 4096];
-    let m = turn(first, rows, offsets, targets, &mut offs, &mut list);
-    write_table(first, rows, from, n, &offs, &list, m, starts, deltas)
+    let m = turn(first, rows, offsets, targets, offs, list);
+    write_table(first, rows, from, n, offs, list, m, starts, deltas)
 }

@@ -5,7 +5,7 @@ use Rattle.section_sets.proofs.build_columns.Statement.{statement}
 use Rattle.section_sets.proofs.build_columns.Tie as tie
 use Rattle.section_sets.proofs.build_columns.Reads as reads
 use Rattle.section_sets.proofs.build_columns.Lts as lts
-use Rattle.building.proofs.encode.encode_graph_blocks.Reads as encode-graph-blocks-reads
+use Rattle.building.proofs.encode.encode_lent.Reads as encode-lent-reads
 
 mul-k : tie.Need-mul-k
 mul-k c = search needs
@@ -13,32 +13,32 @@ mul-k c = search needs
 add-k : tie.Need-add-k
 add-k c = search needs
 
-slice-aggregate-encode-graph-blocks : tie.Need-slice-aggregate-encode-graph-blocks
-slice-aggregate-encode-graph-blocks c = search (needs, prefix-count)
+slice-aggregate-encode-lent : tie.Need-slice-aggregate-encode-lent
+slice-aggregate-encode-lent c = search (needs, prefix-count)
 
-mul-encode-graph-blocks : tie.Need-mul-encode-graph-blocks
-mul-encode-graph-blocks c = search needs
+mul-encode-lent : tie.Need-mul-encode-lent
+mul-encode-lent c = search needs
 
-sub-encode-graph-blocks : tie.Need-sub-encode-graph-blocks
-sub-encode-graph-blocks c = search needs
+sub-encode-lent : tie.Need-sub-encode-lent
+sub-encode-lent c = search needs
 
-part-encode-graph-blocks-start : tie.Need-part-encode-graph-blocks-start
-part-encode-graph-blocks-start c = search needs
+part-encode-lent-start : tie.Need-part-encode-lent-start
+part-encode-lent-start c = search needs
 
-part-encode-graph-blocks-end : tie.Need-part-encode-graph-blocks-end
-part-encode-graph-blocks-end c = search needs
+part-encode-lent-end : tie.Need-part-encode-lent-end
+part-encode-lent-end c = search needs
 
-slice-aggregate-encode-graph-blocks-2 : tie.Need-slice-aggregate-encode-graph-blocks-2
-slice-aggregate-encode-graph-blocks-2 c = search (needs, prefix-count)
+slice-aggregate-encode-lent-2 : tie.Need-slice-aggregate-encode-lent-2
+slice-aggregate-encode-lent-2 c = search (needs, prefix-count)
 
-slice-aggregate-encode-graph-blocks-3 : tie.Need-slice-aggregate-encode-graph-blocks-3
-slice-aggregate-encode-graph-blocks-3 c = search (needs, prefix-count)
+slice-aggregate-encode-lent-3 : tie.Need-slice-aggregate-encode-lent-3
+slice-aggregate-encode-lent-3 c = search (needs, prefix-count)
 
-slice-aggregate-encode-graph-blocks-4 : tie.Need-slice-aggregate-encode-graph-blocks-4
-slice-aggregate-encode-graph-blocks-4 c = search (needs, prefix-count)
+slice-aggregate-encode-lent-4 : tie.Need-slice-aggregate-encode-lent-4
+slice-aggregate-encode-lent-4 c = search (needs, prefix-count)
 
-encode-graph-blocks-requires : tie.Need-encode-graph-blocks-requires
-encode-graph-blocks-requires c κs = search needs
+encode-lent-requires : tie.Need-encode-lent-requires
+encode-lent-requires c κs = search needs
 
 same-length : tie.Need-same-length
 same-length c = search needs
@@ -76,15 +76,15 @@ build-columns-spec =
     (tie.spec
     mul-k
     add-k
-    slice-aggregate-encode-graph-blocks
-    mul-encode-graph-blocks
-    sub-encode-graph-blocks
-    part-encode-graph-blocks-start
-    part-encode-graph-blocks-end
-    slice-aggregate-encode-graph-blocks-2
-    slice-aggregate-encode-graph-blocks-3
-    slice-aggregate-encode-graph-blocks-4
-    encode-graph-blocks-requires
+    slice-aggregate-encode-lent
+    mul-encode-lent
+    sub-encode-lent
+    part-encode-lent-start
+    part-encode-lent-end
+    slice-aggregate-encode-lent-2
+    slice-aggregate-encode-lent-3
+    slice-aggregate-encode-lent-4
+    encode-lent-requires
     same-length
     same-length-2
     same-length-3

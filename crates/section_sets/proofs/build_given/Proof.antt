@@ -1,6 +1,6 @@
 -- `section_sets::build_given` meets its contract.
 use native.Mathlib.Omega.{arith}
-use Rattle.section_sets.proofs.PartGraphs.{low-in, high-in, children-long, parents-long, kinds-long, low-high-order, high-inside, part-answers}
+use Rattle.section_sets.proofs.PartGraphs.{low-in, high-in, low-high-order, high-inside, part-answers}
 use borrow.Author.Needs.{needs}
 use Rattle.section_sets.proofs.build_given.Statement.{statement}
 use Rattle.section_sets.proofs.build_given.Tie as tie
@@ -41,43 +41,34 @@ mul-index-5 : tie.Need-mul-index-5
 mul-index-5 c = search needs
 
 shared-slice-read-index-2 : tie.Need-shared-slice-read-index-2
-shared-slice-read-index-2 c = search high-in
+shared-slice-read-index-2 c =
+    let s = c .before .before .before .before .before .before .before .before .before .before .before .before .before .before .before .before .before .before .before in
+    let within = s .pre .0 .0 in
+    let form = s .pre .1 .0 .1 .0 in
+    search high-in
 
 index-requires-2 : tie.Need-index-requires-2
 index-requires-2 c κs = search needs
 
-slice-aggregate-build-columns : tie.Need-slice-aggregate-build-columns
-slice-aggregate-build-columns c = search children-long
-
-slice-aggregate-build-columns-2 : tie.Need-slice-aggregate-build-columns-2
-slice-aggregate-build-columns-2 c = search parents-long
-
-slice-aggregate-build-columns-3 : tie.Need-slice-aggregate-build-columns-3
-slice-aggregate-build-columns-3 c = search kinds-long
-
 build-columns-requires : tie.Need-build-columns-requires
 build-columns-requires c κs =
-    let i2 = c .before .before .before .before .before .before .before .before .before in
-    let i1 = i2 .before .before in
-    let e = i1 .before .before in
-    let s = e .before .before .before .before .before .before .before .before .before .before .before .before .before .before .before .before in
+    let s = c .before .before .before .before .before .before .before .before .before .before .before .before .before .before .before .before .before .before .before .before .before .before .before .before .before .before .before .before .before .before .before .before .before .before .before in
+    let x = s .args in
     let q = s .pre in
     let within = q .0 .0 in
     let few = q .0 .1 .0 in
     let small = q .1 .0 .0 in
     let form = q .1 .0 .1 .0 in
-    let records = q .1 .1 .0 in
-    let slices = q .1 .1 .1 .0 in
     let long = q .1 .1 .1 .1 .0 in
-    let starting = q .1 .1 .1 .1 .1 in
-    let low = i1 .index .ensures in
-    let high = i2 .index2 .ensures in
-    let most = e .edges-into .ensures .0 in
-    let laid = e .edges-into .ensures .1 in
-    let a = children-long _ _ _ _ _ laid in
-    let b = parents-long _ _ _ _ _ laid in
-    let d = kinds-long _ _ _ _ _ laid in
-    ((omega (arith, within, few), (long, (search low-high-order, search high-inside))), (omega (arith, most, a), (omega (arith, most, b), omega (arith, most, d))))
+    let low = c .before .before .before .before .before .before .before .before .before .before .before .before .before .before .before .before .before .index .ensures in
+    let high = c .before .before .before .before .before .before .before .before .before .before .before .before .before .before .before .index2 .ensures in
+    let most = c .before .before .before .before .before .before .before .before .before .before .before .before .before .before .before .before .before .before .before .edges-into .ensures .0 in
+    let children = c .before .before .before .before .before .before .before .before .before .before .before .before .before .build-columns-arg2 .given .0 in
+    let parents = c .before .before .before .before .before .before .before .before .before .before .before .build-columns-arg4 .given .0 in
+    let kinds = c .before .before .before .before .before .before .before .before .before .build-columns-arg6 .given .0 in (
+      (omega (arith, within, few), (long, (low-high-order (x .start) (x .total) (x .offsets .now) (x .targets .now) (x .a) (x .n) within few small form _ _ low high, high-inside (x .start) (x .total) (x .offsets .now) (x .targets .now) (x .a) (x .n) within few small form _ _ low high))),
+      (omega (arith, most, children), (omega (arith, most, parents), omega (arith, most, kinds))),
+    )
 
 same-length : tie.Need-same-length
 same-length c = search needs
@@ -100,10 +91,7 @@ same-length-6 c = search needs
 returns : tie.Need-returns
 returns c =
     let done = c .before .before .before .before .before .before .before .before .before .build-columns .ensures in
-    let i2 = c .before .before .before .before .before .before .before .before .before .before .before .before .before .before .before .before .before .before .before in
-    let i1 = i2 .before .before in
-    let e = i1 .before .before in
-    let s = e .before .before .before .before .before .before .before .before .before .before .before .before .before .before .before .before in
+    let s = c .before .before .before .before .before .before .before .before .before .before .before .before .before .before .before .before .before .before .before .before .before .before .before .before .before .before .before .before .before .before .before .before .before .before .before .before .before .before .before .before .before .before .before .before .before in
     let q = s .pre in
     let within = q .0 .0 in
     let few = q .0 .1 .0 in
@@ -113,10 +101,13 @@ returns c =
     let slices = q .1 .1 .1 .0 in
     let long = q .1 .1 .1 .1 .0 in
     let starting = q .1 .1 .1 .1 .1 in
-    let low = i1 .index .ensures in
-    let high = i2 .index2 .ensures in
-    let most = e .edges-into .ensures .0 in
-    let laid = e .edges-into .ensures .1 in
+    let low = c .before .before .before .before .before .before .before .before .before .before .before .before .before .before .before .before .before .before .before .before .before .before .before .before .before .before .before .index .ensures in
+    let high = c .before .before .before .before .before .before .before .before .before .before .before .before .before .before .before .before .before .before .before .before .before .before .before .before .before .index2 .ensures in
+    let most = c .before .before .before .before .before .before .before .before .before .before .before .before .before .before .before .before .before .before .before .before .before .before .before .before .before .before .before .before .before .edges-into .ensures .0 in
+    let laid = c .before .before .before .before .before .before .before .before .before .before .before .before .before .before .before .before .before .before .before .before .before .before .before .before .before .before .before .before .before .edges-into .ensures .1 in
+    let children = c .before .before .before .before .before .before .before .before .before .before .before .before .before .before .before .before .before .before .before .before .before .before .before .build-columns-arg2 .given .0 in
+    let parents = c .before .before .before .before .before .before .before .before .before .before .before .before .before .before .before .before .before .before .before .before .before .build-columns-arg4 .given .0 in
+    let kinds = c .before .before .before .before .before .before .before .before .before .before .before .before .before .before .before .before .before .before .before .build-columns-arg6 .given .0 in
     search part-answers
 
 pub build-given-spec : {M : Type 1} → statement M
@@ -135,9 +126,6 @@ build-given-spec =
     mul-index-5
     shared-slice-read-index-2
     index-requires-2
-    slice-aggregate-build-columns
-    slice-aggregate-build-columns-2
-    slice-aggregate-build-columns-3
     build-columns-requires
     same-length
     same-length-2

@@ -1,5 +1,6 @@
 -- `section_sets::build_part` meets its contract.
-use Rattle.section_sets.proofs.PartGraphs.{offs-long, offsets-given}
+use native.Mathlib.Omega.{arith}
+use Rattle.section_sets.proofs.PartGraphs.{offsets-given}
 use borrow.Author.Needs.{needs}
 use Rattle.section_sets.proofs.build_part.Statement.{statement}
 use Rattle.section_sets.proofs.build_part.Tie as tie
@@ -14,17 +15,17 @@ mul-rebase c = search needs
 mul-rebase-2 : tie.Need-mul-rebase-2
 mul-rebase-2 c = search needs
 
-slice-aggregate-rebase : tie.Need-slice-aggregate-rebase
-slice-aggregate-rebase c = search needs
-
 rebase-requires : tie.Need-rebase-requires
 rebase-requires c κs = ((search needs, (search needs, search needs)), search needs)
 
-slice-aggregate-build-given : tie.Need-slice-aggregate-build-given
-slice-aggregate-build-given c = search offs-long
-
 build-given-requires : tie.Need-build-given-requires
-build-given-requires c κs = (search needs, (search needs, (search needs, (search needs, (search needs, search offsets-given)))))
+build-given-requires c κs =
+    let s = c .before .before .before .before .before .before .before .before .before .before .before .before .before .before .before .before .before .before .before .before .before .before .before .before .before .before .before in
+    let q = s .pre in
+    let long = c .before .before .before .before .before .before .before .before .before .before .before .before .build-given-arg2 .given .0 in (
+      q .0,
+      (q .1 .0, (q .1 .1 .0, (q .1 .1 .1, (omega (arith, q .0 .0, q .0 .1 .0, long), offsets-given _ _ _ _ _ _ _ (q .1 .0 .1 .0) (q .0 .0) (q .0 .1 .0) long (c .before .before .before .before .before .before .before .before .before .before .before .before .before .before .rebase .ensures))))),
+    )
 
 same-length : tie.Need-same-length
 same-length c = search needs
@@ -53,9 +54,7 @@ build-part-spec =
     (tie.spec
     mul-rebase
     mul-rebase-2
-    slice-aggregate-rebase
     rebase-requires
-    slice-aggregate-build-given
     build-given-requires
     same-length
     same-length-2

@@ -14,7 +14,10 @@ enum-told : tie.Need-enum-told
 enum-told c = search needs
 
 arranged-rules-requires : tie.Need-arranged-rules-requires
-arranged-rules-requires c κs = (search needs, (search late-edges, (search needs, search needs)))
+arranged-rules-requires c κs =
+    let rules = c .before .before .before .before .before .inbound-rules .ensures in
+    let kept = c .before .before .before .enum-told .given .1 in
+    (search needs, (late-edges _ _ _ _ _ rules kept, (search needs, search needs)))
 
 returns : tie.Need-returns
 returns c = (search late-stops, λ z. never-kept z)
@@ -24,6 +27,9 @@ same-length c = search needs
 
 same-length-2 : tie.Need-same-length-2
 same-length-2 c = search needs
+
+same-length-3 : tie.Need-same-length-3
+same-length-3 c = search needs
 
 returns-2 : tie.Need-returns-2
 returns-2 c = (search late-then, λ z. search needs)
@@ -39,4 +45,5 @@ late-rules-spec =
     returns
     same-length
     same-length-2
+    same-length-3
     returns-2)

@@ -7,11 +7,15 @@ use Rattle.encoding.proofs.writing.write_sets.Tie as tie
 write-set-requires : tie.Need-write-set-requires
 write-set-requires c κs = (search needs, (search starts-room, search deltas-room))
 
-write-turned-requires : tie.Need-write-turned-requires
-write-turned-requires c κs = (search needs, (search starts-room, search needs))
-
 write-table-requires : tie.Need-write-table-requires
 write-table-requires c κs = ((search needs, search needs), (search needs, (search starts-room, search inbound-room)))
+
+write-turned-requires : tie.Need-write-turned-requires
+write-turned-requires c κs =
+    let s = c .before .before .before .before .before .before .before .before .before .before .before .before .before .before .before .before .before .before .before .before .before .before .before .before .before in
+    let ready = s .pre .0 in
+    let rooms = s .pre .1 .1 in
+    (ready .reverse, ((starts-room _ _ _ _ _ _ _ _ _ ready _ (rooms .reverse-offsets), rooms .reverse-deltas), s .pre .1 .0))
 
 same-length : tie.Need-same-length
 same-length c = search needs
@@ -31,6 +35,12 @@ same-length-5 c = search needs
 same-length-6 : tie.Need-same-length-6
 same-length-6 c = search needs
 
+same-length-7 : tie.Need-same-length-7
+same-length-7 c = search needs
+
+same-length-8 : tie.Need-same-length-8
+same-length-8 c = search needs
+
 returns : tie.Need-returns
 returns c = (search three-counted, (search needs, (search needs, (search needs, (search needs, (search needs, search needs))))))
 
@@ -39,12 +49,14 @@ write-sets-spec =
     tie.close
     (tie.spec
     write-set-requires
-    write-turned-requires
     write-table-requires
+    write-turned-requires
     same-length
     same-length-2
     same-length-3
     same-length-4
     same-length-5
     same-length-6
+    same-length-7
+    same-length-8
     returns)

@@ -1,8 +1,8 @@
--- `building::encode::encode_graph_blocks` meets its contract.
+-- `building::encode::encode_lent` meets its contract.
 use Rattle.building.proofs.WholeBuild.{early-given, rooms-given, whole-answer, whole-offsets, whole-deltas, whole-refused, whole-offsets-as-were, whole-deltas-as-were}
 use borrow.Author.Needs.{needs}
-use Rattle.building.proofs.encode.encode_graph_blocks.Statement.{statement}
-use Rattle.building.proofs.encode.encode_graph_blocks.Tie as tie
+use Rattle.building.proofs.encode.encode_lent.Statement.{statement}
+use Rattle.building.proofs.encode.encode_lent.Tie as tie
 
 are-sets-short-requires : tie.Need-are-sets-short-requires
 are-sets-short-requires c κs = search needs
@@ -18,9 +18,10 @@ enum-told c = search needs
 
 encode-kept-requires : tie.Need-encode-kept-requires
 encode-kept-requires c κs =
-    let early = c .before .before .before .before .before .before .before .before .early-rules .ensures in
-    let kept = c .before .before .before .before .before .before .enum-told .given .1 in
-    (early-given _ _ _ _ _ _ _ _ _ _ _ _ _ _ early kept, rooms-given _ _ _ _ _ _ _ _ _ _ _ _ _ _ early kept _ _ _ _ _ _ (c .before .before .before .before .before .before .before .before .before .are-sets-short .ensures))
+    let early = c .before .before .before .before .before .before .before .before .before .before .before .early-rules .ensures in
+    let kept = c .before .before .before .before .before .before .before .before .before .enum-told .given .1 in
+    let tight = c .before .before .before .before .before .before .before .before .before .before .before .before .are-sets-short .ensures in
+    (early-given _ _ _ _ _ _ _ _ _ _ _ _ _ _ early kept, (rooms-given _ _ _ _ _ _ _ _ _ _ _ _ _ _ early kept _ _ _ _ _ _ tight, c .before .before .before .before .before .before .before .before .before .before .before .before .before .before .before .before .before .before .before .before .before .before .before .before .before .before .before .before .before .before .pre))
 
 returns : tie.Need-returns
 returns c = (search whole-refused, (search whole-offsets-as-were, (search whole-deltas-as-were, (search whole-offsets-as-were, (search whole-deltas-as-were, (search whole-offsets-as-were, search whole-deltas-as-were))))))
@@ -43,11 +44,20 @@ same-length-5 c = search needs
 same-length-6 : tie.Need-same-length-6
 same-length-6 c = search needs
 
+same-length-7 : tie.Need-same-length-7
+same-length-7 c = search needs
+
+same-length-8 : tie.Need-same-length-8
+same-length-8 c = search needs
+
+same-length-9 : tie.Need-same-length-9
+same-length-9 c = search needs
+
 returns-2 : tie.Need-returns-2
 returns-2 c = (search whole-answer, (search whole-offsets, (search whole-deltas, (search whole-offsets, (search whole-deltas, (search whole-offsets, search whole-deltas))))))
 
-pub encode-graph-blocks-spec : {M : Type 1} → statement M
-encode-graph-blocks-spec =
+pub encode-lent-spec : {M : Type 1} → statement M
+encode-lent-spec =
     tie.close
     (tie.spec
     are-sets-short-requires
@@ -62,4 +72,7 @@ encode-graph-blocks-spec =
     same-length-4
     same-length-5
     same-length-6
+    same-length-7
+    same-length-8
+    same-length-9
     returns-2)
