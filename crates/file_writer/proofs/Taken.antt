@@ -5,8 +5,8 @@ use mathlib.Core.List.{List, [], _∷_, map}
 use Prim.Native.Nat.{ℕ, zero, suc, _+_, _-_, _*_, _^_, _≤_, _<_}
 use native.Mathlib.Omega.{arith}
 use lib.IntN.{ℤ}
-use lib.ListN.{length, getD, take, drop, replicate, length-replicate, length-take, length-drop}
-use lib.Seq.{sets, length-take-le}
+use lib.ListN.{length, getD, take, drop, replicate, length-replicate, length-take, length-drop, length-append}
+use lib.Seq.{sets, length-take-le, take-at}
 use Rattle.lists.specs.Lists.{upFrom, flat, part}
 use Rattle.columns.specs.Limits.{kinds, maxRecords, maxNumbers, maxSubject, offsetsRoom}
 use Rattle.archive.specs.Encode.{recordBytes, headFields, setsBytes, rowBytes, unresolvedBytes, rootBytes, coverBytes, countedBytes, coverRecord}
@@ -14,9 +14,8 @@ use Rattle.archive_stores.specs.Lent.{zip2, zip3, headFrom, setFrom, rowFrom, u
 use Rattle.archive_records.specs.Sizes.{headSize, setsSize, rowsSize, unresolvedSize, rootsSize, coverBody}
 use Rattle.archive_sizes.specs.FileSize.{edgesSize, coverRecordSize}
 use Rattle.cleaning.specs.Sections.{unerasedRow}
+use Rattle.cleaning.proofs.Parts.{length-part}
 use Rattle.held.specs.declared.Subject.{Subject}
-use Rattle.held.specs.declared.Unresolved.{Unresolved}
-use Rattle.held.specs.declared.Roots.{Roots}
 use Rattle.held.specs.View.{listed, unresolvedAt, rootAt}
 use Rattle.out_file.specs.declared.Head.{Head}
 use Rattle.out_file.specs.declared.Set.{Set}
@@ -24,9 +23,9 @@ use Rattle.out_file.specs.declared.Labels.{Labels}
 use Rattle.out_file.specs.declared.Ranges.{Ranges}
 use Rattle.out_file.specs.declared.Links.{Links}
 use Rattle.out_file.specs.declared.Cover.{Cover}
-use Rattle.out_file.specs.Lent.{setsOf}
+use Rattle.out_file.specs.Lent.{setsOf, partColumn, lentUnresolved, lentRoots}
 use Rattle.out_file.specs.View.{subjectIn, depthIn, setIn, rangeAt, rangesIn, linksIn, coverIn}
-use Rattle.file_writer.specs.Long.{LongSet, LongSets, LongUnresolved, LongRoots, LongLabels, LongRanges, LongLinks}
+use Rattle.file_writer.specs.Long.{LongSet, LongSets, LongLabels, LongRanges, LongLinks}
 use Rattle.file_writer.specs.Flags.{unflagged}
 
 -- ── how many are taken ───────────────────────────────────────────────────────────────────────
@@ -46,6 +45,29 @@ table-taken n l h e = sym (table-of n l h e)
 
 pub even : (n m : ℕ) (xs ys : List ℕ) → n ≤ m → length xs ≡ m → length ys ≡ m → length (take n xs) ≡ length (take n ys)
 even n m xs ys h x y = count-of n m xs h x ∙ taken n m ys h y
+
+-- the n entries from place a on are n
+pub part-count : {A : Type 0} (a n : ℕ) (l : List A) → a + n ≤ length l → length (take (a + n - a) (drop a l)) ≡ n
+part-count a n l k = simp (length-take, length-drop) (omega arith)
+
+pub parts-even : {A B : Type 0} (a n : ℕ) (xs : List A) (ys : List B) → a + n ≤ length xs → a + n ≤ length ys
+    → length (take (a + n - a) (drop a xs)) ≡ length (take (a + n - a) (drop a ys))
+parts-even a n xs ys x y = part-count a n xs x ∙ sym (part-count a n ys y)
+
+-- the same, by a column that they are at the front of
+module _ (a n : ℕ) (column : List ℕ) (k : a + n ≤ length column) where
+  pub part-listed : take n (partColumn column a n) ≡ part a n column
+  unfolding partColumn
+  part-listed = take-at (part a n column) (replicate (maxRecords - n) 0) n (length-part a n column k)
+
+  pub part-long : n ≤ maxRecords → length (partColumn column a n) ≡ maxRecords
+  unfolding partColumn
+  part-long h =
+      omega (arith, length-append (part a n column) (replicate (maxRecords - n) 0), length-part a n column k, length-replicate {A = ℕ} (maxRecords - n) 0)
+
+  part-lent : take (a + n - a) (drop a column) ≡ take n (partColumn column a n)
+  unfolding part
+  part-lent = let same : a + n - a ≡ n = omega arith in ap (λ j. take j (drop a column)) same ∙ sym part-listed
 
 -- ── columns side by side ─────────────────────────────────────────────────────────────────────
 
@@ -147,7 +169,7 @@ rows-unerased (suc m) (t ∷ ts) h = ap (λ rs. unerasedRow t ∷ rs) (rows-uner
 
 module _ (a n at : ℕ) (ts zs : List ℕ) (h : n ≤ maxRecords) (k : a + n ≤ length ts) (z : zs ≡ unflagged) where
   tags-count : length (take (a + n - a) (drop a ts)) ≡ n
-  tags-count = simp (length-take, length-drop) (omega arith)
+  tags-count = part-count a n ts k
 
   pub flags-fit : n ≤ length zs
   unfolding unflagged
@@ -178,45 +200,56 @@ module _ (a n at : ℕ) (ts zs : List ℕ) (h : n ≤ maxRecords) (k : a + n ≤
       ∙ ap (λ rs. sets l at (recordBytes 3 (flat rowBytes rs)))
       (ap₂ (λ fs j. zip2 rowFrom (take j fs) ps) z (sym tags-count) ∙ rows-unerased maxRecords ps (omega (arith, tags-count)) ∙ ap (λ j. map unerasedRow (take j (drop a ts))) same)
 
-module _ (n at : ℕ) (ts : List ℕ) (h : n ≤ maxRecords) (e : length ts ≡ maxRecords) where
-  -- ── 4 unresolved, 5 roots ──────────────────────────────────────────────────────────────────
+-- ── 4 unresolved, 5 roots ────────────────────────────────────────────────────────────────────
 
-  pub unresolved-room : (o : ℕ) → at + unresolvedSize n ≤ o → at + unresolvedSize (length (take n ts)) ≤ o
-  unresolved-room o k = rw (count-of n maxRecords ts h e) k
+module _ (a n at : ℕ) (ts : List ℕ) (h : n ≤ maxRecords) (k : a + n ≤ length ts) where
+  pub unresolved-room : (o : ℕ) → at + unresolvedSize n ≤ o → at + unresolvedSize (length (take (a + n - a) (drop a ts))) ≤ o
+  unresolved-room o e = rw (part-count a n ts k) e
 
-  pub unresolved-short : 2 + (4 + length (take n ts) * 13) < 2 ^ 32
-  unresolved-short = omega (arith, count-of n maxRecords ts h e)
+  pub unresolved-short : 2 + (4 + length (take (a + n - a) (drop a ts)) * 13) < 2 ^ 32
+  unresolved-short = omega (arith, part-count a n ts k)
 
-  pub unresolved-end : {r : ℕ} → r ≡ at + unresolvedSize (length (take n ts)) → r ≡ at + unresolvedSize n
-  unresolved-end k = k ∙ rw (count-of n maxRecords ts h e)
+  pub unresolved-end : {r : ℕ} → r ≡ at + unresolvedSize (length (take (a + n - a) (drop a ts))) → r ≡ at + unresolvedSize n
+  unresolved-end e = e ∙ rw (part-count a n ts k)
 
-  pub roots-room : (o : ℕ) → at + rootsSize n ≤ o → at + rootsSize (length (take n ts)) ≤ o
-  roots-room o k = rw (count-of n maxRecords ts h e) k
-
-  pub roots-short : 2 + (4 + length (take n ts) * 16) < 2 ^ 32
-  roots-short = omega (arith, count-of n maxRecords ts h e)
-
-  pub roots-end : {r : ℕ} → r ≡ at + rootsSize (length (take n ts)) → r ≡ at + rootsSize n
-  roots-end k = k ∙ rw (count-of n maxRecords ts h e)
-
-pub unresolved-put : {k : List ℕ} (l : List ℕ) (at : ℕ) (u : Unresolved) → u .count ≤ maxRecords → LongUnresolved u
-    → k ≡ sets l at (recordBytes 4 (countedBytes unresolvedBytes (zip3 unresolvedFrom (take (u .count) (u .children)) (take (u .count) (u .kinds)) (take (u .count) (u .handles)))))
-    → k ≡ sets l at (recordBytes 4 (countedBytes unresolvedBytes (listed (unresolvedAt u) (u .count))))
+pub unresolved-put : {i : List ℕ} (l : List ℕ) (at a n : ℕ) (cs ks hs : List ℕ) → n ≤ maxRecords → a + n ≤ length cs → a + n ≤ length ks → a + n ≤ length hs
+    → i ≡ sets l at (recordBytes 4 (countedBytes unresolvedBytes (zip3 unresolvedFrom (take (a + n - a) (drop a cs)) (take (a + n - a) (drop a ks)) (take (a + n - a) (drop a hs)))))
+    → i ≡ sets l at (recordBytes 4 (countedBytes unresolvedBytes (listed (unresolvedAt (lentUnresolved cs ks hs a n)) n)))
 unfolding unresolvedFrom unresolvedAt
-unresolved-put l at u h long e =
+unresolved-put l at a n cs ks hs h x y z e =
     e
     ∙ ap (λ us. sets l at (recordBytes 4 (countedBytes unresolvedBytes us)))
-    (zip3-listed unresolvedFrom (unresolvedAt u) (u .count) (u .children) (u .kinds) (u .handles) (omega arith) (omega arith) (omega arith) (λ j. refl))
+    (rw (part-lent a n cs x, part-lent a n ks y, part-lent a n hs z)
+    (zip3-listed unresolvedFrom (unresolvedAt (lentUnresolved cs ks hs a n)) n (partColumn cs a n) (partColumn ks a n) (partColumn hs a n)
+    (omega (arith, part-long a n cs x h)) (omega (arith, part-long a n ks y h)) (omega (arith, part-long a n hs z h)) (λ j. refl)))
 
-pub roots-put : {k : List ℕ} (l : List ℕ) (at : ℕ) (t : Roots) → t .count ≤ maxRecords → LongRoots t
-    → k ≡ sets l at (recordBytes 5 (countedBytes rootBytes (zip2 rootFrom (take (t .count) (t .rows)) (take (t .count) (t .handles)))))
-    → k ≡ sets l at (recordBytes 5 (countedBytes rootBytes (listed (rootAt t) (t .count))))
-unfolding rootFrom rootAt
-roots-put l at t h long e =
-    e
-    ∙ ap (λ ts. sets l at (recordBytes 5 (countedBytes rootBytes ts)))
-    (zip2-zip3 rootFrom (take (t .count) (t .rows)) (take (t .count) (t .handles))
-    ∙ zip3-listed (λ x y z. rootFrom x y) (rootAt t) (t .count) (t .rows) (t .handles) (t .handles) (omega arith) (omega arith) (omega arith) (λ j. refl))
+module _ (n at : ℕ) (ts : List ℕ) (h : n ≤ maxRecords) (e : n ≤ length ts) where
+  pub rows-taken : n ≡ length (take n ts)
+  rows-taken = sym (length-take-le n ts e)
+
+  pub roots-room : (o : ℕ) → at + rootsSize n ≤ o → at + rootsSize (length (take n ts)) ≤ o
+  roots-room o k = rw (length-take-le n ts e) k
+
+  pub roots-short : 2 + (4 + length (take n ts) * 16) < 2 ^ 32
+  roots-short = omega (arith, length-take-le n ts e)
+
+  pub roots-end : {r : ℕ} → r ≡ at + rootsSize (length (take n ts)) → r ≡ at + rootsSize n
+  roots-end k = k ∙ rw (length-take-le n ts e)
+
+  pub roots-even : (a : ℕ) (hs : List ℕ) → a + n ≤ length hs → length (take (a + n - a) (drop a hs)) ≡ length (take n ts)
+  roots-even a hs k = part-count a n hs k ∙ sym (length-take-le n ts e)
+
+  pub roots-put : {i : List ℕ} (l : List ℕ) (a : ℕ) (hs : List ℕ) → a + n ≤ length hs
+      → i ≡ sets l at (recordBytes 5 (countedBytes rootBytes (zip2 rootFrom (take n ts) (take (a + n - a) (drop a hs)))))
+      → i ≡ sets l at (recordBytes 5 (countedBytes rootBytes (listed (rootAt (lentRoots ts hs a n)) n)))
+  unfolding rootFrom rootAt
+  roots-put l a hs z k =
+      k
+      ∙ ap (λ us. sets l at (recordBytes 5 (countedBytes rootBytes us)))
+      (zip2-zip3 rootFrom (take n ts) (take (a + n - a) (drop a hs))
+      ∙ rw (part-lent a n hs z)
+      (zip3-listed (λ x y z. rootFrom x y) (rootAt (lentRoots ts hs a n)) n ts (partColumn hs a n) (partColumn hs a n) e
+      (omega (arith, part-long a n hs z h)) (omega (arith, part-long a n hs z h)) (λ j. refl)))
 
 -- ── 6 cover ──────────────────────────────────────────────────────────────────────────────────
 

@@ -5,8 +5,8 @@ use mathlib.Core.List.{List, map}
 use mathlib.Core.Option.{none, some}
 use Prim.Native.Nat.{ℕ, _+_, _-_, _≤_, _<_}
 use native.Mathlib.Omega.{arith}
-use lib.ListN.{length, take, length-map, length-append, replicate, length-replicate}
-use lib.Seq.{sets, length-take-le, take-at}
+use lib.ListN.{length, take, length-map, length-replicate}
+use lib.Seq.{sets, length-take-le}
 use Rattle.lists.specs.Lists.{flat, part}
 use Rattle.lists.proofs.Flat.{length-map-upFrom}
 use Rattle.columns.specs.Limits.{maxRecords, maxNumbers, maxSubject}
@@ -17,7 +17,6 @@ use Rattle.archive_writer.proofs.Files.{file-written}
 use Rattle.archive_sizes.specs.FileSize.{edgesSize, coverRecordSize, maxFileSize}
 use Rattle.archive_sizes.proofs.Sized.{SetHas, CoverCounts, CoverHas, length-headRecord, length-edges, length-rows, length-unresolved, length-roots, length-file}
 use Rattle.cleaning.specs.Sections.{unerasedRow}
-use Rattle.cleaning.proofs.Parts.{length-part}
 use Rattle.held.specs.declared.Subject.{Subject}
 use Rattle.held.specs.declared.Unresolved.{Unresolved}
 use Rattle.held.specs.declared.Roots.{Roots}
@@ -27,9 +26,10 @@ use Rattle.out_file.specs.declared.Set.{Set}
 use Rattle.out_file.specs.declared.Sets.{Sets}
 use Rattle.out_file.specs.declared.Cover.{Cover}
 use Rattle.out_file.specs.declared.OutFile.{OutFile}
-use Rattle.out_file.specs.Lent.{tagColumn, emptyColumn, noCover, lentFile}
+use Rattle.out_file.specs.Lent.{emptyColumn, noCover, lentUnresolved, lentRoots, lentFile}
 use Rattle.out_file.specs.View.{setIn, rangeAt, rangesIn, linksIn, coverIn, subjectIn, depthIn, fileIn, Counted}
-use Rattle.file_writer.specs.Long.{LongSet, LongSets, LongUnresolved, LongRoots, LongCover, LongFile}
+use Rattle.file_writer.specs.Long.{LongSet, LongSets, LongUnresolved, LongRoots, LentRecords, LongCover, LongFile}
+use Rattle.file_writer.proofs.Taken.{part-listed, part-long}
 use Rattle.file_writer.specs.Stored.{sizeOf, fiveEnd, fiveLaid, Stored}
 
 -- ── counts ───────────────────────────────────────────────────────────────────────────────────
@@ -62,17 +62,6 @@ cover-has n c h k e =
 
 -- ── lent columns ─────────────────────────────────────────────────────────────────────────────
 
--- the tags that are lent
-module _ (tags : List ℕ) (a n : ℕ) (h : n ≤ maxRecords) (k : a + n ≤ length tags) where
-  pub tags-listed : take n (tagColumn tags a n) ≡ part a n tags
-  unfolding tagColumn
-  tags-listed = take-at (part a n tags) (replicate (maxRecords - n) 0) n (length-part a n tags k)
-
-  tags-long : length (tagColumn tags a n) ≡ maxRecords
-  unfolding tagColumn
-  tags-long =
-      omega (arith, length-append (part a n tags) (replicate (maxRecords - n) 0), length-part a n tags k, length-replicate {A = ℕ} (maxRecords - n) 0)
-
 empty-long : length emptyColumn ≡ maxRecords
 unfolding emptyColumn
 empty-long = length-replicate {A = ℕ} maxRecords 0
@@ -85,9 +74,6 @@ no-cover-long = record {
 }
 
 module _ (head : Head) (subject : Subject) (tags : List ℕ) (a n : ℕ) (ss : Sets) (u : Unresolved) (ts : Roots) (h : n ≤ maxRecords) (k : a + n ≤ length tags) where
-  pub lent-long : (c : Cover) → length (subject .bytes) ≡ maxSubject → LongSets ss → LongUnresolved u → LongRoots ts → LongCover c → LongFile (lentFile head subject tags a n ss u ts c)
-  lent-long c x y z w v = record { subject = x; tags = tags-long tags a n h k; sets = y; unresolved = z; roots = w; cover = v }
-
   -- the counts of a file serve without its cover
   pub few-bare : {c : Cover} → Counted (lentFile head subject tags a n ss u ts c) → Counted (lentFile head subject tags a n ss u ts noCover)
   few-bare w = record {
@@ -111,7 +97,25 @@ module _ (head : Head) (subject : Subject) (tags : List ℕ) (a n : ℕ) (ss : S
       → o ≡ sets m r (recordBytes 4 (countedBytes unresolvedBytes (listed (unresolvedAt u) (u .count))))
       → e ≡ sets o s (recordBytes 5 (countedBytes rootBytes (listed (rootAt ts) (ts .count))))
       → e ≡ fiveLaid (lentFile head subject tags a n ss u ts noCover) l at
-  five-laid at l pe qe re se x y z w v = rw (v, w, z, y, x, se, re, qe, pe, tags-listed tags a n h k)
+  five-laid at l pe qe re se x y z w v = rw (v, w, z, y, x, se, re, qe, pe, part-listed a n tags k)
+
+-- all columns of a file whose records are lent are long
+pub all-long : (head : Head) (subject : Subject) (tags : List ℕ) (a n : ℕ) (ss : Sets) (children kinds handles : List ℕ) (p m : ℕ) (rows roots : List ℕ) (q k : ℕ)
+    → n ≤ maxRecords → a + n ≤ length tags → LentRecords children kinds handles p m rows roots q k → (c : Cover) → length (subject .bytes) ≡ maxSubject → LongSets ss
+    → Counted (lentFile head subject tags a n ss (lentUnresolved children kinds handles p m) (lentRoots rows roots q k) c) → LongCover c
+    → LongFile (lentFile head subject tags a n ss (lentUnresolved children kinds handles p m) (lentRoots rows roots q k) c)
+all-long head subject tags a n ss children kinds handles p m rows roots q k h t l c x y w v = record {
+  subject = x;
+  tags = part-long a n tags t h;
+  sets = y;
+  unresolved = record {
+    children = part-long p m children (l .children-there) (w .unresolved);
+    kindsGiven = part-long p m kinds (l .kinds-there) (w .unresolved);
+    handles = part-long p m handles (l .handles-there) (w .unresolved);
+  };
+  roots = record { rows = l .rows-there; handles = part-long q k roots (l .roots-there) (w .roots) };
+  cover = v;
+}
 
 -- a record after others
 pub then-cover : {p q : ℕ} {k l m : List ℕ} (bytes : List ℕ) → k ≡ l → p ≡ q → m ≡ sets k p bytes → m ≡ sets l q bytes

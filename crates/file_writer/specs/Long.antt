@@ -1,5 +1,7 @@
 -- How long the columns of a file to be written are.
 use mathlib.Core.Path.{_≡_}
+use mathlib.Core.List.{List}
+use Prim.Native.Nat.{ℕ, _+_, _≤_}
 use lib.ListN.{length}
 use Rattle.columns.specs.Limits.{maxRecords, maxNumbers, maxSubject, offsetsRoom}
 use Rattle.held.specs.declared.Unresolved.{Unresolved}
@@ -30,6 +32,14 @@ pub record LongUnresolved (u : Unresolved) : Type 0 where
 pub record LongRoots (r : Roots) : Type 0 where
   pub rows : length (r .rows) ≡ maxRecords
   pub handles : length (r .handles) ≡ maxRecords
+
+-- m unresolved records from place p on, k roots whose rows are at the front and whose handles are from place q on: all are there
+pub record LentRecords (children kinds handles : List ℕ) (p m : ℕ) (rows roots : List ℕ) (q k : ℕ) : Type 0 where
+  pub children-there : p + m ≤ length children
+  pub kinds-there : p + m ≤ length kinds
+  pub handles-there : p + m ≤ length handles
+  pub rows-there : length rows ≡ maxRecords
+  pub roots-there : q + k ≤ length roots
 
 pub record LongLabels (l : Labels) : Type 0 where
   pub chains : length (l .chains) ≡ maxRecords

@@ -1,16 +1,12 @@
-// A whole file written into lent bytes, where it has room, and how many bytes it has. Its edge sets and its tags are lent, its other columns are by
-// value.
+// A whole file written into lent bytes, where it has room, and how many bytes it has. All its columns but those of its cover are lent, the tags and
+// records as parts of longer columns.
 mod long;
 mod parts;
 
 use archive_sizes::file_size;
-use held::Roots;
 use held::Subject;
-use held::Unresolved;
 use long::cover_long;
-use long::roots_long;
 use long::subject_long;
-use long::unresolved_long;
 use out_file::Cover;
 use out_file::Head;
 use parts::put_cover;
@@ -25,8 +21,8 @@ ghost use lib.ListN.{length};
 ghost use Rattle.columns.specs.Limits.{maxSubject, end64};
 ghost use Rattle.archive_sizes.specs.FileSize.{maxFileSize};
 ghost use Rattle.out_file.specs.View.{fileIn, Counted};
-ghost use Rattle.out_file.specs.Lent.{setsOf, noCover, lentFile};
-ghost use Rattle.file_writer.specs.Long.{LongSets, LongUnresolved, LongRoots};
+ghost use Rattle.out_file.specs.Lent.{setsOf, noCover, lentUnresolved, lentRoots, lentFile};
+ghost use Rattle.file_writer.specs.Long.{LongSets, LentRecords};
 ghost use Rattle.file_writer.specs.Stored.{fiveEnd, fiveLaid, Stored};
 
 // The records before a cover, one after the other; answers the place after them.
@@ -47,20 +43,27 @@ fn put_five(
     rd: &[i64],
     io: &[u64],
     id: &[i64],
-    u: Unresolved,
-    roots: Roots,
+    children: &[u64],
+    kinds: &[u8],
+    handles: &[u32],
+    p: usize,
+    m: usize,
+    rows: &[u64],
+    roots: &[u64],
+    q: usize,
+    k: usize,
 ) -> usize
-    requires { ⌜ (fiveEnd (lentFile head subject (now tags) a n (setsOf f r i (now fo) (now fd) (now ro) (now rd) (now io) (now id)) u roots noCover) at ≤ length (now out)) × (a + n ≤ length (now tags)) ⌝ }
-    requires { ⌜ (Counted (lentFile head subject (now tags) a n (setsOf f r i (now fo) (now fd) (now ro) (now rd) (now io) (now id)) u roots noCover)) × (LongSets (setsOf f r i (now fo) (now fd) (now ro) (now rd) (now io) (now id))) ⌝ }
-    requires { ⌜ (length (subject .bytes) ≡ maxSubject) × (LongUnresolved u × LongRoots roots) ⌝ }
-    ensures { λ e. ⌜ e ≡ fiveEnd (lentFile head subject (now (tags .entry)) a n (setsOf f r i (now (fo .entry)) (now (fd .entry)) (now (ro .entry)) (now (rd .entry)) (now (io .entry)) (now (id .entry))) u roots noCover) at ⌝ }
-    ensures { λ _. ⌜ now (out .exit) ≡ fiveLaid (lentFile head subject (now (tags .entry)) a n (setsOf f r i (now (fo .entry)) (now (fd .entry)) (now (ro .entry)) (now (rd .entry)) (now (io .entry)) (now (id .entry))) u roots noCover) (now (out .entry)) at ⌝ }
+    requires { ⌜ (fiveEnd (lentFile head subject (now tags) a n (setsOf f r i (now fo) (now fd) (now ro) (now rd) (now io) (now id)) (lentUnresolved (now children) (now kinds) (now handles) p m) (lentRoots (now rows) (now roots) q k) noCover) at ≤ length (now out)) × (a + n ≤ length (now tags)) ⌝ }
+    requires { ⌜ (Counted (lentFile head subject (now tags) a n (setsOf f r i (now fo) (now fd) (now ro) (now rd) (now io) (now id)) (lentUnresolved (now children) (now kinds) (now handles) p m) (lentRoots (now rows) (now roots) q k) noCover)) × (LongSets (setsOf f r i (now fo) (now fd) (now ro) (now rd) (now io) (now id))) ⌝ }
+    requires { ⌜ (length (subject .bytes) ≡ maxSubject) × (LentRecords (now children) (now kinds) (now handles) p m (now rows) (now roots) q k) ⌝ }
+    ensures { λ e. ⌜ e ≡ fiveEnd (lentFile head subject (now (tags .entry)) a n (setsOf f r i (now (fo .entry)) (now (fd .entry)) (now (ro .entry)) (now (rd .entry)) (now (io .entry)) (now (id .entry))) (lentUnresolved (now (children .entry)) (now (kinds .entry)) (now (handles .entry)) p m) (lentRoots (now (rows .entry)) (now (roots .entry)) q k) noCover) at ⌝ }
+    ensures { λ _. ⌜ now (out .exit) ≡ fiveLaid (lentFile head subject (now (tags .entry)) a n (setsOf f r i (now (fo .entry)) (now (fd .entry)) (now (ro .entry)) (now (rd .entry)) (now (io .entry)) (now (id .entry))) (lentUnresolved (now (children .entry)) (now (kinds .entry)) (now (handles .entry)) p m) (lentRoots (now (rows .entry)) (now (roots .entry)) q k) noCover) (now (out .entry)) at ⌝ }
 {
-    let p = put_head(out, at, head, subject, n);
-    let q = put_edges(out, p, n, f, r, i, fo, fd, ro, rd, io, id);
-    let t = put_rows(out, q, tags, a, n);
-    let v = put_unresolved(out, t, u);
-    put_roots(out, v, roots)
+    let x = put_head(out, at, head, subject, n);
+    let y = put_edges(out, x, n, f, r, i, fo, fd, ro, rd, io, id);
+    let t = put_rows(out, y, tags, a, n);
+    let v = put_unresolved(out, t, children, kinds, handles, p, m);
+    put_roots(out, v, rows, roots, q, k)
 }
 
 // A file without a cover.
@@ -81,30 +84,24 @@ pub fn put_bare(
     rd: &[i64],
     io: &[u64],
     id: &[i64],
-    u: Unresolved,
-    roots: Roots,
+    children: &[u64],
+    kinds: &[u8],
+    handles: &[u32],
+    p: usize,
+    m: usize,
+    rows: &[u64],
+    roots: &[u64],
+    q: usize,
+    k: usize,
 ) -> usize
-    requires { ⌜ (at + maxFileSize < end64) × (a + n ≤ length (now tags)) ⌝ }
-    requires { ⌜ (Counted (lentFile head subject (now tags) a n (setsOf f r i (now fo) (now fd) (now ro) (now rd) (now io) (now id)) u roots noCover)) × (LongSets (setsOf f r i (now fo) (now fd) (now ro) (now rd) (now io) (now id))) ⌝ }
-    ensures { λ k. ⌜ Stored (fileIn (lentFile head subject (now (tags .entry)) a n (setsOf f r i (now (fo .entry)) (now (fd .entry)) (now (ro .entry)) (now (rd .entry)) (now (io .entry)) (now (id .entry))) u roots noCover)) at (now (out .entry)) (now (out .exit)) k ⌝ }
+    requires { ⌜ (at + maxFileSize < end64) × ((a + n ≤ length (now tags)) × (LentRecords (now children) (now kinds) (now handles) p m (now rows) (now roots) q k)) ⌝ }
+    requires { ⌜ (Counted (lentFile head subject (now tags) a n (setsOf f r i (now fo) (now fd) (now ro) (now rd) (now io) (now id)) (lentUnresolved (now children) (now kinds) (now handles) p m) (lentRoots (now rows) (now roots) q k) noCover)) × (LongSets (setsOf f r i (now fo) (now fd) (now ro) (now rd) (now io) (now id))) ⌝ }
+    ensures { λ e. ⌜ Stored (fileIn (lentFile head subject (now (tags .entry)) a n (setsOf f r i (now (fo .entry)) (now (fd .entry)) (now (ro .entry)) (now (rd .entry)) (now (io .entry)) (now (id .entry))) (lentUnresolved (now (children .entry)) (now (kinds .entry)) (now (handles .entry)) p m) (lentRoots (now (rows .entry)) (now (roots .entry)) q k) noCover)) at (now (out .entry)) (now (out .exit)) e ⌝ }
 {
     subject_long(subject);
-    unresolved_long(u);
-    roots_long(roots);
-    let k = file_size(
-        subject.length,
-        n,
-        f,
-        r,
-        i,
-        u.count,
-        roots.count,
-        false,
-        0,
-        0,
-    );
-    if out.len() < at + k {
-        return k;
+    let size = file_size(subject.length, n, f, r, i, m, k, false, 0, 0);
+    if out.len() < at + size {
+        return size;
     }
     put_five(
         out,
@@ -123,10 +120,17 @@ pub fn put_bare(
         rd,
         io,
         id,
-        u,
+        children,
+        kinds,
+        handles,
+        p,
+        m,
+        rows,
         roots,
+        q,
+        k,
     );
-    k
+    size
 }
 
 // A file with a cover, where there is one.
@@ -147,32 +151,37 @@ pub fn put_covered(
     rd: &[i64],
     io: &[u64],
     id: &[i64],
-    u: Unresolved,
-    roots: Roots,
+    children: &[u64],
+    kinds: &[u8],
+    handles: &[u32],
+    p: usize,
+    m: usize,
+    rows: &[u64],
+    roots: &[u64],
+    q: usize,
+    k: usize,
     cover: Cover,
 ) -> usize
-    requires { ⌜ (at + maxFileSize < end64) × (a + n ≤ length (now tags)) ⌝ }
-    requires { ⌜ (Counted (lentFile head subject (now tags) a n (setsOf f r i (now fo) (now fd) (now ro) (now rd) (now io) (now id)) u roots cover)) × (LongSets (setsOf f r i (now fo) (now fd) (now ro) (now rd) (now io) (now id))) ⌝ }
-    ensures { λ k. ⌜ Stored (fileIn (lentFile head subject (now (tags .entry)) a n (setsOf f r i (now (fo .entry)) (now (fd .entry)) (now (ro .entry)) (now (rd .entry)) (now (io .entry)) (now (id .entry))) u roots cover)) at (now (out .entry)) (now (out .exit)) k ⌝ }
+    requires { ⌜ (at + maxFileSize < end64) × ((a + n ≤ length (now tags)) × (LentRecords (now children) (now kinds) (now handles) p m (now rows) (now roots) q k)) ⌝ }
+    requires { ⌜ (Counted (lentFile head subject (now tags) a n (setsOf f r i (now fo) (now fd) (now ro) (now rd) (now io) (now id)) (lentUnresolved (now children) (now kinds) (now handles) p m) (lentRoots (now rows) (now roots) q k) cover)) × (LongSets (setsOf f r i (now fo) (now fd) (now ro) (now rd) (now io) (now id))) ⌝ }
+    ensures { λ e. ⌜ Stored (fileIn (lentFile head subject (now (tags .entry)) a n (setsOf f r i (now (fo .entry)) (now (fd .entry)) (now (ro .entry)) (now (rd .entry)) (now (io .entry)) (now (id .entry))) (lentUnresolved (now (children .entry)) (now (kinds .entry)) (now (handles .entry)) p m) (lentRoots (now (rows .entry)) (now (roots .entry)) q k) cover)) at (now (out .entry)) (now (out .exit)) e ⌝ }
 {
     subject_long(subject);
-    unresolved_long(u);
-    roots_long(roots);
     cover_long(cover);
-    let k = file_size(
+    let size = file_size(
         subject.length,
         n,
         f,
         r,
         i,
-        u.count,
-        roots.count,
+        m,
+        k,
         cover.present,
         cover.ranges.count,
         cover.links.count,
     );
-    if out.len() < at + k {
-        return k;
+    if out.len() < at + size {
+        return size;
     }
     let t = put_five(
         out,
@@ -191,9 +200,16 @@ pub fn put_covered(
         rd,
         io,
         id,
-        u,
+        children,
+        kinds,
+        handles,
+        p,
+        m,
+        rows,
         roots,
+        q,
+        k,
     );
     put_cover(out, t, cover, n);
-    k
+    size
 }

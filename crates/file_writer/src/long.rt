@@ -1,8 +1,6 @@
 // How long columns are, said once for whoever uses them: these functions do nothing.
 use held::Ends;
-use held::Roots;
 use held::Subject;
-use held::Unresolved;
 use out_file::Cover;
 use out_file::Labels;
 use out_file::Links;
@@ -10,18 +8,10 @@ use out_file::Ranges;
 ghost use mathlib.Core.Path.{_≡_};
 ghost use lib.ListN.{length};
 ghost use Rattle.columns.specs.Limits.{maxSubject};
-ghost use Rattle.file_writer.specs.Long.{LongUnresolved, LongRoots, LongLabels, LongRanges, LongEnds, LongLinks, LongCover};
+ghost use Rattle.file_writer.specs.Long.{LongLabels, LongRanges, LongEnds, LongLinks, LongCover};
 
 pub fn subject_long(s: Subject)
     ensures { λ _. ⌜ length (s .bytes) ≡ maxSubject ⌝ }
-{}
-
-pub fn unresolved_long(u: Unresolved)
-    ensures { λ _. ⌜ LongUnresolved u ⌝ }
-{}
-
-pub fn roots_long(r: Roots)
-    ensures { λ _. ⌜ LongRoots r ⌝ }
 {}
 
 fn labels_long(l: Labels)

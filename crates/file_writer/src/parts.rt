@@ -6,9 +6,7 @@ use archive_records::record_roots;
 use archive_records::record_rows;
 use archive_records::record_unresolved;
 use archive_stores::heads::HeadOut;
-use held::Roots;
 use held::Subject;
-use held::Unresolved;
 use out_file::Cover;
 use out_file::Head;
 use out_file::Labels;
@@ -27,9 +25,9 @@ ghost use Rattle.archive_sizes.specs.FileSize.{edgesSize, coverRecordSize};
 ghost use Rattle.archive_stores.specs.Lent.{coverFrom};
 ghost use Rattle.cleaning.specs.Sections.{unerasedRow};
 ghost use Rattle.held.specs.View.{listed, unresolvedAt, rootAt};
-ghost use Rattle.file_writer.specs.Long.{LongSets, LongUnresolved, LongRoots, LongLabels, LongRanges, LongLinks, LongCover};
+ghost use Rattle.file_writer.specs.Long.{LongSets, LongLabels, LongRanges, LongLinks, LongCover};
 ghost use Rattle.file_writer.specs.Flags.{unflagged};
-ghost use Rattle.out_file.specs.Lent.{setsOf};
+ghost use Rattle.out_file.specs.Lent.{setsOf, lentUnresolved, lentRoots};
 ghost use Rattle.out_file.specs.View.{subjectIn, depthIn, setIn, rangesIn, linksIn, coverIn};
 
 // 1: the file's numbers, its subject and its depth.
@@ -103,29 +101,41 @@ pub fn put_rows(out: &mut [u8], at: usize, tags: &[u64], a: usize, n: usize) -> 
     record_rows(out, at, &flags[..n], &tags[a..b])
 }
 
-// 4: unresolved references.
-pub fn put_unresolved(out: &mut [u8], at: usize, u: Unresolved) -> usize
-    requires { ⌜ (at + unresolvedSize (u .count) ≤ length (now out)) × (u .count ≤ maxRecords) × LongUnresolved u ⌝ }
-    ensures { λ _. ⌜ now (out .exit) ≡ sets (now (out .entry)) at (recordBytes 4 (countedBytes unresolvedBytes (listed (unresolvedAt u) (u .count)))) ⌝ }
-    ensures { λ r. ⌜ r ≡ at + unresolvedSize (u .count) ⌝ }
+// 4: the n unresolved references from place a on.
+pub fn put_unresolved(
+    out: &mut [u8],
+    at: usize,
+    children: &[u64],
+    kinds: &[u8],
+    handles: &[u32],
+    a: usize,
+    n: usize,
+) -> usize
+    requires { ⌜ (at + unresolvedSize n ≤ length (now out)) × (n ≤ maxRecords) ⌝ }
+    requires { ⌜ (a + n ≤ length (now children)) × ((a + n ≤ length (now kinds)) × (a + n ≤ length (now handles))) ⌝ }
+    ensures { λ _. ⌜ now (out .exit) ≡ sets (now (out .entry)) at (recordBytes 4 (countedBytes unresolvedBytes (listed (unresolvedAt (lentUnresolved (now (children .entry)) (now (kinds .entry)) (now (handles .entry)) a n)) n))) ⌝ }
+    ensures { λ r. ⌜ r ≡ at + unresolvedSize n ⌝ }
 {
-    let n = u.count;
-    let children = u.children;
-    let kinds = u.kinds;
-    let handles = u.handles;
-    record_unresolved(out, at, &children[..n], &kinds[..n], &handles[..n])
+    let b = a + n;
+    record_unresolved(out, at, &children[a..b], &kinds[a..b], &handles[a..b])
 }
 
-// 5: state roots.
-pub fn put_roots(out: &mut [u8], at: usize, t: Roots) -> usize
-    requires { ⌜ (at + rootsSize (t .count) ≤ length (now out)) × (t .count ≤ maxRecords) × LongRoots t ⌝ }
-    ensures { λ _. ⌜ now (out .exit) ≡ sets (now (out .entry)) at (recordBytes 5 (countedBytes rootBytes (listed (rootAt t) (t .count)))) ⌝ }
-    ensures { λ r. ⌜ r ≡ at + rootsSize (t .count) ⌝ }
+// 5: n state roots, whose rows stand at the front of their column and whose handles from place a on.
+pub fn put_roots(
+    out: &mut [u8],
+    at: usize,
+    rows: &[u64],
+    handles: &[u64],
+    a: usize,
+    n: usize,
+) -> usize
+    requires { ⌜ (at + rootsSize n ≤ length (now out)) × (n ≤ maxRecords) ⌝ }
+    requires { ⌜ (n ≤ length (now rows)) × (a + n ≤ length (now handles)) ⌝ }
+    ensures { λ _. ⌜ now (out .exit) ≡ sets (now (out .entry)) at (recordBytes 5 (countedBytes rootBytes (listed (rootAt (lentRoots (now (rows .entry)) (now (handles .entry)) a n)) n))) ⌝ }
+    ensures { λ r. ⌜ r ≡ at + rootsSize n ⌝ }
 {
-    let n = t.count;
-    let rows = t.rows;
-    let handles = t.handles;
-    record_roots(out, at, &rows[..n], &handles[..n])
+    let b = a + n;
+    record_roots(out, at, &rows[..n], &handles[a..b])
 }
 
 // 6: the columns of a cover of n rows.

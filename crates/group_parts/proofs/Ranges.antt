@@ -57,12 +57,15 @@ module _ (xs ys : List ℕ) (a n j : ℕ) (h : j < n) where
 
 -- ── places ───────────────────────────────────────────────────────────────────────────────────
 
+pub places-within : (high m : ℕ) (column : List ℕ) (b : ℕ) → b ≡ place high (take m column) → b ≤ m
+places-within high m column b q = omega (arith, place-within high (take m column), length-take m column)
+
 module _ (low high m : ℕ) (column : List ℕ) (a b : ℕ) (p : a ≡ place low (take m column)) (q : b ≡ place high (take m column)) (h : low ≤ high) where
   pub places-rise : a ≤ b
   places-rise = omega (arith, place-rises low high (take m column) h)
 
   places-end : b ≤ m
-  places-end = omega (arith, place-within high (take m column), length-take m column)
+  places-end = places-within high m column b q
 
   pub places-room : m ≤ 1024 → a + (b - a) ≤ 1024
   places-room l = omega (arith, places-rise, places-end)

@@ -29,7 +29,7 @@ fn less(x: u64, y: u64) -> u64
 // The n numbers of 64 bits from place a on, each less `low`.
 pub fn less64(column: &[u64], a: usize, n: usize, low: u64) -> [u64; 1024]
     requires { ⌜ (a + n ≤ length (now column)) × (n ≤ 1024) ⌝ }
-    ensures { λ r. ⌜ take n r ≡ lowered low (part a n (now (column .entry))) ⌝ }
+    ensures { λ r. ⌜ (length r ≡ 1024) × (take n r ≡ lowered low (part a n (now (column .entry)))) ⌝ }
 {
     let mut out = [0u64; 1024];
     let mut i = 0;

@@ -38,7 +38,7 @@ use Rattle.sections.specs.Laid.{edgesOfRow}
 use Rattle.section_sets.specs.Parted.{partGraph, judged}
 use Rattle.group_sets.specs.declared.GroupSets.{GroupSets}
 use Rattle.group_sets.specs.ByVerdict.{SetsBy}
-use Rattle.group_sets.specs.ColumnGraphs.{rowsGraph, groupGraph, Bounded}
+use Rattle.group_sets.specs.ColumnGraphs.{columnsGraph, groupGraph, Bounded}
 use Rattle.group_sets.proofs.LentColumns.{column-of}
 
 singles : {A B : Type 0} (f : A → B) (xs : List A) → flat (λ x. f x ∷ []) xs ≡ map f xs
@@ -139,7 +139,7 @@ module _ (s : Sheet) (l : LongSheet s) (k : sheetOk s ≡ true) (o : ordered s �
           }
 
       graph-section : groupGraph s (sectionUnresolved (sheetIn s) g) g a n ≡ sectionGraph (sheetIn s) g
-      unfolding groupGraph rowsGraph partGraph sectionGraph sheetIn factsAt
+      unfolding groupGraph columnsGraph partGraph sectionGraph sheetIn factsAt
       graph-section =
           let f = facts h in
           let labels : labelsGiven (hasCover (s .groups) g) (part a n (s .rows .chains)) (part a n (s .rows .seqs)) ≡ labelsWhere ((factsOf (sheetIn s) g) .covered) (sectionLabels (sheetIn s) g)

@@ -13,6 +13,7 @@ use Rattle.lists.specs.Lists.{part, upFrom}
 use Rattle.lists.proofs.Each.{each-all}
 use Rattle.lists.proofs.Flat.{map-ext, length-map-upFrom}
 use Rattle.columns.specs.EdgeSet.{offsetsForm, cut}
+use Rattle.columns.specs.Building.{UnresolvedColumns}
 use Rattle.records.specs.Recorded.{depthOf, labelsGiven}
 use Rattle.records.specs.declared.groups.Depth as given
 use Rattle.records.specs.declared.groups.Depth.the-variants.{Unknown, Between}
@@ -33,7 +34,7 @@ use Rattle.encoding.specs.declared.kept.Encoded.{Encoded}
 use Rattle.section_sets.specs.Parted.{partGraph, judged, Answers}
 use Rattle.group_sets.specs.declared.GroupSets.{GroupSets}
 use Rattle.group_sets.specs.ByVerdict.{SetsBy, lentSets}
-use Rattle.group_sets.specs.ColumnGraphs.{rowsGraph, groupGraph, Lends, LongColumns, LongSlices}
+use Rattle.group_sets.specs.ColumnGraphs.{recordColumns, columnsGraph, groupGraph, Lends, RecordsThere, LongColumns, LongSlices}
 use Rattle.group_sets.proofs.SetSizes.{sets-lent}
 
 -- ── parts of columns ─────────────────────────────────────────────────────────────────────────
@@ -43,6 +44,12 @@ prefix-count k m l h e = sym (length-take-le k l (omega arith))
 
 pub prefix-few : {A : Type 0} (k m : ℕ) (l : List A) → k ≤ m → length (take k l) ≤ m
 prefix-few k m l h = simp length-take (omega arith)
+
+pub front-count : {A : Type 0} (k : ℕ) (l : List A) → k ≤ length l → k ≡ length (take k l)
+front-count k l h = sym (length-take-le k l h)
+
+pub records-few : {A : Type 0} (p m : ℕ) (l : List A) → m ≤ 1024 → length (take (p + m - p) (drop p l)) ≤ 1024
+records-few p m l h = simp (length-take, length-drop) (omega arith)
 
 pub part-few : {A : Type 0} (i n : ℕ) (l : List A) → length l ≡ 1024 → length (take n (drop i l)) ≤ 4096
 part-few i n l e = simp (length-take, length-drop) (omega arith)
@@ -64,7 +71,7 @@ zeros-mapped : {A : Type 0} (xs : List A) → replicate {A = ℕ} (length xs) 0 
 zeros-mapped [] = refl
 zeros-mapped (x ∷ xs) = ap (λ zs. 0 ∷ zs) (zeros-mapped xs)
 
--- the columns that building is given of records
+-- the columns that building is given of records by value
 module _ (u : held.Unresolved) (h : u .count ≤ 1024) where
   children-are : length (u .children) ≡ 1024 → take (u .count) (u .children) ≡ map (λ v. v .child) (listed (unresolvedAt u) (u .count))
   unfolding unresolvedAt part
@@ -78,14 +85,26 @@ module _ (u : held.Unresolved) (h : u .count ≤ 1024) where
   flags-are =
       zeros-taken (u .count) 1024 h ∙ ap (λ k. replicate {A = ℕ} k 0) (sym (length-map-upFrom (unresolvedAt u) 0 (u .count))) ∙ zeros-mapped (listed (unresolvedAt u) (u .count))
 
+  module _ (ks : List ℕ) (c : length (u .children) ≡ 1024) (d : length (u .kinds) ≡ 1024) (e : take (u .count) ks ≡ take (u .count) (u .kinds)) where
+    pub records-are : {us : List Unresolved} → listed (unresolvedAt u) (u .count) ≡ us → recordColumns (u .children) ks (replicate 1024 0) 0 (u .count) ≡ unresolvedColumns us
+    unfolding recordColumns unresolvedColumns part
+    records-are f = rw (e, children-are c, kinds-are d, flags-are, f)
+
+    pub records-there : length ks ≡ 1024 → RecordsThere (u .children) ks (replicate 1024 0) 0 (u .count)
+    records-there k = record {
+      children-there = omega arith;
+      kinds-there = omega arith;
+      flags-there = omega (arith, length-replicate {A = ℕ} 1024 0);
+      few = h;
+    }
+
 -- kinds copied one by one
 pub kind-copied : (i m : ℕ) (out ks : List ℕ) (x : ℕ) → take i out ≡ take i ks → x ≡ getD ks i 0 → i < m → m ≤ 1024 → length out ≡ 1024 → length ks ≡ 1024
     → take (i + 1) (set out i x) ≡ take (i + 1) ks
 kind-copied i m out ks x e f h k a b = rw (add-one, take-suc-set out i x (omega arith), take-suc ks i 0 (omega arith), e, f)
 
-pub kinds-copied : (u : held.Unresolved) (i : ℕ) (out : List ℕ) → take i out ≡ take i (u .kinds) → i ≤ u .count → u .count ≤ i → u .count ≤ 1024 → length (u .kinds) ≡ 1024
-    → take (u .count) out ≡ map (λ v. v .kind) (listed (unresolvedAt u) (u .count))
-kinds-copied u i out e h k f l = let z : i ≡ u .count = omega arith in rw z at e ∙ kinds-are u f l
+pub kinds-copied : (u : held.Unresolved) (i : ℕ) (out : List ℕ) → take i out ≡ take i (u .kinds) → i ≤ u .count → u .count ≤ i → take (u .count) out ≡ take (u .count) (u .kinds)
+kinds-copied u i out e h k = let z : i ≡ u .count = omega arith in rw z at e
 
 -- ── what building is lent ─────────────────────────────────────────────────────────────────────
 
@@ -99,22 +118,22 @@ module _ (groups : Groups) (g : ℕ) where
   depth-known e = rw (ne-eqb (getD (groups .known) g 0) 0 e)
 
 -- what is lent of columns, each up to its count
-pub rows-lent : (bytes : List ℕ) (size start total : ℕ) (offsets targets : List ℕ) (count : ℕ) (u : held.Unresolved) (ks : List ℕ) (depth : given.Depth) (labelled : Bool) (chains seqs : List ℕ) (a n : ℕ)
+pub rows-lent : (bytes : List ℕ) (size start total : ℕ) (offsets targets : List ℕ) (count : ℕ) (children kinds flags : List ℕ) (p m : ℕ) (depth : given.Depth) (labelled : Bool) (chains seqs : List ℕ) (a n : ℕ)
     (r : Encoded) (fo : List ℕ) (fd : List ℤ) (ro : List ℕ) (rd : List ℤ) (io : List ℕ) (id : List ℤ) (fo′ : List ℕ) (fd′ : List ℤ) (ro′ : List ℕ) (rd′ : List ℤ) (io′ : List ℕ) (id′ : List ℤ)
-    → a + n ≤ total → total ≤ 1024 → count ≤ 4096 → offsetsForm total count (take (2 * total + 1) offsets) ≡ true
-    → u .count ≤ 1024 → length (u .children) ≡ 1024 → take (u .count) ks ≡ map (λ v. v .kind) (listed (unresolvedAt u) (u .count)) → length targets ≡ 4096 → LongSlices fo fd ro rd io id
+    → a + n ≤ total → total ≤ 1024 → count ≤ 4096 → offsetsForm total count (take (2 * total + 1) offsets) ≡ true → length targets ≡ 4096 → LongSlices fo fd ro rd io id
     → Answers (judged (partGraph (take size bytes) start total (cut (take (2 * total + 1) offsets) (take count targets))
-    (record { children = take (u .count) (u .children); kindsGiven = take (u .count) ks; flags = take (u .count) (replicate 1024 0) }) (depthOf depth)
+    (record { children = take (p + m - p) (drop p children); kindsGiven = take (p + m - p) (drop p kinds); flags = take m flags }) (depthOf depth)
     (labelsGiven labelled (take (a + n - a) (drop a chains)) (take (a + n - a) (drop a seqs))) a n)) r fo fd ro rd io id fo′ fd′ ro′ rd′ io′ id′
-    → SetsBy (judged (rowsGraph (take size bytes) start total (cut (take (2 * total + 1) offsets) (take count targets)) (listed (unresolvedAt u) (u .count)) (depthOf depth) labelled chains seqs a n)) n
+    → SetsBy (judged (columnsGraph (take size bytes) start total (cut (take (2 * total + 1) offsets) (take count targets)) (recordColumns children kinds flags p m) (depthOf depth) labelled chains seqs a n)) n
     (lentSets r fo′ fd′ ro′ rd′ io′ id′)
-unfolding rowsGraph part unresolvedColumns
-rows-lent bytes size start total offsets targets count u ks depth labelled chains seqs a n r fo fd ro rd io id fo′ fd′ ro′ rd′ io′ id′ h k m form few l e d long q =
+unfolding columnsGraph recordColumns part
+rows-lent bytes size start total offsets targets count children kinds flags p m depth labelled chains seqs a n r fo fd ro rd io id fo′ fd′ ro′ rd′ io′ id′ h k f form d long q =
     let z : a + n - a ≡ n = omega arith in
-    rw (children-are u few l, e, flags-are u few, z) at
+    let y : p + m - p ≡ m = omega arith in
+    rw (z, y) at
     (sets-lent r long (take size bytes) start total (take (2 * total + 1) offsets) (take count targets)
-    (record { children = take (u .count) (u .children); kindsGiven = take (u .count) ks; flags = take (u .count) (replicate 1024 0) }) (depthOf depth)
-    (labelsGiven labelled (take (a + n - a) (drop a chains)) (take (a + n - a) (drop a seqs))) a n h k (prefix-few count 4096 targets m) (form-cut total count (take (2 * total + 1) offsets) targets m d form) q)
+    (record { children = take (p + m - p) (drop p children); kindsGiven = take (p + m - p) (drop p kinds); flags = take m flags }) (depthOf depth)
+    (labelsGiven labelled (take (a + n - a) (drop a chains)) (take (a + n - a) (drop a seqs))) a n h k (prefix-few count 4096 targets f) (form-cut total count (take (2 * total + 1) offsets) targets f d form) q)
 
 -- what is lent of a sheet
 module _ (s : Sheet) {bytes : List ℕ} {size start total : ℕ} {offsets targets : List ℕ} {count : ℕ} {chains seqs : List ℕ} {groups : Groups}
@@ -139,9 +158,10 @@ module _ (s : Sheet) {bytes : List ℕ} {size start total : ℕ} {offsets target
   }
 
   -- what is given with the rows of a group
-  pub group-built : (us : List Unresolved) (g : ℕ) (depth : given.Depth) (labelled : Bool) (a n : ℕ) (r : GroupSets) → depthOf depth ≡ (factsAt groups g) .depth → labelled ≡ hasCover groups g
-      → SetsBy (judged (rowsGraph (take size bytes) start total (cut (take (2 * total + 1) offsets) (take count targets)) us (depthOf depth) labelled chains seqs a n)) n r
+  pub group-built : (records : UnresolvedColumns) (us : List Unresolved) → records ≡ unresolvedColumns us → (g : ℕ) (depth : given.Depth) (labelled : Bool) (a n : ℕ) (r : GroupSets)
+      → depthOf depth ≡ (factsAt groups g) .depth → labelled ≡ hasCover groups g
+      → SetsBy (judged (columnsGraph (take size bytes) start total (cut (take (2 * total + 1) offsets) (take count targets)) records (depthOf depth) labelled chains seqs a n)) n r
       → SetsBy (judged (groupGraph s us g a n)) n r
   unfolding groupGraph slotsIn
-  group-built us g depth labelled a n r d l q =
-      rw (d, l, w .bytes-are, w .size-is, w .start-is, w .total-is, w .offsets-are, w .targets-are, w .count-is, w .chains-are, w .seqs-are, w .groups-are) at q
+  group-built records us e g depth labelled a n r d l q =
+      rw (e, d, l, w .bytes-are, w .size-is, w .start-is, w .total-is, w .offsets-are, w .targets-are, w .count-is, w .chains-are, w .seqs-are, w .groups-are) at q

@@ -9,7 +9,7 @@ use lib.ListN.{length, take}
 use Rattle.lists.specs.Lists.{part}
 use Rattle.columns.specs.Limits.{maxRecords, maxNumbers, maxGroups, maxSubject, offsetsRoom, end64}
 use Rattle.columns.specs.EdgeSet.{offsetsForm}
-use Rattle.columns.specs.Building.{Depth, Graph}
+use Rattle.columns.specs.Building.{Depth, UnresolvedColumns, Graph}
 use Rattle.records.specs.Recorded.{labelsGiven}
 use Rattle.archive.specs.File.{Unresolved}
 use Rattle.cleaning.specs.Writing.{unresolvedColumns}
@@ -18,15 +18,26 @@ use Rattle.held.specs.declared.Sheet.{Sheet}
 use Rattle.held.specs.View.{hasCover, factsAt, slotsIn}
 use Rattle.section_sets.specs.Parted.{partGraph}
 
--- n rows from row a on, with their unresolved records
-unfoldable pub rowsGraph : List ℕ → ℕ → ℕ → List (List ℕ) → List Unresolved → Option Depth → Bool → List ℕ → List ℕ → ℕ → ℕ → Graph
-rowsGraph subject start total lists us depth labelled chains seqs a n =
-    partGraph subject start total lists (unresolvedColumns us) depth (labelsGiven labelled (part a n chains) (part a n seqs)) a n
+-- the m unresolved records from place p on: children and kinds, and flags at the front of a column
+unfoldable pub recordColumns : List ℕ → List ℕ → List ℕ → ℕ → ℕ → UnresolvedColumns
+recordColumns children kinds flags p m = record { children = part p m children; kindsGiven = part p m kinds; flags = take m flags }
+
+-- they are there
+pub record RecordsThere (children kinds flags : List ℕ) (p m : ℕ) : Type 0 where
+  pub children-there : p + m ≤ length children
+  pub kinds-there : p + m ≤ length kinds
+  pub flags-there : m ≤ length flags
+  pub few : m ≤ maxRecords
+
+-- n rows from row a on, with the columns of their unresolved records
+unfoldable pub columnsGraph : List ℕ → ℕ → ℕ → List (List ℕ) → UnresolvedColumns → Option Depth → Bool → List ℕ → List ℕ → ℕ → ℕ → Graph
+columnsGraph subject start total lists records depth labelled chains seqs a n =
+    partGraph subject start total lists records depth (labelsGiven labelled (part a n chains) (part a n seqs)) a n
 
 -- n rows of group g from row a on
 unfoldable pub groupGraph : Sheet → List Unresolved → ℕ → ℕ → ℕ → Graph
 groupGraph s us g a n =
-    rowsGraph (take (s .subject .length) (s .subject .bytes)) (s .start) (s .rows .count) (slotsIn (s .rows .count) (s .edges)) us ((factsAt (s .groups) g) .depth) (hasCover (s .groups) g)
+    columnsGraph (take (s .subject .length) (s .subject .bytes)) (s .start) (s .rows .count) (slotsIn (s .rows .count) (s .edges)) (unresolvedColumns us) ((factsAt (s .groups) g) .depth) (hasCover (s .groups) g)
     (s .rows .chains) (s .rows .seqs) a n
 
 -- the columns and the figures that building is lent of a sheet

@@ -10,14 +10,16 @@ use records::groups::Depth;
 use rules::slots::Ruling;
 use section_sets::build_part;
 use tidying::long::sheet_long;
+use tidying::long::unresolved_long;
 ghost use mathlib.Core.Path.{_≡_};
 ghost use mathlib.Core.Bool.{true};
-ghost use mathlib.Core.List.{[], map};
+ghost use mathlib.Core.List.{[]};
 ghost use Prim.Native.Nat.{_+_, _*_, _≤_, _<_};
 ghost use lib.ListN.{length, take};
 ghost use Rattle.columns.specs.Limits.{end64};
 ghost use Rattle.columns.specs.EdgeSet.{offsetsForm, cut};
 ghost use Rattle.records.specs.Recorded.{depthOf};
+ghost use Rattle.cleaning.specs.Writing.{unresolvedColumns};
 ghost use Rattle.cleaning.specs.Sections.{sectionStart, sectionRows, sectionUnresolved, sectionGraph};
 ghost use Rattle.held.specs.View.{hasCover, factsAt, listed, unresolvedAt, sheetIn};
 ghost use Rattle.held.specs.Valid.{sheetOk};
@@ -26,7 +28,7 @@ ghost use Rattle.tidying.specs.Long.{LongSheet};
 ghost use Rattle.sections.specs.Laid.{edgesBefore};
 ghost use Rattle.section_sets.specs.Parted.{judged};
 ghost use Rattle.group_sets.specs.ByVerdict.{SetsBy, lentSets};
-ghost use Rattle.group_sets.specs.ColumnGraphs.{rowsGraph, LongColumns, LongSlices, Lends};
+ghost use Rattle.group_sets.specs.ColumnGraphs.{recordColumns, columnsGraph, RecordsThere, LongColumns, LongSlices, Lends};
 
 // The broken rule, if one is, and else the sets.
 pub struct GroupSets {
@@ -67,14 +69,10 @@ fn is_covered(groups: Groups, g: usize) -> bool
     groups.covered[g] != 0
 }
 
-fn children_long(u: Unresolved)
-    ensures { λ _. ⌜ length (u .children) ≡ 1024 ⌝ }
-{}
-
 // The kinds of records as wider numbers.
-fn wide_kinds(u: Unresolved) -> [u64; 1024]
+pub fn wide_kinds(u: Unresolved) -> [u64; 1024]
     requires { ⌜ u .count ≤ 1024 ⌝ }
-    ensures { λ r. ⌜ (length r ≡ 1024) × (take (u .count) r ≡ map (λ v. v .kind) (listed (unresolvedAt u) (u .count))) ⌝ }
+    ensures { λ r. ⌜ (length r ≡ 1024) × (take (u .count) r ≡ take (u .count) (u .kinds)) ⌝ }
 {
     let mut out = [0u64; 1024];
     let mut i = 0;
@@ -85,7 +83,8 @@ fn wide_kinds(u: Unresolved) -> [u64; 1024]
     out
 }
 
-// Builds the n rows from row a on of lent columns, each up to its count. Rows before row a name none of them.
+// Builds the n rows from row a on of lent columns, each up to its count, with the m unresolved records from place p on. Rows before row a name none
+// of them. The last seven columns are work space.
 fn build_rows(
     bytes: &[u8],
     size: usize,
@@ -96,8 +95,11 @@ fn build_rows(
     count: usize,
     chains: &[u32],
     seqs: &[u32],
-    u: Unresolved,
-    kinds: [u64; 1024],
+    children: &[u64],
+    kinds: &[u64],
+    flags: &[u64],
+    p: usize,
+    m: usize,
     depth: Depth,
     labelled: bool,
     a: usize,
@@ -108,27 +110,32 @@ fn build_rows(
     rd: &mut [i64],
     io: &mut [u64],
     id: &mut [i64],
+    cs: &mut [u64; 4096],
+    ps: &mut [u64; 4096],
+    ks: &mut [u64; 4096],
+    base: &mut [u64; 2049],
+    offs: &mut [u64; 2049],
+    list: &mut [u64; 4096],
+    w: &mut [u64; 4096],
 ) -> Encoded
     requires { ⌜ (size ≤ 255) × ((a + n ≤ total) × ((total ≤ 1024) × (start + total < end64))) ⌝ }
     requires { ⌜ (count ≤ 4096) × ((offsetsForm total count (take (2 * total + 1) (now offsets)) ≡ true) × (edgesBefore start (cut (take (2 * total + 1) (now offsets)) (take count (now targets))) a n ≡ [])) ⌝ }
-    requires { ⌜ (u .count ≤ 1024) × ((length (u .children) ≡ 1024) × ((length kinds ≡ 1024) × (take (u .count) kinds ≡ map (λ v. v .kind) (listed (unresolvedAt u) (u .count))))) ⌝ }
+    requires { ⌜ RecordsThere (now children) (now kinds) (now flags) p m ⌝ }
     requires { ⌜ LongColumns (now bytes) (now offsets) (now targets) (now chains) (now seqs) ⌝ }
     requires { ⌜ LongSlices (now fo) (now fd) (now ro) (now rd) (now io) (now id) ⌝ }
-    ensures { λ r. ⌜ SetsBy (judged (rowsGraph (take size (now (bytes .entry))) start total (cut (take (2 * total + 1) (now (offsets .entry))) (take count (now (targets .entry)))) (listed (unresolvedAt u) (u .count)) (depthOf depth) labelled (now (chains .entry)) (now (seqs .entry)) a n)) n (lentSets r (now (fo .exit)) (now (fd .exit)) (now (ro .exit)) (now (rd .exit)) (now (io .exit)) (now (id .exit))) ⌝ }
+    ensures { λ r. ⌜ SetsBy (judged (columnsGraph (take size (now (bytes .entry))) start total (cut (take (2 * total + 1) (now (offsets .entry))) (take count (now (targets .entry)))) (recordColumns (now (children .entry)) (now (kinds .entry)) (now (flags .entry)) p m) (depthOf depth) labelled (now (chains .entry)) (now (seqs .entry)) a n)) n (lentSets r (now (fo .exit)) (now (fd .exit)) (now (ro .exit)) (now (rd .exit)) (now (io .exit)) (now (id .exit))) ⌝ }
 {
-    let flags = [0u64; 1024];
-    let children = u.children;
-    let m = u.count;
     let k = 2 * total + 1;
     let b = a + n;
+    let q = p + m;
     build_part(
         &bytes[..size],
         start,
         total,
         &offsets[..k],
         &targets[..count],
-        &children[..m],
-        &kinds[..m],
+        &children[p..q],
+        &kinds[p..q],
         &flags[..m],
         depth,
         labelled,
@@ -142,11 +149,18 @@ fn build_rows(
         rd,
         io,
         id,
+        cs,
+        ps,
+        ks,
+        base,
+        offs,
+        list,
+        w,
     )
 }
 
-// Building's rules and the three sets of group g of a sheet, whose columns are lent: its n rows stand from row a on, and its unresolved records are
-// given. The sheet itself is not read.
+// Building's rules and the three sets of group g of a sheet, whose columns are lent: its n rows stand from row a on, its m unresolved records from
+// place p on, with their kinds as wider numbers and flags that are 0. The sheet itself is not read; the last seven columns are work space.
 pub fn lent_sets<'a>(
     s: Sheet,
     bytes: &'a [u8],
@@ -159,7 +173,11 @@ pub fn lent_sets<'a>(
     chains: &'a [u32],
     seqs: &'a [u32],
     groups: Groups,
-    u: Unresolved,
+    children: &[u64],
+    kinds: &[u64],
+    flags: &[u64],
+    p: usize,
+    m: usize,
     g: usize,
     a: usize,
     n: usize,
@@ -169,18 +187,23 @@ pub fn lent_sets<'a>(
     rd: &mut [i64],
     io: &mut [u64],
     id: &mut [i64],
+    cs: &mut [u64; 4096],
+    ps: &mut [u64; 4096],
+    ks: &mut [u64; 4096],
+    base: &mut [u64; 2049],
+    offs: &mut [u64; 2049],
+    list: &mut [u64; 4096],
+    w: &mut [u64; 4096],
 ) -> Encoded
     requires { ⌜ (LongSheet s) × ((sheetOk s ≡ true) × ((ordered s ≡ true) × (g < s .groups .count))) ⌝ }
     requires { ⌜ (a ≡ sectionStart (sheetIn s) g) × (n ≡ sectionRows (sheetIn s) g) ⌝ }
-    requires { ⌜ (u .count ≤ 1024) × (listed (unresolvedAt u) (u .count) ≡ sectionUnresolved (sheetIn s) g) ⌝ }
+    requires { ⌜ (RecordsThere (now children) (now kinds) (now flags) p m) × (recordColumns (now children) (now kinds) (now flags) p m ≡ unresolvedColumns (sectionUnresolved (sheetIn s) g)) ⌝ }
     requires { ⌜ Lends s (now bytes) size start total (now offsets) (now targets) count (now chains) (now seqs) groups ⌝ }
     requires { ⌜ LongSlices (now fo) (now fd) (now ro) (now rd) (now io) (now id) ⌝ }
     ensures { λ r. ⌜ SetsBy (judged (sectionGraph (sheetIn s) g)) n (lentSets r (now (fo .exit)) (now (fd .exit)) (now (ro .exit)) (now (rd .exit)) (now (io .exit)) (now (id .exit))) ⌝ }
 {
-    children_long(u);
     let depth = depth_at(groups, g);
     let labelled = is_covered(groups, g);
-    let kinds = wide_kinds(u);
     build_rows(
         bytes,
         size,
@@ -191,8 +214,11 @@ pub fn lent_sets<'a>(
         count,
         chains,
         seqs,
-        u,
+        children,
         kinds,
+        flags,
+        p,
+        m,
         depth,
         labelled,
         a,
@@ -203,6 +229,13 @@ pub fn lent_sets<'a>(
         rd,
         io,
         id,
+        cs,
+        ps,
+        ks,
+        base,
+        offs,
+        list,
+        w,
     )
 }
 
@@ -214,6 +247,17 @@ pub fn group_sets(s: Sheet, u: Unresolved, g: usize, a: usize, n: usize) -> Grou
     ensures { λ r. ⌜ SetsBy (judged (sectionGraph (sheetIn s) g)) n r ⌝ }
 {
     sheet_long(s);
+    unresolved_long(u);
+    let children = u.children;
+    let kinds = wide_kinds(u);
+    let flags = [0u64; 1024];
+    let mut cs = [0u64; 4096];
+    let mut ps = [0u64; 4096];
+    let mut ks = [0u64; 4096];
+    let mut base = [0u64; 2049];
+    let mut offs = [0u64; 2049];
+    let mut list = [0u64; 4096];
+    let mut w = [0u64; 4096];
     let mut fo = [0u64; 2049];
     let mut fd = [0i64; 4096];
     let mut ro = [0u64; 2049];
@@ -232,7 +276,11 @@ pub fn group_sets(s: Sheet, u: Unresolved, g: usize, a: usize, n: usize) -> Grou
         &s.rows.chains,
         &s.rows.seqs,
         s.groups,
-        u,
+        &children,
+        &kinds,
+        &flags,
+        0,
+        u.count,
         g,
         a,
         n,
@@ -242,6 +290,13 @@ pub fn group_sets(s: Sheet, u: Unresolved, g: usize, a: usize, n: usize) -> Grou
         &mut rd,
         &mut io,
         &mut id,
+        &mut cs,
+        &mut ps,
+        &mut ks,
+        &mut base,
+        &mut offs,
+        &mut list,
+        &mut w,
     );
     match e {
         Encoded::Refused(x) => GroupSets {

@@ -1,11 +1,11 @@
 -- The file of a group whose edge sets stand in lent slices, and the group's rules.
-use mathlib.Core.Path.{_≡_, refl, subst}
+use mathlib.Core.Path.{_≡_, refl, ap, subst, _∙_}
 use mathlib.Core.Bool.{true}
 use mathlib.Core.List.{List, map}
 use Prim.Native.Nat.{ℕ, suc, _+_, _-_, _≤_, _<_}
 use native.Mathlib.Omega.{arith}
 use lib.IntN.{ℤ}
-use lib.ListN.{length}
+use lib.ListN.{length, take}
 use Rattle.lists.specs.Lists.{part}
 use Rattle.columns.specs.Reading.{labelsOf}
 use Rattle.columns.specs.declared.refusal.Refusal.{Refusal}
@@ -26,10 +26,10 @@ use Rattle.out_file.specs.declared.Sets.{Sets}
 use Rattle.out_file.specs.declared.Head.{Head}
 use Rattle.out_file.specs.declared.Cover.{Cover}
 use Rattle.out_file.specs.View.{depthIn, coverIn, fileIn, builtIn, Counted}
-use Rattle.out_file.specs.Lent.{setsOf, lentFile}
+use Rattle.out_file.specs.Lent.{setsOf, partColumn, lentFile}
 use Rattle.file_writer.specs.Long.{LongSets}
 use Rattle.file_writer.specs.Stored.{Stored}
-use Rattle.file_writer.proofs.Whole.{tags-listed}
+use Rattle.file_writer.proofs.Taken.{part-listed}
 use Rattle.section_sets.specs.Parted.{judged}
 use Rattle.group_sets.specs.ByVerdict.{SetsBy, lentSets}
 use Rattle.group_sets.specs.ColumnGraphs.{LongSlices}
@@ -50,25 +50,28 @@ slices-long f r i l = record {
 }
 
 module _ (s : Sheet) (g a b : ℕ) (l : LongSheet s) (k : sheetOk s ≡ true) (o : ordered s ≡ true) (h : g < s .groups .count) (p : SpanOf s g a b)
-    (sets : Sets) (u : Unresolved) (roots : Roots) (head : Head) where
+    (sets : Sets) (u : Unresolved) (roots : Roots) (head : Head) {tags : List ℕ} (t : tags ≡ s .rows .tags) where
   -- its rows are there
-  pub tags-room : a + (b - a) ≤ length (s .rows .tags)
-  tags-room = omega (arith, span-room s g a b p l k o, l .rows .tags)
+  pub tags-room : a + (b - a) ≤ length tags
+  tags-room = omega (arith, span-room s g a b p l k o, l .rows .tags, ap length t)
+
+  tags-there : take (b - a) (partColumn tags a (b - a)) ≡ part a (b - a) (s .rows .tags)
+  tags-there = part-listed a (b - a) tags tags-room ∙ ap (part a (b - a)) t
 
   module _ (cover : Cover) (cv : coverIn (b - a) cover ≡ coverWhere (hasCover (s .groups) g) (labelsOf (part a (b - a) (s .rows .chains)) (part a (b - a) (s .rows .seqs)))
       (map (λ x. x .link) (between (λ x. x .group) g (suc g) (listed (linkAt (s .links)) (s .links .count))))) where
     pub lent-counted : u .count ≤ 1024 → roots .count ≤ 1024 → FewEdges sets → (cover .ranges .count ≤ 1024) × (cover .links .count ≤ 1024)
-        → Counted (lentFile head (s .subject) (s .rows .tags) a (b - a) sets u roots cover)
+        → Counted (lentFile head (s .subject) tags a (b - a) sets u roots cover)
     lent-counted us rs few cs =
         let room = span-room s g a b p l k o in
-        file-counted s g a b l k o h p sets u roots _ head cover (refl, tags-listed (s .rows .tags) a (b - a) (omega arith) tags-room) us rs few cs room
+        file-counted s g a b l k o h p sets u roots _ head cover (refl, tags-there) us rs few cs room
 
     pub section-stored : listed (unresolvedAt u) (u .count) ≡ sectionUnresolved (sheetIn s) g → listed (rootAt roots) (roots .count) ≡ sectionRoots (sheetIn s) g
         → (head .first ≡ s .start + a) × ((head .group ≡ g) × (depthIn head ≡ (factsAt (s .groups) g) .depth)) → {at r : ℕ} {was is : List ℕ}
-        → Stored (fileIn (lentFile head (s .subject) (s .rows .tags) a (b - a) sets u roots cover)) at was is r → Stored (sectionFileOf (sheetIn s) g (builtIn (b - a) sets)) at was is r
+        → Stored (fileIn (lentFile head (s .subject) tags a (b - a) sets u roots cover)) at was is r → Stored (sectionFileOf (sheetIn s) g (builtIn (b - a) sets)) at was is r
     section-stored us rs hd {at} {r} {was} {is} q =
         let room = span-room s g a b p l k o in
-        let e = file-made s g a b l k o h p sets u roots _ head cover (refl, tags-listed (s .rows .tags) a (b - a) (omega arith) tags-room) us rs hd cv in
+        let e = file-made s g a b l k o h p sets u roots _ head cover (refl, tags-there) us rs hd cv in
         subst (λ f. Stored f at was is r) e q
 
 -- ── the verdict ──────────────────────────────────────────────────────────────────────────────

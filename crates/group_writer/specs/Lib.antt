@@ -1,1 +1,2 @@
 pub mod PutBy
+pub mod Lends

@@ -4,28 +4,30 @@ use file_writer::put_bare;
 use file_writer::put_covered;
 use group_cover::part_cover;
 use group_parts::part_head;
-use group_parts::part_roots;
-use group_parts::part_unresolved;
+use group_parts::wide::less64;
 use group_sets::lent_sets;
 use held::Sheet;
-use held::Unresolved;
 use rules::slots::Ruling;
 use sections::places::byte_place_of;
+use sections::places::place_of;
 use tidying::long::sheet_long;
 ghost use mathlib.Core.Path.{_≡_};
 ghost use mathlib.Core.Bool.{true};
-ghost use Prim.Native.Nat.{_+_, _-_, _≤_, _<_};
+ghost use Prim.Native.Nat.{_+_, _-_, _<_};
+ghost use lib.ListN.{length};
 ghost use Rattle.columns.specs.Limits.{end64};
 ghost use Rattle.archive_sizes.specs.FileSize.{maxFileSize};
-ghost use Rattle.cleaning.specs.Sections.{sectionUnresolved, sectionFileOf};
-ghost use Rattle.held.specs.View.{listed, unresolvedAt, sheetIn};
+ghost use Rattle.cleaning.specs.Sections.{sectionFileOf};
+ghost use Rattle.held.specs.View.{sheetIn};
 ghost use Rattle.held.specs.Valid.{sheetOk};
 ghost use Rattle.tidying.specs.Ordered.{ordered};
+ghost use Rattle.tidying.specs.Long.{LongSheet};
 ghost use Rattle.out_file.specs.View.{builtIn};
 ghost use Rattle.out_file.specs.Lent.{setsOf};
 ghost use Rattle.file_writer.specs.Stored.{Stored};
-ghost use Rattle.group_sets.specs.ColumnGraphs.{LongSlices};
+ghost use Rattle.group_sets.specs.ColumnGraphs.{Lends, LongSlices};
 ghost use Rattle.group_file.specs.Made.{SpanOf, FewEdges};
+ghost use Rattle.group_writer.specs.Lends.{LendsRecords, RecordsFrom, Widened};
 ghost use Rattle.group_writer.specs.PutBy.{PutBy};
 
 // The broken rule, if one is, and else the bytes of the file.
@@ -34,13 +36,21 @@ pub struct Put {
     pub length: usize,
 }
 
-// The file of group g, whose rows stand from row a up to row b, whose unresolved records are given, and whose edge sets stand in six slices.
+// The file of group g, whose rows stand from row a up to row b, whose unresolved records stand from place p up to place e of their columns, and
+// whose edge sets stand in six slices.
 fn put_built(
     s: Sheet,
     g: usize,
     a: usize,
     b: usize,
-    u: Unresolved,
+    p: usize,
+    e: usize,
+    tags: &[u64],
+    children: &[u64],
+    kinds: &[u8],
+    handles: &[u32],
+    rows: &[u64],
+    roots: &[u64],
     f: usize,
     r: usize,
     i: usize,
@@ -54,23 +64,27 @@ fn put_built(
     at: usize,
 ) -> usize
     requires { ⌜ (sheetOk s ≡ true) × ((ordered s ≡ true) × (g < s .groups .count)) ⌝ }
-    requires { ⌜ (SpanOf s g a b) × (at + maxFileSize < end64) ⌝ }
-    requires { ⌜ (listed (unresolvedAt u) (u .count) ≡ sectionUnresolved (sheetIn s) g) × (u .count ≤ 1024) ⌝ }
+    requires { ⌜ (SpanOf s g a b) × ((RecordsFrom s a b p e) × (at + maxFileSize < end64)) ⌝ }
+    requires { ⌜ LendsRecords s (now tags) (now children) (now kinds) (now handles) (now rows) (now roots) ⌝ }
     requires { ⌜ (FewEdges (setsOf f r i (now fo) (now fd) (now ro) (now rd) (now io) (now id))) × (LongSlices (now fo) (now fd) (now ro) (now rd) (now io) (now id)) ⌝ }
     ensures { λ k. ⌜ Stored (sectionFileOf (sheetIn s) g (builtIn (b - a) (setsOf f r i (now (fo .entry)) (now (fd .entry)) (now (ro .entry)) (now (rd .entry)) (now (io .entry)) (now (id .entry))))) at (now (out .entry)) (now (out .exit)) k ⌝ }
 {
     sheet_long(s);
     let n = b - a;
+    let m = e - p;
     let groups = s.groups;
     let head = part_head(groups, s.start + (a as u64), g);
-    let roots = part_roots(s.roots, a as u64, b as u64);
+    let x = place_of(rows, s.roots.count, a as u64);
+    let y = place_of(rows, s.roots.count, b as u64);
+    let k = y - x;
+    let less = less64(rows, x, k, a as u64);
     if groups.covered[g] == 0 {
         return put_bare(
             out,
             at,
             head,
             s.subject,
-            &s.rows.tags,
+            tags,
             a,
             n,
             f,
@@ -82,8 +96,15 @@ fn put_built(
             rd,
             io,
             id,
-            u,
+            children,
+            kinds,
+            handles,
+            p,
+            m,
+            &less,
             roots,
+            x,
+            k,
         );
     }
     let cover = part_cover(groups, s.rows, s.links, g, a, n);
@@ -92,7 +113,7 @@ fn put_built(
         at,
         head,
         s.subject,
-        &s.rows.tags,
+        tags,
         a,
         n,
         f,
@@ -104,16 +125,38 @@ fn put_built(
         rd,
         io,
         id,
-        u,
+        children,
+        kinds,
+        handles,
+        p,
+        m,
+        &less,
         roots,
+        x,
+        k,
         cover,
     )
 }
 
-// The file of group g from a place on. What the six slices hold does not matter: they are lent for the sets that are built.
-pub fn put_group(
+// The file of group g from a place on. The columns of the sheet are lent; what the slices after `at` hold does not matter: six are lent for the sets
+// that are built, seven are work space.
+pub fn put_group<'a>(
     s: Sheet,
     g: usize,
+    name: &'a [u8],
+    numbered: &[u8],
+    tags: &[u64],
+    chains: &'a [u32],
+    seqs: &'a [u32],
+    offsets: &'a [u64],
+    targets: &'a [u64],
+    children: &[u64],
+    kinds: &[u8],
+    handles: &[u32],
+    wide: &[u64],
+    flags: &[u64],
+    rows: &[u64],
+    roots: &[u64],
     out: &mut [u8],
     at: usize,
     fo: &mut [u64],
@@ -122,28 +165,43 @@ pub fn put_group(
     rd: &mut [i64],
     io: &mut [u64],
     id: &mut [i64],
+    cs: &mut [u64; 4096],
+    ps: &mut [u64; 4096],
+    ks: &mut [u64; 4096],
+    base: &mut [u64; 2049],
+    offs: &mut [u64; 2049],
+    list: &mut [u64; 4096],
+    w: &mut [u64; 4096],
 ) -> Put
     requires { ⌜ (sheetOk s ≡ true) × ((ordered s ≡ true) × (g < s .groups .count)) ⌝ }
-    requires { ⌜ (at + maxFileSize < end64) × (LongSlices (now fo) (now fd) (now ro) (now rd) (now io) (now id)) ⌝ }
+    requires { ⌜ (LongSheet s) × ((now numbered ≡ s .rows .groups) × (at + maxFileSize < end64)) ⌝ }
+    requires { ⌜ Lends s (now name) (s .subject .length) (s .start) (s .rows .count) (now offsets) (now targets) (s .edges .count) (now chains) (now seqs) (s .groups) ⌝ }
+    requires { ⌜ LendsRecords s (now tags) (now children) (now kinds) (now handles) (now rows) (now roots) ⌝ }
+    requires { ⌜ (Widened s (now wide) (now flags)) × (length (now wide) ≡ 1024) ⌝ }
+    requires { ⌜ LongSlices (now fo) (now fd) (now ro) (now rd) (now io) (now id) ⌝ }
     ensures { λ r. ⌜ PutBy (sheetIn s) g at (now (out .entry)) (now (out .exit)) r ⌝ }
 {
-    sheet_long(s);
-    let a = byte_place_of(&s.rows.groups, s.rows.count, g as u64);
-    let b = byte_place_of(&s.rows.groups, s.rows.count, (g + 1) as u64);
-    let u = part_unresolved(s.unresolved, s.start + (a as u64), s.start + (b as u64));
+    let a = byte_place_of(numbered, s.rows.count, g as u64);
+    let b = byte_place_of(numbered, s.rows.count, (g + 1) as u64);
+    let p = place_of(children, s.unresolved.count, s.start + (a as u64));
+    let q = place_of(children, s.unresolved.count, s.start + (b as u64));
     let e = lent_sets(
         s,
-        &s.subject.bytes,
+        name,
         s.subject.length,
         s.start,
         s.rows.count,
-        &s.edges.offsets,
-        &s.edges.targets,
+        offsets,
+        targets,
         s.edges.count,
-        &s.rows.chains,
-        &s.rows.seqs,
+        chains,
+        seqs,
         s.groups,
-        u,
+        children,
+        wide,
+        flags,
+        p,
+        q - p,
         g,
         a,
         b - a,
@@ -153,6 +211,13 @@ pub fn put_group(
         rd,
         io,
         id,
+        cs,
+        ps,
+        ks,
+        base,
+        offs,
+        list,
+        w,
     );
     match e {
         Encoded::Refused(x) => Put {
@@ -165,7 +230,14 @@ pub fn put_group(
                 g,
                 a,
                 b,
-                u,
+                p,
+                q,
+                tags,
+                children,
+                kinds,
+                handles,
+                rows,
+                roots,
                 c.forward,
                 c.reverse,
                 c.inbound,

@@ -1,4 +1,4 @@
--- A file to be written whose edge sets, and the column that its tags are part of, are lent and not held by value.
+-- A file to be written whose edge sets, and the columns that its tags and records are parts of, are lent and not held by value.
 use mathlib.Core.Bool.{false}
 use mathlib.Core.List.{List, _++_}
 use Prim.Native.Nat.{ℕ, _-_}
@@ -22,9 +22,18 @@ setsOf f r i fo fd ro rd io id = record {
   inbound = record { count = i; offsets = io; deltas = id };
 }
 
--- the tags of the n rows from row a on, at the front of a column
-unfoldable pub tagColumn : List ℕ → ℕ → ℕ → List ℕ
-tagColumn tags a n = part a n tags ++ replicate (maxRecords - n) 0
+-- the n entries of a column from place a on, at the front of another
+unfoldable pub partColumn : List ℕ → ℕ → ℕ → List ℕ
+partColumn column a n = part a n column ++ replicate (maxRecords - n) 0
+
+-- the n unresolved records from place a on
+abbrev pub lentUnresolved : List ℕ → List ℕ → List ℕ → ℕ → ℕ → Unresolved
+lentUnresolved children kinds handles a n =
+    record { count = n; children = partColumn children a n; kinds = partColumn kinds a n; handles = partColumn handles a n }
+
+-- n roots, whose rows stand at the front of a column, and whose handles stand from place a on
+abbrev pub lentRoots : List ℕ → List ℕ → ℕ → ℕ → Roots
+lentRoots rows handles a n = record { count = n; rows = rows; handles = partColumn handles a n }
 
 -- no cover, by columns that hold nothing
 unfoldable pub emptyColumn : List ℕ
@@ -42,7 +51,7 @@ abbrev pub lentFile : Head → Subject → List ℕ → ℕ → ℕ → Sets →
 lentFile head subject tags a n sets u roots cover = record {
   head = head;
   subject = subject;
-  rows = record { count = n; tags = tagColumn tags a n };
+  rows = record { count = n; tags = partColumn tags a n };
   sets = sets;
   unresolved = u;
   roots = roots;

@@ -30,7 +30,7 @@ fn edges_long(e: Edges)
     ensures { λ _. ⌜ LongEdges e ⌝ }
 {}
 
-fn unresolved_long(u: Unresolved)
+pub fn unresolved_long(u: Unresolved)
     ensures { λ _. ⌜ LongUnresolved u ⌝ }
 {}
 

@@ -1,6 +1,7 @@
 // The cleaned archive of a run's survivors: one file for each group, groups rising.
 use bigend_columns::store_bytes;
 use columns::refusal::Refusal;
+use group_sets::wide_kinds;
 use group_writer::put_group;
 use held::Sheet;
 use rules::slots::Ruling;
@@ -24,18 +25,40 @@ pub enum Writing {
     Refused(Refusal),
 }
 
-// Building's rules, group by group, and the length of all files, each of which is written where it has room.
+// Building's rules, group by group, and the length of all files, each of which is written where it has room. The sheet's columns are copied once, and
+// lent for every group, as is the work space.
 fn put_groups(s: Sheet, out: &mut [u8]) -> Measured
     requires { ⌜ (sheetOk s ≡ true) × (ordered s ≡ true) ⌝ }
     ensures { λ r. ⌜ Laid (sheetIn s) (now (out .entry)) (now (out .exit)) r ⌝ }
 {
     sheet_long(s);
+    let name = s.subject.bytes;
+    let numbered = s.rows.groups;
+    let tags = s.rows.tags;
+    let chains = s.rows.chains;
+    let seqs = s.rows.seqs;
+    let offsets = s.edges.offsets;
+    let targets = s.edges.targets;
+    let children = s.unresolved.children;
+    let kinds = s.unresolved.kinds;
+    let handles = s.unresolved.handles;
+    let wide = wide_kinds(s.unresolved);
+    let flags = [0u64; 1024];
+    let rows = s.roots.rows;
+    let roots = s.roots.handles;
     let mut fo = [0u64; 2049];
     let mut fd = [0i64; 4096];
     let mut ro = [0u64; 2049];
     let mut rd = [0i64; 4096];
     let mut io = [0u64; 2049];
     let mut id = [0i64; 4096];
+    let mut cs = [0u64; 4096];
+    let mut ps = [0u64; 4096];
+    let mut ks = [0u64; 4096];
+    let mut base = [0u64; 2049];
+    let mut offs = [0u64; 2049];
+    let mut list = [0u64; 4096];
+    let mut w = [0u64; 4096];
     let n = s.groups.count;
     let mut total: usize = 0;
     let mut g: usize = 0;
@@ -43,6 +66,20 @@ fn put_groups(s: Sheet, out: &mut [u8]) -> Measured
         let p = put_group(
             s,
             g,
+            &name,
+            &numbered,
+            &tags,
+            &chains,
+            &seqs,
+            &offsets,
+            &targets,
+            &children,
+            &kinds,
+            &handles,
+            &wide,
+            &flags,
+            &rows,
+            &roots,
             out,
             total,
             &mut fo,
@@ -51,6 +88,13 @@ fn put_groups(s: Sheet, out: &mut [u8]) -> Measured
             &mut rd,
             &mut io,
             &mut id,
+            &mut cs,
+            &mut ps,
+            &mut ks,
+            &mut base,
+            &mut offs,
+            &mut list,
+            &mut w,
         );
         let v = p.ruling;
         match v {

@@ -12,26 +12,43 @@ put-edges-requires : tie.Need-put-edges-requires
 put-edges-requires c κs = search needs
 
 put-rows-requires : tie.Need-put-rows-requires
-put-rows-requires c κs = search needs
+put-rows-requires c κs =
+    let after-edges = c .before .before .before in
+    let after-head = after-edges .before .before .before .before in
+    let start = after-head .before .before .before .before .before .before .before .before .before .before .before .before in (
+      omega (
+        arith,
+        start .pre .0 .0,
+        after-head .put-head .ensures .1,
+        after-edges .put-edges .ensures .1,
+        after-edges .before .before .before .out .given,
+        c .before .before .out2 .given,
+      ),
+      start .pre .1 .0 .0 .rows,
+      start .pre .0 .1,
+    )
 
 put-unresolved-requires : tie.Need-put-unresolved-requires
 put-unresolved-requires c κs =
     let after-rows = c .before .before .before in
     let after-edges = after-rows .before .before .before .before in
     let after-head = after-edges .before .before .before .before in
-    let start = after-head .before .before .before .before .before .before .before in (
-      omega (
-        arith,
-        start .pre .0 .0,
-        after-head .put-head .ensures .1,
-        after-edges .put-edges .ensures .1,
-        after-rows .put-rows .ensures .1,
-        after-edges .before .before .before .out .given,
-        after-rows .before .before .before .out2 .given,
-        c .before .before .out3 .given,
+    let start = after-head .before .before .before .before .before .before .before .before .before .before .before .before in
+    let records = start .pre .1 .1 .1 in (
+      (
+        omega (
+          arith,
+          start .pre .0 .0,
+          after-head .put-head .ensures .1,
+          after-edges .put-edges .ensures .1,
+          after-rows .put-rows .ensures .1,
+          after-edges .before .before .before .out .given,
+          after-rows .before .before .before .out2 .given,
+          c .before .before .out3 .given,
+        ),
+        start .pre .1 .0 .0 .unresolved,
       ),
-      start .pre .1 .0 .0 .unresolved,
-      start .pre .1 .1 .1 .0,
+      (records .children-there, (records .kinds-there, records .handles-there)),
     )
 
 put-roots-requires : tie.Need-put-roots-requires
@@ -40,21 +57,24 @@ put-roots-requires c κs =
     let after-rows = after-unresolved .before .before .before .before in
     let after-edges = after-rows .before .before .before .before in
     let after-head = after-edges .before .before .before .before in
-    let start = after-head .before .before .before .before .before .before .before in (
-      omega (
-        arith,
-        start .pre .0 .0,
-        after-head .put-head .ensures .1,
-        after-edges .put-edges .ensures .1,
-        after-rows .put-rows .ensures .1,
-        after-unresolved .put-unresolved .ensures .1,
-        after-edges .before .before .before .out .given,
-        after-rows .before .before .before .out2 .given,
-        after-unresolved .before .before .before .out3 .given,
-        c .before .before .out4 .given,
+    let start = after-head .before .before .before .before .before .before .before .before .before .before .before .before in
+    let records = start .pre .1 .1 .1 in (
+      (
+        omega (
+          arith,
+          start .pre .0 .0,
+          after-head .put-head .ensures .1,
+          after-edges .put-edges .ensures .1,
+          after-rows .put-rows .ensures .1,
+          after-unresolved .put-unresolved .ensures .1,
+          after-edges .before .before .before .out .given,
+          after-rows .before .before .before .out2 .given,
+          after-unresolved .before .before .before .out3 .given,
+          c .before .before .out4 .given,
+        ),
+        start .pre .1 .0 .0 .roots,
       ),
-      start .pre .1 .0 .0 .roots,
-      start .pre .1 .1 .1 .1,
+      (omega (arith, start .pre .1 .0 .0 .roots, records .rows-there), records .roots-there),
     )
 
 same-length : tie.Need-same-length
@@ -67,7 +87,7 @@ returns c =
     let after-rows = after-unresolved .before .before .before .before in
     let after-edges = after-rows .before .before .before .before in
     let after-head = after-edges .before .before .before .before in
-    let start = after-head .before .before .before .before .before .before .before in
+    let start = after-head .before .before .before .before .before .before .before .before .before .before .before .before in
     let x = start .args in
     let head = after-head .put-head .ensures in
     let edges = after-edges .put-edges .ensures in
@@ -75,7 +95,7 @@ returns c =
     let unresolved = after-unresolved .put-unresolved .ensures in
     let roots = after-roots .put-roots .ensures in (
       omega (arith, head .1, edges .1, rows .1, unresolved .1, roots .1),
-      five-laid (x .head) (x .subject) (x .tags .now) (x .a) (x .n) _ (x .u) (x .roots) (start .pre .1 .0 .0 .rows) (start .pre .0 .1) (x .at) (x .out .now)
+      five-laid (x .head) (x .subject) (x .tags .now) (x .a) (x .n) _ _ _ (start .pre .1 .0 .0 .rows) (start .pre .0 .1) (x .at) (x .out .now)
           (head .1) (edges .1) (rows .1) (unresolved .1) (head .0) (edges .0) (rows .0) (unresolved .0) (roots .0),
     )
 

@@ -1,5 +1,6 @@
 -- `group_sets::group_sets` meets its contract: what building leaves in six columns, or its refusal.
 use mathlib.Core.Path.{refl}
+use Rattle.group_sets.proofs.LentColumns.{records-there, records-are}
 use Rattle.group_sets.proofs.SetSizes.{value-refused, value-built}
 use borrow.Author.Needs.{needs}
 use Rattle.group_sets.proofs.group_sets.Statement.{statement}
@@ -7,6 +8,12 @@ use Rattle.group_sets.proofs.group_sets.Tie as tie
 
 sheet-long-requires : tie.Need-sheet-long-requires
 sheet-long-requires c κs = search needs
+
+unresolved-long-requires : tie.Need-unresolved-long-requires
+unresolved-long-requires c κs = search needs
+
+wide-kinds-requires : tie.Need-wide-kinds-requires
+wide-kinds-requires c κs = search needs
 
 slice-aggregate-lent-sets : tie.Need-slice-aggregate-lent-sets
 slice-aggregate-lent-sets c = search needs
@@ -26,15 +33,31 @@ slice-aggregate-lent-sets-5 c = search needs
 slice-aggregate-lent-sets-6 : tie.Need-slice-aggregate-lent-sets-6
 slice-aggregate-lent-sets-6 c = search needs
 
+slice-aggregate-lent-sets-7 : tie.Need-slice-aggregate-lent-sets-7
+slice-aggregate-lent-sets-7 c = search needs
+
+slice-aggregate-lent-sets-8 : tie.Need-slice-aggregate-lent-sets-8
+slice-aggregate-lent-sets-8 c = search needs
+
+slice-aggregate-lent-sets-9 : tie.Need-slice-aggregate-lent-sets-9
+slice-aggregate-lent-sets-9 c = search needs
+
 lent-sets-requires : tie.Need-lent-sets-requires
 lent-sets-requires c κs =
-    let s = c .before .before .before .before .before .before .before .before .before .before .before .before .before .before .before .before .before .before .before in
-    let long = c .before .before .before .before .before .before .before .before .before .before .before .before .before .before .before .before .before .before .sheet-long .ensures in (
+    let wide = c .before .before .before .before .before .before .before .before .before .before .before .before .before .before .before .before .before .before .before .before .before .before .before .before .before .before .before .before .wide-kinds .ensures in
+    let unresolved = c .before .before .before .before .before .before .before .before .before .before .before .before .before .before .before .before .before .before .before .before .before .before .before .before .before .before .before .before .before .before .unresolved-long .ensures in
+    let long = c .before .before .before .before .before .before .before .before .before .before .before .before .before .before .before .before .before .before .before .before .before .before .before .before .before .before .before .before .before .before .before .sheet-long .ensures in
+    let s = c .before .before .before .before .before .before .before .before .before .before .before .before .before .before .before .before .before .before .before .before .before .before .before .before .before .before .before .before .before .before .before .before in
+    let x = s .args in
+    let few = s .pre .1 .1 .0 in (
       (long, s .pre .0),
       (
         s .pre .1 .0,
         (
-          s .pre .1 .1,
+          (
+            records-there (x .u) few _ (unresolved .children) (unresolved .kindsGiven) (wide .1) (wide .0),
+            records-are (x .u) few _ (unresolved .children) (unresolved .kindsGiven) (wide .1) (s .pre .1 .1 .1),
+          ),
           (
             record {
               bytes-are = refl;
@@ -81,12 +104,17 @@ group-sets-spec =
     tie.close
     (tie.spec
     sheet-long-requires
+    unresolved-long-requires
+    wide-kinds-requires
     slice-aggregate-lent-sets
     slice-aggregate-lent-sets-2
     slice-aggregate-lent-sets-3
     slice-aggregate-lent-sets-4
     slice-aggregate-lent-sets-5
     slice-aggregate-lent-sets-6
+    slice-aggregate-lent-sets-7
+    slice-aggregate-lent-sets-8
+    slice-aggregate-lent-sets-9
     lent-sets-requires
     enum-known-e
     no-sets-requires

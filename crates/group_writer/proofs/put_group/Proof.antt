@@ -1,115 +1,129 @@
 -- `group_writer::put_group` meets its contract: building's refusal, or the file of the sets that it leaves.
-use mathlib.Core.Path.{refl}
 use native.Mathlib.Omega.{arith}
 use Rattle.group_parts.proofs.Sectioned.{group-few}
-use Rattle.group_file.proofs.Spans.{rows-within, records-within, spans, span-from, span-rises, span-rows, start-fits, end-fits, numbers-rise, unresolved-made}
+use Rattle.group_file.proofs.Spans.{span-from, span-rises, span-rows, start-fits, end-fits}
+use Rattle.group_writer.proofs.LentRecords.{spans-lent, rows-count, children-count, records-from, records-rise, records-there, records-given}
 use Rattle.group_writer.proofs.Assembled.{edges-few, put-broken, put-kept}
 use borrow.Author.Needs.{needs}
 use Rattle.group_writer.proofs.put_group.Statement.{statement}
 use Rattle.group_writer.proofs.put_group.Tie as tie
 
-sheet-long-requires : tie.Need-sheet-long-requires
-sheet-long-requires c κs = search needs
-
 byte-place-of-requires : tie.Need-byte-place-of-requires
 byte-place-of-requires c κs =
-    let s = c .before .before .before .before .before .before .before .before in
+    let s = c .before .before .before .before .before .before .before .before .before .before .before .before .before .before .before .before .before .before in
     let x = s .args in
-    let l = c .before .before .before .sheet-long .ensures in
     let k = s .pre .0 .0 in
-    omega (arith, rows-within (x .t1) l k, l .rows .groups)
+    let o = s .pre .0 .1 .0 in
+    let l = s .pre .1 .0 .0 in
+    rows-count (x .s) l k (s .pre .1 .0 .1 .0)
 
 add-byte-place-of : tie.Need-add-byte-place-of
 add-byte-place-of c =
-    let s = c .before .before .before .before .before .before .before .before .before .before .before .before in
+    let s = c .before .before .before .before .before .before .before .before .before .before .before .before .before .before .before .before .before .before .before in
     let x = s .args in
-    let l = c .before .before .before .before .before .before .before .sheet-long .ensures in
     let k = s .pre .0 .0 in
-    let few = group-few (x .t1) (x .g) l k (s .pre .0 .1 .0) (s .pre .0 .1 .1) in
+    let o = s .pre .0 .1 .0 in
+    let l = s .pre .1 .0 .0 in
+    let few = group-few (x .s) (x .g) l k o (s .pre .0 .1 .1) in
     search needs
 
 byte-place-of-requires-2 : tie.Need-byte-place-of-requires-2
 byte-place-of-requires-2 c κs =
-    let s = c .before .before .before .before .before .before .before .before .before .before .before .before in
+    let s = c .before .before .before .before .before .before .before .before .before .before .before .before .before .before .before .before .before .before .before in
     let x = s .args in
-    let l = c .before .before .before .before .before .before .before .sheet-long .ensures in
-    let k = s .pre .0 .0 in
-    omega (arith, rows-within (x .t1) l k, l .rows .groups)
-
-add-part-unresolved : tie.Need-add-part-unresolved
-add-part-unresolved c =
-    let s = c .before .before .before .before .before .before .before .before .before .before .before .before .before .before in
-    let x = s .args in
-    let l = c .before .before .before .before .before .before .before .before .before .sheet-long .ensures in
     let k = s .pre .0 .0 in
     let o = s .pre .0 .1 .0 in
-    let h = s .pre .0 .1 .1 in
-    let p = spans (x .t1) (x .g) (c .before .before .before .before .before .byte-place-of .ensures) (c .before .byte-place-of2 .ensures) in
-    start-fits (x .t1) (x .g) _ _ p l k o
+    let l = s .pre .1 .0 .0 in
+    rows-count (x .s) l k (s .pre .1 .0 .1 .0)
 
-add-part-unresolved-2 : tie.Need-add-part-unresolved-2
-add-part-unresolved-2 c =
-    let s = c .before .before .before .before .before .before .before .before .before .before .before .before .before .before in
+add-place-of : tie.Need-add-place-of
+add-place-of c =
+    let s = c .before .before .before .before .before .before .before .before .before .before .before .before .before .before .before .before .before .before .before .before .before in
     let x = s .args in
-    let l = c .before .before .before .before .before .before .before .before .before .sheet-long .ensures in
     let k = s .pre .0 .0 in
     let o = s .pre .0 .1 .0 in
-    let h = s .pre .0 .1 .1 in
-    let p = spans (x .t1) (x .g) (c .before .before .before .before .before .byte-place-of .ensures) (c .before .byte-place-of2 .ensures) in
-    end-fits (x .t1) (x .g) _ _ p l k o
+    let l = s .pre .1 .0 .0 in
+    let span = spans-lent (x .s) (x .g) (s .pre .1 .0 .1 .0) (c .before .before .byte-place-of .ensures) (c .before .byte-place-of2 .ensures) in
+    let w = s .pre .1 .1 .1 .0 in
+    start-fits (x .s) (x .g) _ _ span l k o
 
-part-unresolved-requires : tie.Need-part-unresolved-requires
-part-unresolved-requires c κs =
-    let s = c .before .before .before .before .before .before .before .before .before .before .before .before .before .before in
+place-of-requires : tie.Need-place-of-requires
+place-of-requires c κs =
+    let s = c .before .before .before .before .before .before .before .before .before .before .before .before .before .before .before .before .before .before .before .before .before in
     let x = s .args in
-    let l = c .before .before .before .before .before .before .before .before .before .sheet-long .ensures in
     let k = s .pre .0 .0 in
     let o = s .pre .0 .1 .0 in
-    let h = s .pre .0 .1 .1 in
-    let p = spans (x .t1) (x .g) (c .before .before .before .before .before .byte-place-of .ensures) (c .before .byte-place-of2 .ensures) in
-    (records-within (x .t1) l k, numbers-rise (x .t1) (x .g) _ _ p l k o)
+    let l = s .pre .1 .0 .0 in
+    let span = spans-lent (x .s) (x .g) (s .pre .1 .0 .1 .0) (c .before .before .byte-place-of .ensures) (c .before .byte-place-of2 .ensures) in
+    let w = s .pre .1 .1 .1 .0 in
+    children-count (x .s) (x .g) _ _ span l k o w
+
+add-place-of-2 : tie.Need-add-place-of-2
+add-place-of-2 c =
+    let s = c .before .before .before .before .before .before .before .before .before .before .before .before .before .before .before .before .before .before .before .before .before .before .before in
+    let x = s .args in
+    let k = s .pre .0 .0 in
+    let o = s .pre .0 .1 .0 in
+    let l = s .pre .1 .0 .0 in
+    let span = spans-lent (x .s) (x .g) (s .pre .1 .0 .1 .0) (c .before .before .before .before .byte-place-of .ensures) (c .before .before .before .byte-place-of2 .ensures) in
+    let w = s .pre .1 .1 .1 .0 in
+    end-fits (x .s) (x .g) _ _ span l k o
+
+place-of-requires-2 : tie.Need-place-of-requires-2
+place-of-requires-2 c κs =
+    let s = c .before .before .before .before .before .before .before .before .before .before .before .before .before .before .before .before .before .before .before .before .before .before .before in
+    let x = s .args in
+    let k = s .pre .0 .0 in
+    let o = s .pre .0 .1 .0 in
+    let l = s .pre .1 .0 .0 in
+    let span = spans-lent (x .s) (x .g) (s .pre .1 .0 .1 .0) (c .before .before .before .before .byte-place-of .ensures) (c .before .before .before .byte-place-of2 .ensures) in
+    let w = s .pre .1 .1 .1 .0 in
+    children-count (x .s) (x .g) _ _ span l k o w
 
 sub-lent-sets : tie.Need-sub-lent-sets
 sub-lent-sets c =
-    let s = c .before .before .before .before .before .before .before .before .before .before .before .before .before .before .before .before .before .before .before .before .before .before .before .before .before .before .before in
+    let s = c .before .before .before .before .before .before .before .before .before .before .before .before .before .before .before .before .before .before .before .before .before .before .before .before in
     let x = s .args in
-    let l = c .before .before .before .before .before .before .before .before .before .before .before .before .before .before .before .before .before .before .before .before .before .before .sheet-long .ensures in
     let k = s .pre .0 .0 in
     let o = s .pre .0 .1 .0 in
-    let h = s .pre .0 .1 .1 in
-    let p = spans (x .t1) (x .g) (c .before .before .before .before .before .before .before .before .before .before .before .before .before .before .before .before .before .before .byte-place-of .ensures) (c .before .before .before .before .before .before .before .before .before .before .before .before .before .before .byte-place-of2 .ensures) in
-    span-rises (x .t1) (x .g) _ _ p
+    let l = s .pre .1 .0 .0 in
+    let span = spans-lent (x .s) (x .g) (s .pre .1 .0 .1 .0) (c .before .before .before .before .before .byte-place-of .ensures) (c .before .before .before .before .byte-place-of2 .ensures) in
+    let w = s .pre .1 .1 .1 .0 in
+    let from = records-from (x .s) (x .g) _ _ span l k o w (c .before .before .place-of .ensures) (c .place-of2 .ensures) in
+    records-rise (x .s) (x .g) _ _ span l k o w _ _ from
+
+sub-lent-sets-2 : tie.Need-sub-lent-sets-2
+sub-lent-sets-2 c =
+    let s = c .before .before .before .before .before .before .before .before .before .before .before .before .before .before .before .before .before .before .before .before .before .before .before .before in
+    let x = s .args in
+    let k = s .pre .0 .0 in
+    let o = s .pre .0 .1 .0 in
+    let l = s .pre .1 .0 .0 in
+    let span = spans-lent (x .s) (x .g) (s .pre .1 .0 .1 .0) (c .before .before .before .before .before .byte-place-of .ensures) (c .before .before .before .before .byte-place-of2 .ensures) in
+    let w = s .pre .1 .1 .1 .0 in
+    let from = records-from (x .s) (x .g) _ _ span l k o w (c .before .before .place-of .ensures) (c .place-of2 .ensures) in
+    span-rises (x .s) (x .g) _ _ span
 
 lent-sets-requires : tie.Need-lent-sets-requires
 lent-sets-requires c κs =
-    let s = c .before .before .before .before .before .before .before .before .before .before .before .before .before .before .before .before .before .before .before .before .before .before .before .before .before .before .before .before .before .before .before .before .before in
+    let s = c .before .before .before .before .before .before .before .before .before .before .before .before .before .before .before .before .before .before .before .before .before .before .before .before .before .before .before .before .before .before .before .before .before .before .before .before .before in
     let x = s .args in
-    let l = c .before .before .before .before .before .before .before .before .before .before .before .before .before .before .before .before .before .before .before .before .before .before .before .before .before .before .before .before .sheet-long .ensures in
     let k = s .pre .0 .0 in
     let o = s .pre .0 .1 .0 in
-    let h = s .pre .0 .1 .1 in
-    let p = spans (x .t1) (x .g) (c .before .before .before .before .before .before .before .before .before .before .before .before .before .before .before .before .before .before .before .before .before .before .before .before .byte-place-of .ensures) (c .before .before .before .before .before .before .before .before .before .before .before .before .before .before .before .before .before .before .before .before .byte-place-of2 .ensures) in
-    let u = c .before .before .before .before .before .before .before .before .before .before .before .before .before .before .before .before .before .before .part-unresolved .ensures in (
+    let l = s .pre .1 .0 .0 in
+    let span = spans-lent (x .s) (x .g) (s .pre .1 .0 .1 .0) (c .before .before .before .before .before .before .before .before .before .before .before .before .before .before .before .before .before .before .byte-place-of .ensures) (c .before .before .before .before .before .before .before .before .before .before .before .before .before .before .before .before .before .byte-place-of2 .ensures) in
+    let w = s .pre .1 .1 .1 .0 in
+    let from = records-from (x .s) (x .g) _ _ span l k o w (c .before .before .before .before .before .before .before .before .before .before .before .before .before .before .before .place-of .ensures) (c .before .before .before .before .before .before .before .before .before .before .before .before .before .place-of2 .ensures) in
+    let wide = s .pre .1 .1 .1 .1 .0 in (
       (l, s .pre .0),
       (
-        (span-from (x .t1) (x .g) _ _ p, span-rows (x .t1) (x .g) _ _ p),
+        (span-from (x .s) (x .g) _ _ span, span-rows (x .s) (x .g) _ _ span),
         (
-          (u .1, unresolved-made (x .t1) (x .g) _ _ p l k o (u .0)),
           (
-            record {
-              bytes-are = refl;
-              size-is = refl;
-              start-is = refl;
-              total-is = refl;
-              offsets-are = refl;
-              targets-are = refl;
-              count-is = refl;
-              chains-are = refl;
-              seqs-are = refl;
-              groups-are = refl;
-            },
-            s .pre .1 .1,
+            records-there (x .s) (x .g) _ _ span l k o w _ _ from (wide .0) (wide .1),
+            records-given (x .s) (x .g) _ _ span l k o w _ _ from (wide .0),
           ),
+          (s .pre .1 .1 .0, s .pre .1 .1 .1 .1 .1),
         ),
       ),
     )
@@ -122,22 +136,22 @@ enum-known-e-2 c = search needs
 
 put-built-requires : tie.Need-put-built-requires
 put-built-requires c κs =
-    let s = c .before .before .before .before .before .before .before .before .before .before .before .before .before .before .before .before .before .before .before .before .before .before .before .before .before .before .before .before .before .before .before .before .before .before .before .before .before .before .before .before .before .before .before .before .before .before .before .before .before .before .before .before .before in
+    let s = c .before .before .before .before .before .before .before .before .before .before .before .before .before .before .before .before .before .before .before .before .before .before .before .before .before .before .before .before .before .before .before .before .before .before .before .before .before .before .before .before .before .before .before .before .before .before .before .before .before .before .before .before .before .before .before .before .before in
     let x = s .args in
-    let l = c .before .before .before .before .before .before .before .before .before .before .before .before .before .before .before .before .before .before .before .before .before .before .before .before .before .before .before .before .before .before .before .before .before .before .before .before .before .before .before .before .before .before .before .before .before .before .before .before .sheet-long .ensures in
     let k = s .pre .0 .0 in
     let o = s .pre .0 .1 .0 in
-    let h = s .pre .0 .1 .1 in
-    let p = spans (x .t1) (x .g) (c .before .before .before .before .before .before .before .before .before .before .before .before .before .before .before .before .before .before .before .before .before .before .before .before .before .before .before .before .before .before .before .before .before .before .before .before .before .before .before .before .before .before .before .before .byte-place-of .ensures) (c .before .before .before .before .before .before .before .before .before .before .before .before .before .before .before .before .before .before .before .before .before .before .before .before .before .before .before .before .before .before .before .before .before .before .before .before .before .before .before .before .byte-place-of2 .ensures) in
-    let u = c .before .before .before .before .before .before .before .before .before .before .before .before .before .before .before .before .before .before .before .before .before .before .before .before .before .before .before .before .before .before .before .before .before .before .before .before .before .before .part-unresolved .ensures in
-    let slices = s .pre .1 .1 in (
+    let l = s .pre .1 .0 .0 in
+    let span = spans-lent (x .s) (x .g) (s .pre .1 .0 .1 .0) (c .before .before .before .before .before .before .before .before .before .before .before .before .before .before .before .before .before .before .before .before .before .before .before .before .before .before .before .before .before .before .before .before .before .before .before .before .before .before .byte-place-of .ensures) (c .before .before .before .before .before .before .before .before .before .before .before .before .before .before .before .before .before .before .before .before .before .before .before .before .before .before .before .before .before .before .before .before .before .before .before .before .before .byte-place-of2 .ensures) in
+    let w = s .pre .1 .1 .1 .0 in
+    let from = records-from (x .s) (x .g) _ _ span l k o w (c .before .before .before .before .before .before .before .before .before .before .before .before .before .before .before .before .before .before .before .before .before .before .before .before .before .before .before .before .before .before .before .before .before .before .before .place-of .ensures) (c .before .before .before .before .before .before .before .before .before .before .before .before .before .before .before .before .before .before .before .before .before .before .before .before .before .before .before .before .before .before .before .before .before .place-of2 .ensures) in
+    let slices = s .pre .1 .1 .1 .1 .1 in (
       s .pre .0,
       (
-        (p, s .pre .1 .0),
+        (span, (from, s .pre .1 .0 .1 .1)),
         (
-          (unresolved-made (x .t1) (x .g) _ _ p l k o (u .0), u .1),
+          w,
           (
-            edges-few (x .t1) (x .g) _ _ _ _ _ _ _ _ (c .before .before .before .before .before .before .before .before .before .before .before .before .before .before .before .before .before .before .before .lent-sets .ensures) (x .at) (x .out .now) _ (c .before .before .before .before .before .before .before .before .e2 .given .1),
+            edges-few (x .s) (x .g) _ _ _ _ _ _ _ _ (c .before .before .before .before .before .before .before .before .before .before .before .before .before .before .before .before .before .before .before .lent-sets .ensures) (x .at) (x .out .now) _ (c .before .before .before .before .before .before .before .before .e2 .given .1),
             record {
               forward-offsets = omega (arith, c .before .before .before .before .before .before .before .before .before .before .before .before .before .before .before .before .before .before .fo .given, slices .forward-offsets);
               forward-deltas = omega (arith, c .before .before .before .before .before .before .before .before .before .before .before .before .before .before .before .before .fd .given, slices .forward-deltas);
@@ -171,8 +185,8 @@ same-length-6 c = search needs
 
 returns : tie.Need-returns
 returns c =
-    let x = c .before .before .before .before .before .before .before .before .before .before .before .before .before .before .before .before .before .before .before .before .before .before .before .before .before .before .before .before .before .before .before .before .before .before .before .before .before .before .before .before .before .before .before .before .before .before .args in
-    put-broken (x .t1) (x .g) _ _ _ _ _ _ _ _ (c .before .before .before .before .before .before .before .before .before .before .before .before .lent-sets .ensures) (x .at) (x .out .now) _ _ (c .before .e .given .1)
+    let x = c .before .before .before .before .before .before .before .before .before .before .before .before .before .before .before .before .before .before .before .before .before .before .before .before .before .before .before .before .before .before .before .before .before .before .before .before .before .before .before .before .before .before .before .before .before .before .before .before .before .before .args in
+    put-broken (x .s) (x .g) _ _ _ _ _ _ _ _ (c .before .before .before .before .before .before .before .before .before .before .before .before .lent-sets .ensures) (x .at) (x .out .now) _ _ (c .before .e .given .1)
 
 same-length-7 : tie.Need-same-length-7
 same-length-7 c = search needs
@@ -197,21 +211,22 @@ same-length-13 c = search needs
 
 returns-2 : tie.Need-returns-2
 returns-2 c =
-    let x = c .before .before .before .before .before .before .before .before .before .before .before .before .before .before .before .before .before .before .before .before .before .before .before .before .before .before .before .before .before .before .before .before .before .before .before .before .before .before .before .before .before .before .before .before .before .before .before .before .before .before .before .before .before .before .before .before .args in
-    put-kept (x .t1) (x .g) _ _ _ _ _ _ _ _ (c .before .before .before .before .before .before .before .before .before .before .before .before .before .before .before .before .before .before .before .before .before .before .lent-sets .ensures) (x .at) (x .out .now) _ (c .before .before .before .before .before .before .before .before .before .before .before .e2 .given .1) (c .before .before .put-built .ensures)
+    let x = c .before .before .before .before .before .before .before .before .before .before .before .before .before .before .before .before .before .before .before .before .before .before .before .before .before .before .before .before .before .before .before .before .before .before .before .before .before .before .before .before .before .before .before .before .before .before .before .before .before .before .before .before .before .before .before .before .before .before .before .before .args in
+    put-kept (x .s) (x .g) _ _ _ _ _ _ _ _ (c .before .before .before .before .before .before .before .before .before .before .before .before .before .before .before .before .before .before .before .before .before .before .lent-sets .ensures) (x .at) (x .out .now) _ (c .before .before .before .before .before .before .before .before .before .before .before .e2 .given .1) (c .before .before .put-built .ensures)
 
 pub put-group-spec : {M : Type 1} → statement M
 put-group-spec =
     tie.close
     (tie.spec
-    sheet-long-requires
     byte-place-of-requires
     add-byte-place-of
     byte-place-of-requires-2
-    add-part-unresolved
-    add-part-unresolved-2
-    part-unresolved-requires
+    add-place-of
+    place-of-requires
+    add-place-of-2
+    place-of-requires-2
     sub-lent-sets
+    sub-lent-sets-2
     lent-sets-requires
     enum-known-e
     enum-known-e-2

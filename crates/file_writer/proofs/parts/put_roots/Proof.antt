@@ -1,24 +1,29 @@
 -- `file_writer::parts::put_roots` meets its contract.
-use Rattle.file_writer.proofs.Taken.{taken, even, roots-room, roots-short, roots-end, roots-put}
+use Rattle.file_writer.proofs.Taken.{rows-taken, roots-room, roots-short, roots-end, roots-even, roots-put}
 use borrow.Author.Needs.{needs}
-use native.Mathlib.Omega.{arith}
 use Rattle.file_writer.proofs.parts.put_roots.Statement.{statement}
 use Rattle.file_writer.proofs.parts.put_roots.Tie as tie
 
-array-share-prefix-rows : tie.Need-array-share-prefix-rows
-array-share-prefix-rows c = omega arith
+add-b : tie.Need-add-b
+add-b c = search needs
 
 slice-aggregate-record-roots : tie.Need-slice-aggregate-record-roots
-slice-aggregate-record-roots c = search taken
+slice-aggregate-record-roots c = search rows-taken
 
-array-share-prefix-handles : tie.Need-array-share-prefix-handles
-array-share-prefix-handles c = omega arith
+mul-record-roots : tie.Need-mul-record-roots
+mul-record-roots c = search needs
 
-slice-aggregate-record-roots-2 : tie.Need-slice-aggregate-record-roots-2
-slice-aggregate-record-roots-2 c = search taken
+sub-record-roots : tie.Need-sub-record-roots
+sub-record-roots c = search needs
+
+part-record-roots-start : tie.Need-part-record-roots-start
+part-record-roots-start c = search needs
+
+part-record-roots-end : tie.Need-part-record-roots-end
+part-record-roots-end c = search needs
 
 record-roots-requires : tie.Need-record-roots-requires
-record-roots-requires c κs = (search even, search roots-room, search roots-short)
+record-roots-requires c κs = (search roots-even, search roots-room, search roots-short)
 
 same-length : tie.Need-same-length
 same-length c = search needs
@@ -30,10 +35,12 @@ pub put-roots-spec : {M : Type 1} → statement M
 put-roots-spec =
     tie.close
     (tie.spec
-    array-share-prefix-rows
+    add-b
     slice-aggregate-record-roots
-    array-share-prefix-handles
-    slice-aggregate-record-roots-2
+    mul-record-roots
+    sub-record-roots
+    part-record-roots-start
+    part-record-roots-end
     record-roots-requires
     same-length
     returns)

@@ -1,30 +1,47 @@
 -- `file_writer::parts::put_unresolved` meets its contract.
-use Rattle.file_writer.proofs.Taken.{taken, even, unresolved-room, unresolved-short, unresolved-end, unresolved-put}
+use Rattle.file_writer.proofs.Taken.{parts-even, unresolved-room, unresolved-short, unresolved-end, unresolved-put}
 use borrow.Author.Needs.{needs}
-use native.Mathlib.Omega.{arith}
 use Rattle.file_writer.proofs.parts.put_unresolved.Statement.{statement}
 use Rattle.file_writer.proofs.parts.put_unresolved.Tie as tie
 
-array-share-prefix-children : tie.Need-array-share-prefix-children
-array-share-prefix-children c = omega arith
+add-b : tie.Need-add-b
+add-b c = search needs
 
-slice-aggregate-record-unresolved : tie.Need-slice-aggregate-record-unresolved
-slice-aggregate-record-unresolved c = search taken
+mul-record-unresolved : tie.Need-mul-record-unresolved
+mul-record-unresolved c = search needs
 
-array-share-prefix-kinds : tie.Need-array-share-prefix-kinds
-array-share-prefix-kinds c = omega arith
+sub-record-unresolved : tie.Need-sub-record-unresolved
+sub-record-unresolved c = search needs
 
-slice-aggregate-record-unresolved-2 : tie.Need-slice-aggregate-record-unresolved-2
-slice-aggregate-record-unresolved-2 c = search taken
+part-record-unresolved-start : tie.Need-part-record-unresolved-start
+part-record-unresolved-start c = search needs
 
-array-share-prefix-handles : tie.Need-array-share-prefix-handles
-array-share-prefix-handles c = omega arith
+part-record-unresolved-end : tie.Need-part-record-unresolved-end
+part-record-unresolved-end c = search needs
 
-slice-aggregate-record-unresolved-3 : tie.Need-slice-aggregate-record-unresolved-3
-slice-aggregate-record-unresolved-3 c = search taken
+sub-record-unresolved-2 : tie.Need-sub-record-unresolved-2
+sub-record-unresolved-2 c = search needs
+
+part-record-unresolved-start-2 : tie.Need-part-record-unresolved-start-2
+part-record-unresolved-start-2 c = search needs
+
+part-record-unresolved-end-2 : tie.Need-part-record-unresolved-end-2
+part-record-unresolved-end-2 c = search needs
+
+mul-record-unresolved-2 : tie.Need-mul-record-unresolved-2
+mul-record-unresolved-2 c = search needs
+
+sub-record-unresolved-3 : tie.Need-sub-record-unresolved-3
+sub-record-unresolved-3 c = search needs
+
+part-record-unresolved-start-3 : tie.Need-part-record-unresolved-start-3
+part-record-unresolved-start-3 c = search needs
+
+part-record-unresolved-end-3 : tie.Need-part-record-unresolved-end-3
+part-record-unresolved-end-3 c = search needs
 
 record-unresolved-requires : tie.Need-record-unresolved-requires
-record-unresolved-requires c κs = ((search even, search even), (search unresolved-room, search unresolved-short))
+record-unresolved-requires c κs = ((search parts-even, search parts-even), (search unresolved-room, search unresolved-short))
 
 same-length : tie.Need-same-length
 same-length c = search needs
@@ -36,12 +53,18 @@ pub put-unresolved-spec : {M : Type 1} → statement M
 put-unresolved-spec =
     tie.close
     (tie.spec
-    array-share-prefix-children
-    slice-aggregate-record-unresolved
-    array-share-prefix-kinds
-    slice-aggregate-record-unresolved-2
-    array-share-prefix-handles
-    slice-aggregate-record-unresolved-3
+    add-b
+    mul-record-unresolved
+    sub-record-unresolved
+    part-record-unresolved-start
+    part-record-unresolved-end
+    sub-record-unresolved-2
+    part-record-unresolved-start-2
+    part-record-unresolved-end-2
+    mul-record-unresolved-2
+    sub-record-unresolved-3
+    part-record-unresolved-start-3
+    part-record-unresolved-end-3
     record-unresolved-requires
     same-length
     returns)
