@@ -14,10 +14,11 @@ ghost use mathlib.Core.Bool.{true};
 ghost use Rattle.cleaning.specs.Held.{nothing};
 ghost use Rattle.held.specs.View.{heldIn};
 ghost use Rattle.held.specs.Valid.{heldOk};
+ghost use Rattle.held.specs.Blank.{blank};
 
-// What is held of no sources.
+// What is held of no sources: every column is all zeros.
 pub fn fresh() -> Held
-    ensures { λ r. ⌜ (heldIn r ≡ nothing) × (heldOk r ≡ true) ⌝ }
+    ensures { λ r. ⌜ (heldIn r ≡ nothing) × ((heldOk r ≡ true) × (r ≡ blank)) ⌝ }
 {
     let flags = [0u8; 1024];
     let numbers = [0u64; 1024];

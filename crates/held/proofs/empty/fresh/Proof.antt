@@ -3,14 +3,15 @@ use mathlib.Core.Path.{refl}
 use Rattle.cleaning.specs.Computes.{computes}
 use Rattle.held.specs.View.{slotsIn, sheetIn, heldIn}
 use Rattle.held.specs.Valid.{edgesOk, countsOk, below, earlier, recordsOk, sheetOk, heldOk}
+use Rattle.held.specs.Blank.{blank}
 use Rattle.held.proofs.empty.fresh.Statement.{statement}
 use Rattle.held.proofs.empty.fresh.Tie as tie
 use Rattle.held.proofs.empty.fresh.Reads as reads
 use Rattle.held.proofs.empty.fresh.Lts as lts
 
 returns : tie.Need-returns
-unfolding computes slotsIn sheetIn heldIn edgesOk countsOk below earlier recordsOk sheetOk heldOk
-returns c = (refl, refl)
+unfolding computes slotsIn sheetIn heldIn edgesOk countsOk below earlier recordsOk sheetOk heldOk blank
+returns c = (refl, (refl, refl))
 
 pub fresh-spec : {M : Type 1} → statement M
 fresh-spec = tie.close (tie.spec returns)
