@@ -22,25 +22,13 @@ slice-snoc i p l h k = ap (drop i) (take-suc l p 0 k) ∙ drop-append-le i (take
 -- ── copies ───────────────────────────────────────────────────────────────────────────────────
 
 -- what stands behind the first entries, once they are all there
-behind : (was all vs : List ℕ) (end m : ℕ) → take (end + m) all ≡ take end was ++ vs → end + m ≤ 1024 → length was ≡ 1024 → Appended end m was all vs
+pub behind : (was all vs : List ℕ) (end m : ℕ) → take (end + m) all ≡ take end was ++ vs → end + m ≤ 1024 → length was ≡ 1024 → Appended end m was all vs
 behind was all vs end m e h l =
     let q = length-take-le end was (omega arith) in
     record {
       kept = sym (take-take end (end + m) all (omega arith)) ∙ ap (take end) e ∙ take-at (take end was) vs end q;
       added = ap (drop end) e ∙ drop-at (take end was) vs end q;
     }
-
-pub copy-done : (was all xs : List ℕ) (end n i m : ℕ) → take end was ++ take m xs ≡ take n all ++ slice i m xs → n ≡ end + i → i ≤ m → m ≤ i
-    → end + m ≤ 1024 → length was ≡ 1024 → Appended end m was all (take m xs)
-copy-done was all xs end n i m e f h k o l =
-    let q : end + m ≡ n = omega arith in
-    behind was all (take m xs) end m (rw (q, e, slice-none i m xs k, append-nil)) o l
-
-pub copy-on : {t : List ℕ} (all xs : List ℕ) (end n i m : ℕ) → t ≡ take n all ++ slice i m xs → n ≡ end + i → i < m → m ≤ length xs → end + m ≤ 1024 → length all ≡ 1024
-    → t ≡ take (n + 1) (set all n (getD xs i 0)) ++ slice (i + 1) m xs
-copy-on all xs end n i m e f h k o l =
-    let b : n < length all = omega arith in
-    rw (e, slice-cons i m xs 0 h k, add-one n, add-one i, take-suc-set all n (getD xs i 0) b, append-assoc)
 
 pub fill-start : (m g : ℕ) (xs : List ℕ) → xs ++ replicate m g ≡ xs ++ replicate (m - 0) g
 fill-start m g xs = let z : m - 0 ≡ m = omega arith in rw z

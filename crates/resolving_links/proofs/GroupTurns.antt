@@ -18,6 +18,7 @@ use Rattle.lists.proofs.Filters.{filter-all}
 use Rattle.lists.proofs.Flat.{flat-ext, upFrom-append}
 use Rattle.lists.proofs.Pairs.{each-upFrom}
 use Rattle.cover.specs.Chains.{sortLinks}
+use Rattle.cover.specs.Places.{rowAt}
 use Rattle.cleaning.specs.Sheet.{GroupLink, linksOf}
 use Rattle.cleaning.specs.Survivors.{sortGroups}
 use Rattle.cleaning.proofs.GroupLinks.{inGroup, links-append, links-none}
@@ -28,16 +29,16 @@ use Rattle.held.specs.View.{listed, linkAt}
 unfoldable pub groupsLeft : Links → ℕ → ℕ → ℕ → List GroupLink
 groupsLeft l count i g = flat (λ k. inGroup k (sortLinks (linksOf (map (linkAt l) (upFrom i (l .count - i))) k))) (upFrom g (count - g))
 
-pub left-start : (l out : Links) (count : ℕ) → out .count ≡ 0 → sortGroups count (listed (linkAt l) (l .count)) ≡ listed (linkAt out) (out .count) ++ groupsLeft l count 0 0
+pub left-start : (l q : Links) (count : ℕ) → sortGroups count (listed (linkAt l) (l .count)) ≡ listed (linkAt q) 0 ++ groupsLeft l count 0 0
 unfolding groupsLeft sortGroups upFrom
-left-start l out count e =
+left-start l q count =
     let z : l .count - 0 ≡ l .count = omega arith in
     let y : count - 0 ≡ count = omega arith in
-    rw (e, z, y)
+    rw (z, y)
 
-pub left-done : {t : List GroupLink} (l out : Links) (count i g : ℕ) → t ≡ listed (linkAt out) (out .count) ++ groupsLeft l count i g → count ≤ g → listed (linkAt out) (out .count) ≡ t
+pub left-done : {t : List GroupLink} (l q : Links) (k count i g : ℕ) → t ≡ listed (linkAt q) k ++ groupsLeft l count i g → count ≤ g → listed (linkAt q) k ≡ t
 unfolding groupsLeft upFrom
-left-done l out count i g e h = let z : count - g ≡ 0 = omega arith in rw (e, z, append-nil)
+left-done l q k count i g e h = let z : count - g ≡ 0 = omega arith in rw (e, z, append-nil)
 
 -- ── groups that don't fall ───────────────────────────────────────────────────────────────────
 
@@ -133,13 +134,17 @@ module _ (l : Links) (long : length (l .groups) ≡ 1024) (few : l .count ≤ 10
         after : (m : ℕ) (f : ℕ → List GroupLink) → f ≡ (λ n. inGroup n (sortLinks (linksOf rest n))) → flat f (upFrom (suc g) m) ≡ flat (λ n. inGroup n (sortLinks (linksOf rest n))) (upFrom (g + 1) m)
         after m f e = rw (e, add-one)
 
-pub left-next : {t : List GroupLink} (l out q : Links) (count i j b g : ℕ) → length (l .groups) ≡ 1024 → l .count ≤ 1024 → t ≡ listed (linkAt out) (out .count) ++ groupsLeft l count i g
+links-at : (l : Links) (ps : List ℕ) → map (rowAt (l .from .chains) (l .from .seqs) (l .to .chains) (l .to .seqs)) ps ≡ map (λ p. (linkAt l p) .link) ps
+unfolding linkAt rowAt
+links-at l ps = refl
+
+pub left-next : {t : List GroupLink} (l out q : Links) (k r count i j b g : ℕ) → length (l .groups) ≡ 1024 → l .count ≤ 1024 → t ≡ listed (linkAt out) k ++ groupsLeft l count i g
     → g < count → b ≡ g → i ≤ j → j ≤ l .count → all (eqb b) (slice i j (l .groups)) ≡ true → levelAbove (b + 1) (slice j (l .count) (l .groups)) ≡ true
-    → listed (linkAt q) (q .count) ≡ listed (linkAt out) (out .count) ++ inGroup b (sortLinks (map (λ p. (linkAt l p) .link) (upFrom i (j - i))))
-    → t ≡ listed (linkAt q) (q .count) ++ groupsLeft l count j (g + 1)
-left-next l out q count i j b g long few e o n h k own level f =
-    let os = listed (linkAt out) (out .count) in
+    → listed (linkAt q) r ≡ listed (linkAt out) k ++ inGroup b (sortLinks (map (rowAt (l .from .chains) (l .from .seqs) (l .to .chains) (l .to .seqs)) (upFrom i (j - i))))
+    → t ≡ listed (linkAt q) r ++ groupsLeft l count j (g + 1)
+left-next l out q k r count i j b g long few e o n h m own level f =
+    let os = listed (linkAt out) k in
     let s = inGroup g (sortLinks (map (λ p. (linkAt l p) .link) (upFrom i (j - i)))) in
-    let f′ : listed (linkAt q) (q .count) ≡ os ++ s = rw n at f in
-    e ∙ ap (λ xs. os ++ xs) (left-turn l long few i j g h k (rw n at own) (rw n at level) count o)
+    let f′ : listed (linkAt q) r ≡ os ++ s = rw n at (rw (links-at l (upFrom i (j - i))) at f) in
+    e ∙ ap (λ xs. os ++ xs) (left-turn l long few i j g h m (rw n at own) (rw n at level) count o)
     ∙ sym (append-assoc os s (groupsLeft l count j (g + 1))) ∙ ap (λ xs. xs ++ groupsLeft l count j (g + 1)) (sym f′)

@@ -11,11 +11,12 @@ ghost use lib.Seq.{slice};
 ghost use Rattle.lists.specs.Lists.{all, upFrom};
 ghost use Rattle.lists.specs.Order.{levelAbove, notFalling};
 ghost use Rattle.cover.specs.Chains.{sortLinks};
+ghost use Rattle.cover.specs.Cover as cover;
 ghost use Rattle.cover.specs.Places.{rowAt};
 ghost use Rattle.cleaning.specs.Survivors.{sortGroups};
 ghost use Rattle.cleaning.proofs.GroupLinks.{inGroup};
 ghost use Rattle.held.specs.View.{listed, linkAt};
-ghost use Rattle.resolving_links.specs.Sorted.{LinksSorted, Appended, EndsAdded, LinksAdded};
+ghost use Rattle.resolving_links.specs.Sorted.{linksOf, Appended, SortedBehind};
 
 fn byte(g: usize) -> u8
     requires { ⌜ g < 256 ⌝ }
@@ -40,24 +41,10 @@ fn end_of(groups: &[u8], i: usize, n: usize, g: u8) -> usize
     p
 }
 
-// The first m numbers of a column behind the first `end` of another.
-fn append(all: &mut [u32; 1024], end: usize, xs: &[u32], m: usize)
-    requires { ⌜ (m ≤ length (now xs)) × ((end + m ≤ 1024) × (length (now all) ≡ 1024)) ⌝ }
-    ensures { λ _. ⌜ Appended end m (now (all .entry)) (now (all .exit)) (take m (now (xs .entry))) × (length (now (all .exit)) ≡ 1024) ⌝ }
-{
-    let mut n = end;
-    let mut i: usize = 0;
-    while i < m {
-        all[n] = xs[i];
-        n += 1;
-        i += 1;
-    }
-}
-
 // The number of a group m times behind the first `end` of a column.
-fn fill(all: &mut [u8; 1024], end: usize, g: u8, m: usize)
+fn fill(all: &mut [u8], end: usize, g: u8, m: usize)
     requires { ⌜ (end + m ≤ 1024) × (length (now all) ≡ 1024) ⌝ }
-    ensures { λ _. ⌜ Appended end m (now (all .entry)) (now (all .exit)) (replicate m g) × (length (now (all .exit)) ≡ 1024) ⌝ }
+    ensures { λ _. ⌜ Appended end m (now (all .entry)) (now (all .exit)) (replicate m g) ⌝ }
 {
     let mut n = end;
     let mut i: usize = 0;
@@ -68,21 +55,142 @@ fn fill(all: &mut [u8; 1024], end: usize, g: u8, m: usize)
     }
 }
 
-// The links at places i to j, sorted, repeats dropped.
-fn sort_part(a: &[u32], b: &[u32], c: &[u32], d: &[u32], i: usize, j: usize) -> Links
-    requires { ⌜ (i ≤ j) × (j ≤ 1024) ⌝ }
-    requires { ⌜ (length (now a) ≡ 1024) × ((length (now b) ≡ 1024) × ((length (now c) ≡ 1024) × (length (now d) ≡ 1024))) ⌝ }
-    ensures { λ r. ⌜ LinksSorted (map (rowAt (now (a .entry)) (now (b .entry)) (now (c .entry)) (now (d .entry))) (upFrom i (j - i))) r ⌝ }
+// Links sorted, repeats dropped, behind the first k links of four columns; answers how many they are.
+fn sort_behind(
+    a: &[u32],
+    b: &[u32],
+    c: &[u32],
+    d: &[u32],
+    k: usize,
+    x: &mut [u32],
+    y: &mut [u32],
+    z: &mut [u32],
+    w: &mut [u32],
+) -> usize
+    requires { ⌜ (length (now b) ≡ length (now a)) × ((length (now c) ≡ length (now a)) × (length (now d) ≡ length (now a))) ⌝ }
+    requires { ⌜ k + length (now a) ≤ 1024 ⌝ }
+    requires { ⌜ (length (now x) ≡ 1024) × ((length (now y) ≡ 1024) × ((length (now z) ≡ 1024) × (length (now w) ≡ 1024))) ⌝ }
+    ensures { λ r. ⌜ SortedBehind (cover.linksOf (now (a .entry)) (now (b .entry)) (now (c .entry)) (now (d .entry))) k r (now (x .entry)) (now (y .entry)) (now (z .entry)) (now (w .entry)) (now (x .exit)) (now (y .exit)) (now (z .exit)) (now (w .exit)) ⌝ }
 {
-    let mut x = [0u32; 1024];
-    let mut y = [0u32; 1024];
-    let mut z = [0u32; 1024];
-    let mut w = [0u32; 1024];
-    let n = cover_sort::sort_links(
-        &a[i..j],
-        &b[i..j],
-        &c[i..j],
-        &d[i..j],
+    cover_sort::sort_links(
+        a,
+        b,
+        c,
+        d,
+        &mut x[k..],
+        &mut y[k..],
+        &mut z[k..],
+        &mut w[k..],
+    )
+}
+
+// The same for the links at places i to j.
+fn sort_part(
+    a: &[u32],
+    b: &[u32],
+    c: &[u32],
+    d: &[u32],
+    i: usize,
+    j: usize,
+    k: usize,
+    x: &mut [u32],
+    y: &mut [u32],
+    z: &mut [u32],
+    w: &mut [u32],
+) -> usize
+    requires { ⌜ (i ≤ j) × ((j ≤ 1024) × (k ≤ i)) ⌝ }
+    requires { ⌜ (length (now a) ≡ 1024) × ((length (now b) ≡ 1024) × ((length (now c) ≡ 1024) × (length (now d) ≡ 1024))) ⌝ }
+    requires { ⌜ (length (now x) ≡ 1024) × ((length (now y) ≡ 1024) × ((length (now z) ≡ 1024) × (length (now w) ≡ 1024))) ⌝ }
+    ensures { λ r. ⌜ SortedBehind (map (rowAt (now (a .entry)) (now (b .entry)) (now (c .entry)) (now (d .entry))) (upFrom i (j - i))) k r (now (x .entry)) (now (y .entry)) (now (z .entry)) (now (w .entry)) (now (x .exit)) (now (y .exit)) (now (z .exit)) (now (w .exit)) ⌝ }
+{
+    sort_behind(&a[i..j], &b[i..j], &c[i..j], &d[i..j], k, x, y, z, w)
+}
+
+// The links at places i to j, sorted, behind those of the groups before; answers how many there are.
+fn add_group(
+    a: &[u32],
+    b: &[u32],
+    c: &[u32],
+    d: &[u32],
+    i: usize,
+    j: usize,
+    g: u8,
+    k: usize,
+    out: &mut [u8; 1024],
+    x: &mut [u32; 1024],
+    y: &mut [u32; 1024],
+    z: &mut [u32; 1024],
+    w: &mut [u32; 1024],
+) -> usize
+    requires { ⌜ (i ≤ j) × ((j ≤ 1024) × (k ≤ i)) ⌝ }
+    requires { ⌜ (length (now a) ≡ 1024) × ((length (now b) ≡ 1024) × ((length (now c) ≡ 1024) × (length (now d) ≡ 1024))) ⌝ }
+    ensures { λ r. ⌜ r ≤ j ⌝ }
+    ensures { λ r. ⌜ listed (linkAt (linksOf r (now (out .exit)) (now (x .exit)) (now (y .exit)) (now (z .exit)) (now (w .exit)))) r ≡ listed (linkAt (linksOf k (now (out .entry)) (now (x .entry)) (now (y .entry)) (now (z .entry)) (now (w .entry)))) k
+        ++ inGroup g (sortLinks (map (rowAt (now (a .entry)) (now (b .entry)) (now (c .entry)) (now (d .entry))) (upFrom i (j - i)))) ⌝ }
+{
+    let m = sort_part(a, b, c, d, i, j, k, x, y, z, w);
+    fill(out, k, g, m);
+    k + m
+}
+
+// The n links of `count` groups, each group's sorted, repeats dropped, into columns that are lent; answers how many they are.
+pub fn sort_into(
+    groups: &[u8],
+    a: &[u32],
+    b: &[u32],
+    c: &[u32],
+    d: &[u32],
+    n: usize,
+    count: usize,
+    out: &mut [u8; 1024],
+    x: &mut [u32; 1024],
+    y: &mut [u32; 1024],
+    z: &mut [u32; 1024],
+    w: &mut [u32; 1024],
+) -> usize
+    requires { ⌜ (n ≤ 1024) × ((count ≤ 16) × (notFalling (take n (now groups)) ≡ true)) ⌝ }
+    requires { ⌜ length (now groups) ≡ 1024 ⌝ }
+    requires { ⌜ (length (now a) ≡ 1024) × ((length (now b) ≡ 1024) × ((length (now c) ≡ 1024) × (length (now d) ≡ 1024))) ⌝ }
+    ensures { λ r. ⌜ (r ≤ 1024) × (listed (linkAt (linksOf r (now (out .exit)) (now (x .exit)) (now (y .exit)) (now (z .exit)) (now (w .exit)))) r
+        ≡ sortGroups count (listed (linkAt (linksOf n (now (groups .entry)) (now (a .entry)) (now (b .entry)) (now (c .entry)) (now (d .entry)))) n)) ⌝ }
+{
+    let mut k: usize = 0;
+    let mut i: usize = 0;
+    let mut g: usize = 0;
+    while g < count {
+        let t = byte(g);
+        let j = end_of(groups, i, n, t);
+        k = add_group(a, b, c, d, i, j, t, k, out, x, y, z, w);
+        i = j;
+        g += 1;
+    }
+    k
+}
+
+// The links of `count` groups, each group's sorted, repeats dropped.
+pub fn sort_groups(l: Links, count: usize) -> Links
+    requires { ⌜ (l .count ≤ 1024) × ((count ≤ 16) × (notFalling (take (l .count) (l .groups)) ≡ true)) ⌝ }
+    ensures { λ q. ⌜ (q .count ≤ 1024) × (listed (linkAt q) (q .count) ≡ sortGroups count (listed (linkAt l) (l .count))) ⌝ }
+{
+    let groups = l.groups;
+    let a = l.from.chains;
+    let b = l.from.seqs;
+    let c = l.to.chains;
+    let d = l.to.seqs;
+    let mut out = groups;
+    let mut x = a;
+    let mut y = b;
+    let mut z = c;
+    let mut w = d;
+    let n = sort_into(
+        &groups,
+        &a,
+        &b,
+        &c,
+        &d,
+        l.count,
+        count,
+        &mut out,
         &mut x,
         &mut y,
         &mut z,
@@ -92,73 +200,8 @@ fn sort_part(a: &[u32], b: &[u32], c: &[u32], d: &[u32], i: usize, j: usize) -> 
     let to = Ends { chains: z, seqs: w };
     Links {
         count: n,
-        groups: [0u8; 1024],
+        groups: out,
         from: from,
         to: to,
     }
-}
-
-// The first m of one side of links behind the first k of another.
-fn add_ends(out: Ends, s: Ends, k: usize, m: usize) -> Ends
-    requires { ⌜ k + m ≤ 1024 ⌝ }
-    ensures { λ q. ⌜ EndsAdded k m s out q ⌝ }
-{
-    let mut q = out;
-    append(&mut q.chains, k, &s.chains, m);
-    append(&mut q.seqs, k, &s.seqs, m);
-    q
-}
-
-// Links of one group behind others.
-fn add_links(out: Links, s: Links, g: u8) -> Links
-    requires { ⌜ out .count + s .count ≤ 1024 ⌝ }
-    ensures { λ q. ⌜ LinksAdded g s out q ⌝ }
-{
-    let k = out.count;
-    let m = s.count;
-    let mut groups = out.groups;
-    fill(&mut groups, k, g, m);
-    let from = add_ends(out.from, s.from, k, m);
-    let to = add_ends(out.to, s.to, k, m);
-    Links {
-        count: k + m,
-        groups: groups,
-        from: from,
-        to: to,
-    }
-}
-
-// The links at places i to j, sorted, behind those of the groups before.
-fn add_group(out: Links, l: Links, i: usize, j: usize, g: u8) -> Links
-    requires { ⌜ (i ≤ j) × ((j ≤ 1024) × (out .count ≤ i)) ⌝ }
-    ensures { λ q. ⌜ (q .count ≤ j)
-        × (listed (linkAt q) (q .count) ≡ listed (linkAt out) (out .count)
-        ++ inGroup g (sortLinks (map (λ p. (linkAt l p) .link) (upFrom i (j - i))))) ⌝ }
-{
-    let a = l.from.chains;
-    let b = l.from.seqs;
-    let c = l.to.chains;
-    let d = l.to.seqs;
-    let s = sort_part(&a, &b, &c, &d, i, j);
-    add_links(out, s, g)
-}
-
-// The links of `count` groups, each group's sorted, repeats dropped.
-pub fn sort_groups(l: Links, count: usize) -> Links
-    requires { ⌜ (l .count ≤ 1024) × ((count ≤ 16) × (notFalling (take (l .count) (l .groups)) ≡ true)) ⌝ }
-    ensures { λ q. ⌜ (q .count ≤ 1024) × (listed (linkAt q) (q .count) ≡ sortGroups count (listed (linkAt l) (l .count))) ⌝ }
-{
-    let groups = l.groups;
-    let mut out = l;
-    out.count = 0;
-    let mut i: usize = 0;
-    let mut g: usize = 0;
-    while g < count {
-        let b = byte(g);
-        let j = end_of(&groups, i, l.count, b);
-        out = add_group(out, l, i, j, b);
-        i = j;
-        g += 1;
-    }
-    out
 }

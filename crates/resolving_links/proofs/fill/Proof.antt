@@ -18,8 +18,8 @@ abbrev μ-loop : tie.MeasureT-loop
 loop-holds : tie.Need-loop-holds Inv-loop μ-loop
 loop-holds c = (search needs, search needs, search needs, search fill-start)
 
-element-write-all : tie.Need-element-write-all Inv-loop μ-loop
-element-write-all c = search needs
+slice-write-all : tie.Need-slice-write-all Inv-loop μ-loop
+slice-write-all c = search needs
 
 add-n : tie.Need-add-n Inv-loop μ-loop
 add-n c = search needs
@@ -33,8 +33,11 @@ loop-less c = search needs
 loop-again : tie.Need-loop-again Inv-loop μ-loop
 loop-again c = (search needs, search needs, search needs, search fill-on)
 
+same-length : tie.Need-same-length Inv-loop μ-loop
+same-length c = search needs
+
 returns : tie.Need-returns Inv-loop μ-loop
-returns c = (search fill-done, search needs)
+returns c = search fill-done
 
 pub fill-spec : {M : Type 1} → statement M
 fill-spec =
@@ -43,9 +46,10 @@ fill-spec =
     Inv-loop
     μ-loop
     loop-holds
-    element-write-all
+    slice-write-all
     add-n
     add-i
     loop-less
     loop-again
+    same-length
     returns)
