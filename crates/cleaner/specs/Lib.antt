@@ -1,1 +1,2 @@
 pub mod Cleans
+pub mod Survived

@@ -80,6 +80,7 @@ module _ (h : Held) (q : Names) (l : List ℕ) (k p : ℕ) (w : Walk namesOf h q
   names-done e = record {
     held = w .held;
     whole = walk-whole namesOf h q l k p w e;
+    long = w .going .long;
     ok = w .going .ok;
     order = walk-ordered namesOf h q l k p w;
     parts = walk-parts namesOf h q l k p w e;

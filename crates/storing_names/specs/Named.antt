@@ -11,6 +11,7 @@ use Rattle.archive_reader.specs.declared.records.FileAt.{FileAt}
 use Rattle.held.specs.declared.Held.{Held}
 use Rattle.held.specs.View.{heldIn}
 use Rattle.held.specs.Valid.{heldOk}
+use Rattle.tidying.specs.Long.{LongHeld}
 use Rattle.tidying.specs.Ordered.{ordered}
 use Rattle.storing_parts.specs.Grown.{groupsWith, subjectNew}
 use Rattle.storing_turns.specs.Going.{heldAfter}
@@ -40,6 +41,7 @@ pub record NamesRoom (q : Names) (l : List ℕ) (f : FileAt) : Type 0 where
 pub record Named (h : Held) (l : List ℕ) (r : Names) : Type 0 where
   pub held : Held
   pub whole : heldIn held ≡ heldAfter h (parse l)
+  pub long : LongHeld held
   pub ok : heldOk held ≡ true
   pub order : ordered (held .sheet) ≡ true
   pub parts : partsOf held ≡ stored h l

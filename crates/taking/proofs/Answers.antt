@@ -8,7 +8,7 @@ use lib.ListN.{getD}
 use mir.Val.{Fits}
 use mir.Syntax.{w8}
 use Rattle.lists.specs.Lists.{Each}
-use Rattle.columns.specs.Refusal.{unless}
+use Rattle.columns.specs.Refusal.{refused, accepted, unless}
 use Rattle.columns.specs.declared.refusal.Refusal.{Refusal}
 use Rattle.columns.specs.declared.refusal.Refusal.the-variants.{RecordBroken}
 use Rattle.rules.specs.Ruled.{ruling}
@@ -58,6 +58,11 @@ archive-kept h broken e = absurd (Option·none-ne-some RecordBroken (sym e))
 archive-kept h (got fs end) e = (e, refl)
 
 module _ (h : Held) (o : Parsed (List File)) {r : Ruling} (v : r ≡ ruling (archiveRules (heldIn h) o)) where
+  -- why it is refused
+  pub not-held : {x : Refusal} → r ≡ Broken x → holdMore (heldIn h) o ≡ refused x
+  unfolding unless
+  not-held q = rw (verdict-is (heldIn h) o, told (archiveRules (heldIn h) o) v q)
+
   pub is-refused : {x : Refusal} → r ≡ Broken x → TookBy (holdMore (heldIn h) o) h (record { held = h; ruling = Broken x })
   unfolding unless
   is-refused q = rw (verdict-is (heldIn h) o, told (archiveRules (heldIn h) o) v q) (refl, refl)
@@ -71,6 +76,11 @@ module _ (h : Held) (o : Parsed (List File)) {r : Ruling} (v : r ≡ ruling (arc
 
     pub is-archive : isGot o ≡ true
     is-archive = archive-kept (heldIn h) o kept .1
+
+    -- what is held after it
+    pub now-held : holdMore (heldIn h) o ≡ accepted (heldAfter h o)
+    unfolding unless
+    now-held = rw (verdict-is (heldIn h) o, kept)
 
     pub is-accepted : (k : Held) → heldIn k ≡ heldAfter h o → heldOk k ≡ true → ordered (k .sheet) ≡ true → TookBy (holdMore (heldIn h) o) h (record { held = k; ruling = Kept })
     unfolding unless

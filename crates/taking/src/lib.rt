@@ -97,7 +97,7 @@ fn hold_rules(h: Held, bytes: &[u8], t: Totals) -> Ruling
 }
 
 // 23, then the others.
-fn archive_rules(h: Held, bytes: &[u8]) -> Ruling
+pub fn archive_rules(h: Held, bytes: &[u8]) -> Ruling
     requires { ⌜ heldOk h ≡ true ⌝ }
     ensures { λ r. ⌜ r ≡ ruling (archiveRules (heldIn h) (parse (now (bytes .entry)))) ⌝ }
 {
