@@ -5,8 +5,8 @@ use super::boundary::{
     ridgeoven_read_granule, ridgeoven_sums, ridgeoven_walk, ridgeoven_write_edges, ridgeoven_write_rows,
 };
 use super::archives::CLEANED;
-use super::boundary::ridgeoven_clean;
-use crate::archive::{File, Row, Set};
+use super::boundary::{ridgeoven_clean, ridgeoven_new, ridgeoven_resolve, ridgeoven_take, ridgeoven_write};
+use crate::archive::{Cover, File, Range, Row, Set};
 use crate::blocks;
 use crate::cleaning;
 use crate::questions::OneFile;
@@ -105,9 +105,29 @@ impl Inputs {
 
     /// The file as an archive.
     fn archive(&self, erased: fn(u64) -> bool) -> Vec<u8> {
+        self.archive_with(erased, None)
+    }
+
+    fn archive_with(&self, erased: fn(u64) -> bool, cover: Option<Cover>) -> Vec<u8> {
         let rows = (0..self.rows as u64).map(|tag| Row { erased: erased(tag), tag }).collect();
         let (subject, sets) = (b"a".to_vec(), self.sets.clone());
-        write::archive(&[File { first: FIRST, group: 0, subject, depth: None, sets, rows, unresolved: Vec::new(), roots: Vec::new(), cover: None }])
+        write::archive(&[File { first: FIRST, group: 0, subject, depth: None, sets, rows, unresolved: Vec::new(), roots: Vec::new(), cover }])
+    }
+
+    /// The same with a cover of at most sixty-four chains and as many links as rows.
+    fn covered(&self) -> Vec<u8> {
+        let (rows, chains) = (self.rows as u32, 64.min(self.rows as u32));
+        let mut links: Vec<[u32; 4]> = (0..rows).map(|at| [at % chains, at / chains, at * 7 % chains, at / chains]).collect();
+        links.sort_unstable();
+        let differences = links.iter().scan(0u32, |last, link| Some(link[0].wrapping_sub(std::mem::replace(last, link[0]))));
+        let column = |part: usize| links.iter().map(|link| link[part]).collect::<Vec<u32>>();
+        let cover = Cover {
+            chains: (0..rows).map(|row| row % chains).collect(),
+            seqs: (0..rows).map(|row| row / chains).collect(),
+            ranges: (0..chains).map(|chain| Range { chain, least: 0, greatest: (rows - 1 - chain) / chains }).collect(),
+            links: [differences.collect(), column(1), column(2), column(3)],
+        };
+        self.archive_with(|_| false, Some(cover))
     }
 
     /// The rows in sixteen files, each a group of its own, without inbound edges.
@@ -274,6 +294,22 @@ fn cleaned(bytes: &[u8]) -> [f64; 2] {
     [rust, port]
 }
 
+/// The same by the steps of a run, which goes in and out of each call by value.
+fn stepped(bytes: &[u8]) -> [f64; 2] {
+    let mut out = vec![0u8; CLEANED];
+    let mut length = 0;
+    let rust = best(|| drop(black_box(cleaning::renumbered(bytes))));
+    let port = best(|| {
+        let taken = unsafe { ridgeoven_take(ridgeoven_new(), bytes.as_ptr(), bytes.len()) };
+        let resolved = unsafe { ridgeoven_resolve(taken.run) };
+        let answer = unsafe { ridgeoven_write(resolved.run, out.as_mut_ptr(), out.len()) };
+        assert_eq!([taken.refusal, resolved.refusal, answer.refusal], [0; 3]);
+        length = answer.length;
+    });
+    assert!(cleaning::renumbered(bytes) == out[..length]);
+    [rust, port]
+}
+
 fn link_columns(links: &[ChainLink]) -> [Vec<u32>; 4] {
     let column = |part: fn(&ChainLink) -> u32| links.iter().map(part).collect::<Vec<u32>>();
     [column(|l| l.from_chain), column(|l| l.from_seq), column(|l| l.to_chain), column(|l| l.to_seq)]
@@ -372,6 +408,8 @@ pub fn table() {
             }
         }
         line("clean an archive", &format!("{shape}, sixteen groups"), &sizes.each_ref().map(|one| cleaned(&one.groups())));
+        line("clean an archive", &format!("{shape}, a cover"), &sizes.each_ref().map(|one| cleaned(&one.covered())));
+        line("clean it step by step", &format!("{shape}, no row erased"), &sizes.each_ref().map(|one| stepped(&one.archive(|_| false))));
         line("parents", shape, &sizes.each_ref().map(Inputs::parents));
         line("children", shape, &sizes.each_ref().map(Inputs::children));
         line("walk", shape, &sizes.each_ref().map(Inputs::walk));
