@@ -37,7 +37,7 @@ pub struct Put {
 }
 
 // The file of group g, whose rows stand from row a up to row b, whose unresolved records stand from place p up to place e of their columns, and
-// whose edge sets stand in six slices.
+// whose edge sets stand in six slices. What is handed on by value is copied by itself: to lend a part of the sheet would copy it whole.
 fn put_built(
     s: Sheet,
     g: usize,
@@ -73,6 +73,7 @@ fn put_built(
     let n = b - a;
     let m = e - p;
     let groups = s.groups;
+    let subject = s.subject;
     let head = part_head(groups, s.start + (a as u64), g);
     let x = place_of(rows, s.roots.count, a as u64);
     let y = place_of(rows, s.roots.count, b as u64);
@@ -83,7 +84,7 @@ fn put_built(
             out,
             at,
             head,
-            s.subject,
+            subject,
             tags,
             a,
             n,
@@ -107,12 +108,14 @@ fn put_built(
             k,
         );
     }
-    let cover = part_cover(groups, s.rows, s.links, g, a, n);
+    let labels = s.rows;
+    let links = s.links;
+    let cover = part_cover(groups, labels, links, g, a, n);
     put_covered(
         out,
         at,
         head,
-        s.subject,
+        subject,
         tags,
         a,
         n,
@@ -181,6 +184,7 @@ pub fn put_group<'a>(
     requires { ⌜ LongSlices (now fo) (now fd) (now ro) (now rd) (now io) (now id) ⌝ }
     ensures { λ r. ⌜ PutBy (sheetIn s) g at (now (out .entry)) (now (out .exit)) r ⌝ }
 {
+    let groups = s.groups;
     let a = byte_place_of(numbered, s.rows.count, g as u64);
     let b = byte_place_of(numbered, s.rows.count, (g + 1) as u64);
     let p = place_of(children, s.unresolved.count, s.start + (a as u64));
@@ -196,7 +200,7 @@ pub fn put_group<'a>(
         s.edges.count,
         chains,
         seqs,
-        s.groups,
+        groups,
         children,
         wide,
         flags,

@@ -42,7 +42,8 @@ fn put_groups(s: Sheet, out: &mut [u8]) -> Measured
     let children = s.unresolved.children;
     let kinds = s.unresolved.kinds;
     let handles = s.unresolved.handles;
-    let wide = wide_kinds(s.unresolved);
+    let unresolved = s.unresolved;
+    let wide = wide_kinds(unresolved);
     let flags = [0u64; 1024];
     let rows = s.roots.rows;
     let roots = s.roots.handles;

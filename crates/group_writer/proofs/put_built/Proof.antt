@@ -43,9 +43,9 @@ sub-m c =
 
 add-part-head : tie.Need-add-part-head
 add-part-head c =
-    let s = c .before .before .before .before .before .before .before .before .before .before .before .before .before in
+    let s = c .before .before .before .before .before .before .before .before .before .before .before .before .before .before in
     let x = s .args in
-    let l = c .before .before .sheet-long .ensures in
+    let l = c .before .before .before .sheet-long .ensures in
     let k = s .pre .0 .0 in
     let o = s .pre .0 .1 .0 in
     let h = s .pre .0 .1 .1 in
@@ -56,9 +56,9 @@ add-part-head c =
 
 part-head-requires : tie.Need-part-head-requires
 part-head-requires c κs =
-    let s = c .before .before .before .before .before .before .before .before .before .before .before .before .before in
+    let s = c .before .before .before .before .before .before .before .before .before .before .before .before .before .before in
     let x = s .args in
-    let l = c .before .before .sheet-long .ensures in
+    let l = c .before .before .before .sheet-long .ensures in
     let k = s .pre .0 .0 in
     let o = s .pre .0 .1 .0 in
     let h = s .pre .0 .1 .1 in
@@ -69,19 +69,6 @@ part-head-requires c κs =
 
 place-of-requires : tie.Need-place-of-requires
 place-of-requires c κs =
-    let s = c .before .before .before .before .before .before .before .before .before .before .before .before .before .before in
-    let x = s .args in
-    let l = c .before .before .before .sheet-long .ensures in
-    let k = s .pre .0 .0 in
-    let o = s .pre .0 .1 .0 in
-    let h = s .pre .0 .1 .1 in
-    let span = s .pre .1 .0 .0 in
-    let from = s .pre .1 .0 .1 .0 in
-    let w = s .pre .1 .1 .0 in
-    roots-count (x .s) (x .g) (x .a) (x .b) span l k o w
-
-place-of-requires-2 : tie.Need-place-of-requires-2
-place-of-requires-2 c κs =
     let s = c .before .before .before .before .before .before .before .before .before .before .before .before .before .before .before in
     let x = s .args in
     let l = c .before .before .before .before .sheet-long .ensures in
@@ -93,11 +80,24 @@ place-of-requires-2 c κs =
     let w = s .pre .1 .1 .0 in
     roots-count (x .s) (x .g) (x .a) (x .b) span l k o w
 
-sub-k : tie.Need-sub-k
-sub-k c =
+place-of-requires-2 : tie.Need-place-of-requires-2
+place-of-requires-2 c κs =
     let s = c .before .before .before .before .before .before .before .before .before .before .before .before .before .before .before .before in
     let x = s .args in
     let l = c .before .before .before .before .before .sheet-long .ensures in
+    let k = s .pre .0 .0 in
+    let o = s .pre .0 .1 .0 in
+    let h = s .pre .0 .1 .1 in
+    let span = s .pre .1 .0 .0 in
+    let from = s .pre .1 .0 .1 .0 in
+    let w = s .pre .1 .1 .0 in
+    roots-count (x .s) (x .g) (x .a) (x .b) span l k o w
+
+sub-k : tie.Need-sub-k
+sub-k c =
+    let s = c .before .before .before .before .before .before .before .before .before .before .before .before .before .before .before .before .before in
+    let x = s .args in
+    let l = c .before .before .before .before .before .before .sheet-long .ensures in
     let k = s .pre .0 .0 in
     let o = s .pre .0 .1 .0 in
     let h = s .pre .0 .1 .1 in
@@ -112,9 +112,9 @@ sub-k c =
 
 less64-requires : tie.Need-less64-requires
 less64-requires c κs =
-    let s = c .before .before .before .before .before .before .before .before .before .before .before .before .before .before .before .before in
+    let s = c .before .before .before .before .before .before .before .before .before .before .before .before .before .before .before .before .before in
     let x = s .args in
-    let l = c .before .before .before .before .before .sheet-long .ensures in
+    let l = c .before .before .before .before .before .before .sheet-long .ensures in
     let k = s .pre .0 .0 in
     let o = s .pre .0 .1 .0 in
     let h = s .pre .0 .1 .1 in
@@ -129,9 +129,9 @@ less64-requires c κs =
 
 element-copy-out-if1 : tie.Need-element-copy-out-if1
 element-copy-out-if1 c =
-    let s = c .before .before .before .before .before .before .before .before .before .before .before .before .before .before .before .before .before in
+    let s = c .before .before .before .before .before .before .before .before .before .before .before .before .before .before .before .before .before .before in
     let x = s .args in
-    let l = c .before .before .before .before .before .before .sheet-long .ensures in
+    let l = c .before .before .before .before .before .before .before .sheet-long .ensures in
     let k = s .pre .0 .0 in
     let o = s .pre .0 .1 .0 in
     let h = s .pre .0 .1 .1 in
@@ -145,9 +145,9 @@ slice-aggregate-put-bare c = sym (c .before .before .before .before .less64 .ens
 
 put-bare-requires : tie.Need-put-bare-requires
 put-bare-requires c κs =
-    let s = c .before .before .before .before .before .before .before .before .before .before .before .before .before .before .before .before .before .before .before .before .before in
+    let s = c .before .before .before .before .before .before .before .before .before .before .before .before .before .before .before .before .before .before .before .before .before .before in
     let x = s .args in
-    let l = c .before .before .before .before .before .before .before .before .before .before .sheet-long .ensures in
+    let l = c .before .before .before .before .before .before .before .before .before .before .before .sheet-long .ensures in
     let k = s .pre .0 .0 in
     let o = s .pre .0 .1 .0 in
     let h = s .pre .0 .1 .1 in
@@ -176,9 +176,9 @@ same-length c = search needs
 
 returns : tie.Need-returns
 returns c =
-    let s = c .before .before .before .before .before .before .before .before .before .before .before .before .before .before .before .before .before .before .before .before .before .before .before .before in
+    let s = c .before .before .before .before .before .before .before .before .before .before .before .before .before .before .before .before .before .before .before .before .before .before .before .before .before in
     let x = s .args in
-    let l = c .before .before .before .before .before .before .before .before .before .before .before .before .before .sheet-long .ensures in
+    let l = c .before .before .before .before .before .before .before .before .before .before .before .before .before .before .sheet-long .ensures in
     let k = s .pre .0 .0 in
     let o = s .pre .0 .1 .0 in
     let h = s .pre .0 .1 .1 in
@@ -199,22 +199,6 @@ returns c =
 
 part-cover-requires : tie.Need-part-cover-requires
 part-cover-requires c κs =
-    let s = c .before .before .before .before .before .before .before .before .before .before .before .before .before .before .before .before .before .before .before in
-    let x = s .args in
-    let l = c .before .before .before .before .before .before .before .before .sheet-long .ensures in
-    let k = s .pre .0 .0 in
-    let o = s .pre .0 .1 .0 in
-    let h = s .pre .0 .1 .1 in
-    let span = s .pre .1 .0 .0 in
-    let from = s .pre .1 .0 .1 .0 in
-    let w = s .pre .1 .1 .0 in
-    (group-few (x .s) (x .g) l k o h, (span-room (x .s) (x .g) (x .a) (x .b) span l k o, links-within (x .s) l k))
-
-slice-aggregate-put-covered : tie.Need-slice-aggregate-put-covered
-slice-aggregate-put-covered c = sym (c .before .before .before .before .before .less64 .ensures .0)
-
-put-covered-requires : tie.Need-put-covered-requires
-put-covered-requires c κs =
     let s = c .before .before .before .before .before .before .before .before .before .before .before .before .before .before .before .before .before .before .before .before .before .before in
     let x = s .args in
     let l = c .before .before .before .before .before .before .before .before .before .before .before .sheet-long .ensures in
@@ -224,13 +208,29 @@ put-covered-requires c κs =
     let span = s .pre .1 .0 .0 in
     let from = s .pre .1 .0 .1 .0 in
     let w = s .pre .1 .1 .0 in
-    let q = c .before .before .before .before .before .before .before .place-of in
-    let y = c .before .before .before .before .before .before .place-of2 in
+    (group-few (x .s) (x .g) l k o h, (span-room (x .s) (x .g) (x .a) (x .b) span l k o, links-within (x .s) l k))
+
+slice-aggregate-put-covered : tie.Need-slice-aggregate-put-covered
+slice-aggregate-put-covered c = sym (c .before .before .before .before .before .before .before .less64 .ensures .0)
+
+put-covered-requires : tie.Need-put-covered-requires
+put-covered-requires c κs =
+    let s = c .before .before .before .before .before .before .before .before .before .before .before .before .before .before .before .before .before .before .before .before .before .before .before .before .before in
+    let x = s .args in
+    let l = c .before .before .before .before .before .before .before .before .before .before .before .before .before .before .sheet-long .ensures in
+    let k = s .pre .0 .0 in
+    let o = s .pre .0 .1 .0 in
+    let h = s .pre .0 .1 .1 in
+    let span = s .pre .1 .0 .0 in
+    let from = s .pre .1 .0 .1 .0 in
+    let w = s .pre .1 .1 .0 in
+    let q = c .before .before .before .before .before .before .before .before .before .place-of in
+    let y = c .before .before .before .before .before .before .before .before .place-of2 in
     let n = q .result in
     let m = y .result in
     let sets = setsOf (x .f) (x .r) (x .i) (x .fo .now) (x .fd .now) (x .ro .now) (x .rd .now) (x .io .now) (x .id .now) in
-    let less = c .before .before .before .before .before .less64 in
-    let head = c .before .before .before .before .before .before .before .before .part-head in
+    let less = c .before .before .before .before .before .before .before .less64 in
+    let head = c .before .before .before .before .before .before .before .before .before .before .part-head in
     let u = lentUnresolved (x .children .now) (x .kinds .now) (x .handles .now) (x .p) (x .e - x .p) in
     let roots = lentRoots (less .result) (x .roots .now) n (m - n) in
     let cover = c .before .before .part-cover in (
@@ -246,22 +246,22 @@ same-length-2 c = search needs
 
 returns-2 : tie.Need-returns-2
 returns-2 c =
-    let s = c .before .before .before .before .before .before .before .before .before .before .before .before .before .before .before .before .before .before .before .before .before .before .before .before .before in
+    let s = c .before .before .before .before .before .before .before .before .before .before .before .before .before .before .before .before .before .before .before .before .before .before .before .before .before .before .before .before in
     let x = s .args in
-    let l = c .before .before .before .before .before .before .before .before .before .before .before .before .before .before .sheet-long .ensures in
+    let l = c .before .before .before .before .before .before .before .before .before .before .before .before .before .before .before .before .before .sheet-long .ensures in
     let k = s .pre .0 .0 in
     let o = s .pre .0 .1 .0 in
     let h = s .pre .0 .1 .1 in
     let span = s .pre .1 .0 .0 in
     let from = s .pre .1 .0 .1 .0 in
     let w = s .pre .1 .1 .0 in
-    let q = c .before .before .before .before .before .before .before .before .before .before .place-of in
-    let y = c .before .before .before .before .before .before .before .before .before .place-of2 in
+    let q = c .before .before .before .before .before .before .before .before .before .before .before .before .place-of in
+    let y = c .before .before .before .before .before .before .before .before .before .before .before .place-of2 in
     let n = q .result in
     let m = y .result in
     let sets = setsOf (x .f) (x .r) (x .i) (x .fo .now) (x .fd .now) (x .ro .now) (x .rd .now) (x .io .now) (x .id .now) in
-    let less = c .before .before .before .before .before .before .before .before .less64 in
-    let head = c .before .before .before .before .before .before .before .before .before .before .before .part-head in
+    let less = c .before .before .before .before .before .before .before .before .before .before .less64 in
+    let head = c .before .before .before .before .before .before .before .before .before .before .before .before .before .part-head in
     let u = lentUnresolved (x .children .now) (x .kinds .now) (x .handles .now) (x .p) (x .e - x .p) in
     let roots = lentRoots (less .result) (x .roots .now) n (m - n) in
     let cover = c .before .before .before .before .before .part-cover in

@@ -10,7 +10,7 @@ use Rattle.group_writer.proofs.put_group.Tie as tie
 
 byte-place-of-requires : tie.Need-byte-place-of-requires
 byte-place-of-requires c κs =
-    let s = c .before .before .before .before .before .before .before .before .before .before .before .before .before .before .before .before .before .before in
+    let s = c .before .before .before .before .before .before .before .before .before .before .before .before .before .before .before .before .before .before .before in
     let x = s .args in
     let k = s .pre .0 .0 in
     let o = s .pre .0 .1 .0 in
@@ -19,7 +19,7 @@ byte-place-of-requires c κs =
 
 add-byte-place-of : tie.Need-add-byte-place-of
 add-byte-place-of c =
-    let s = c .before .before .before .before .before .before .before .before .before .before .before .before .before .before .before .before .before .before .before in
+    let s = c .before .before .before .before .before .before .before .before .before .before .before .before .before .before .before .before .before .before .before .before in
     let x = s .args in
     let k = s .pre .0 .0 in
     let o = s .pre .0 .1 .0 in
@@ -29,7 +29,7 @@ add-byte-place-of c =
 
 byte-place-of-requires-2 : tie.Need-byte-place-of-requires-2
 byte-place-of-requires-2 c κs =
-    let s = c .before .before .before .before .before .before .before .before .before .before .before .before .before .before .before .before .before .before .before in
+    let s = c .before .before .before .before .before .before .before .before .before .before .before .before .before .before .before .before .before .before .before .before in
     let x = s .args in
     let k = s .pre .0 .0 in
     let o = s .pre .0 .1 .0 in
@@ -38,7 +38,7 @@ byte-place-of-requires-2 c κs =
 
 add-place-of : tie.Need-add-place-of
 add-place-of c =
-    let s = c .before .before .before .before .before .before .before .before .before .before .before .before .before .before .before .before .before .before .before .before .before in
+    let s = c .before .before .before .before .before .before .before .before .before .before .before .before .before .before .before .before .before .before .before .before .before .before in
     let x = s .args in
     let k = s .pre .0 .0 in
     let o = s .pre .0 .1 .0 in
@@ -49,7 +49,7 @@ add-place-of c =
 
 place-of-requires : tie.Need-place-of-requires
 place-of-requires c κs =
-    let s = c .before .before .before .before .before .before .before .before .before .before .before .before .before .before .before .before .before .before .before .before .before in
+    let s = c .before .before .before .before .before .before .before .before .before .before .before .before .before .before .before .before .before .before .before .before .before .before in
     let x = s .args in
     let k = s .pre .0 .0 in
     let o = s .pre .0 .1 .0 in
@@ -60,7 +60,7 @@ place-of-requires c κs =
 
 add-place-of-2 : tie.Need-add-place-of-2
 add-place-of-2 c =
-    let s = c .before .before .before .before .before .before .before .before .before .before .before .before .before .before .before .before .before .before .before .before .before .before .before in
+    let s = c .before .before .before .before .before .before .before .before .before .before .before .before .before .before .before .before .before .before .before .before .before .before .before .before in
     let x = s .args in
     let k = s .pre .0 .0 in
     let o = s .pre .0 .1 .0 in
@@ -71,7 +71,7 @@ add-place-of-2 c =
 
 place-of-requires-2 : tie.Need-place-of-requires-2
 place-of-requires-2 c κs =
-    let s = c .before .before .before .before .before .before .before .before .before .before .before .before .before .before .before .before .before .before .before .before .before .before .before in
+    let s = c .before .before .before .before .before .before .before .before .before .before .before .before .before .before .before .before .before .before .before .before .before .before .before .before in
     let x = s .args in
     let k = s .pre .0 .0 in
     let o = s .pre .0 .1 .0 in
@@ -82,7 +82,7 @@ place-of-requires-2 c κs =
 
 sub-lent-sets : tie.Need-sub-lent-sets
 sub-lent-sets c =
-    let s = c .before .before .before .before .before .before .before .before .before .before .before .before .before .before .before .before .before .before .before .before .before .before .before .before in
+    let s = c .before .before .before .before .before .before .before .before .before .before .before .before .before .before .before .before .before .before .before .before .before .before .before .before .before in
     let x = s .args in
     let k = s .pre .0 .0 in
     let o = s .pre .0 .1 .0 in
@@ -94,7 +94,7 @@ sub-lent-sets c =
 
 sub-lent-sets-2 : tie.Need-sub-lent-sets-2
 sub-lent-sets-2 c =
-    let s = c .before .before .before .before .before .before .before .before .before .before .before .before .before .before .before .before .before .before .before .before .before .before .before .before in
+    let s = c .before .before .before .before .before .before .before .before .before .before .before .before .before .before .before .before .before .before .before .before .before .before .before .before .before in
     let x = s .args in
     let k = s .pre .0 .0 in
     let o = s .pre .0 .1 .0 in
@@ -106,7 +106,7 @@ sub-lent-sets-2 c =
 
 lent-sets-requires : tie.Need-lent-sets-requires
 lent-sets-requires c κs =
-    let s = c .before .before .before .before .before .before .before .before .before .before .before .before .before .before .before .before .before .before .before .before .before .before .before .before .before .before .before .before .before .before .before .before .before .before .before .before .before in
+    let s = c .before .before .before .before .before .before .before .before .before .before .before .before .before .before .before .before .before .before .before .before .before .before .before .before .before .before .before .before .before .before .before .before .before .before .before .before .before .before in
     let x = s .args in
     let k = s .pre .0 .0 in
     let o = s .pre .0 .1 .0 in
@@ -136,7 +136,7 @@ enum-known-e-2 c = search needs
 
 put-built-requires : tie.Need-put-built-requires
 put-built-requires c κs =
-    let s = c .before .before .before .before .before .before .before .before .before .before .before .before .before .before .before .before .before .before .before .before .before .before .before .before .before .before .before .before .before .before .before .before .before .before .before .before .before .before .before .before .before .before .before .before .before .before .before .before .before .before .before .before .before .before .before .before .before in
+    let s = c .before .before .before .before .before .before .before .before .before .before .before .before .before .before .before .before .before .before .before .before .before .before .before .before .before .before .before .before .before .before .before .before .before .before .before .before .before .before .before .before .before .before .before .before .before .before .before .before .before .before .before .before .before .before .before .before .before .before in
     let x = s .args in
     let k = s .pre .0 .0 in
     let o = s .pre .0 .1 .0 in
@@ -185,7 +185,7 @@ same-length-6 c = search needs
 
 returns : tie.Need-returns
 returns c =
-    let x = c .before .before .before .before .before .before .before .before .before .before .before .before .before .before .before .before .before .before .before .before .before .before .before .before .before .before .before .before .before .before .before .before .before .before .before .before .before .before .before .before .before .before .before .before .before .before .before .before .before .before .args in
+    let x = c .before .before .before .before .before .before .before .before .before .before .before .before .before .before .before .before .before .before .before .before .before .before .before .before .before .before .before .before .before .before .before .before .before .before .before .before .before .before .before .before .before .before .before .before .before .before .before .before .before .before .before .args in
     put-broken (x .s) (x .g) _ _ _ _ _ _ _ _ (c .before .before .before .before .before .before .before .before .before .before .before .before .lent-sets .ensures) (x .at) (x .out .now) _ _ (c .before .e .given .1)
 
 same-length-7 : tie.Need-same-length-7
@@ -211,7 +211,7 @@ same-length-13 c = search needs
 
 returns-2 : tie.Need-returns-2
 returns-2 c =
-    let x = c .before .before .before .before .before .before .before .before .before .before .before .before .before .before .before .before .before .before .before .before .before .before .before .before .before .before .before .before .before .before .before .before .before .before .before .before .before .before .before .before .before .before .before .before .before .before .before .before .before .before .before .before .before .before .before .before .before .before .before .before .args in
+    let x = c .before .before .before .before .before .before .before .before .before .before .before .before .before .before .before .before .before .before .before .before .before .before .before .before .before .before .before .before .before .before .before .before .before .before .before .before .before .before .before .before .before .before .before .before .before .before .before .before .before .before .before .before .before .before .before .before .before .before .before .before .before .args in
     put-kept (x .s) (x .g) _ _ _ _ _ _ _ _ (c .before .before .before .before .before .before .before .before .before .before .before .before .before .before .before .before .before .before .before .before .before .before .lent-sets .ensures) (x .at) (x .out .now) _ (c .before .before .before .before .before .before .before .before .before .before .before .e2 .given .1) (c .before .before .put-built .ensures)
 
 pub put-group-spec : {M : Type 1} → statement M

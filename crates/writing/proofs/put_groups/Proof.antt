@@ -29,7 +29,7 @@ sheet-long-requires : tie.Need-sheet-long-requires Inv-loop μ-loop
 sheet-long-requires c κs = search needs
 
 wide-kinds-requires : tie.Need-wide-kinds-requires Inv-loop μ-loop
-wide-kinds-requires c κs = let s = c .before .before .before .before .before .before .before .before .before .before .before .before in records-within (s .args .s) (c .before .before .before .before .before .before .before .before .before .before .sheet-long .ensures) (s .pre .0)
+wide-kinds-requires c κs = let s = c .before .before .before .before .before .before .before .before .before .before .before .before .before in records-within (s .args .s) (c .before .before .before .before .before .before .before .before .before .before .before .sheet-long .ensures) (s .pre .0)
 
 loop-holds : tie.Need-loop-holds Inv-loop μ-loop
 loop-holds c = (
@@ -134,10 +134,10 @@ put-group-requires c κs =
     let inv = c .before .before .before .before .before .before .before .before .before .before .before .before .before .before .before .before .before .before .before .before .before .before .before .before .before .before .before .before .before .loop .inv in
     let below = c .before .before .before .before .before .before .before .before .before .before .before .before .before .before .before .before .before .before .before .before .before .before .before .before .before .before .before .before .loop-test .taken in
     let columns = inv .9 in
-    let s = c .before .before .before .before .before .before .before .before .before .before .before .before .before .before .before .before .before .before .before .before .before .before .before .before .before .before .before .before .before .before .before .before .before .before .before .before .before .before .before .before .before .before .before .before .before in (
+    let s = c .before .before .before .before .before .before .before .before .before .before .before .before .before .before .before .before .before .before .before .before .before .before .before .before .before .before .before .before .before .before .before .before .before .before .before .before .before .before .before .before .before .before .before .before .before .before in (
       (s .pre .0, (s .pre .1, omega (arith, below, inv .0))),
       (
-        (c .before .before .before .before .before .before .before .before .before .before .before .before .before .before .before .before .before .before .before .before .before .before .before .before .before .before .before .before .before .before .before .before .before .before .before .before .before .before .before .before .before .before .before .sheet-long .ensures, (columns .groups-are, omega (arith, inv .1, inv .2, inv .3))),
+        (c .before .before .before .before .before .before .before .before .before .before .before .before .before .before .before .before .before .before .before .before .before .before .before .before .before .before .before .before .before .before .before .before .before .before .before .before .before .before .before .before .before .before .before .before .sheet-long .ensures, (columns .groups-are, omega (arith, inv .1, inv .2, inv .3))),
         (columns .graph, (columns .records, ((columns .widened, columns .wide-long), inv .5))),
       ),
     )
