@@ -50,15 +50,18 @@ module _ (s : Sheet) (k : sheetOk s ≡ true) where
   pub end-fits : s .start + s .rows .count < end64
   end-fits = numbers-kept s {a = true} (sym counts-ok) refl
 
-  module _ (e : length (s .subject .bytes) ≡ 255) where
-    pub name-there : s .subject .length ≤ length (s .subject .bytes)
-    name-there = omega (arith, few .0)
+  pub name-few : s .subject .length ≤ 255
+  name-few = few .0
 
-    pub name-count : s .subject .length ≡ length (take (s .subject .length) (s .subject .bytes))
-    name-count = sym (length-take-le (s .subject .length) (s .subject .bytes) name-there)
+module _ (n : ℕ) (name : List ℕ) (h : n ≤ 255) (e : length name ≡ 255) where
+  pub name-there : n ≤ length name
+  name-there = omega arith
 
-    pub name-short : length (take (s .subject .length) (s .subject .bytes)) ≤ 255
-    name-short = rw (← name-count) (few .0)
+  pub name-count : n ≡ length (take n name)
+  name-count = sym (length-take-le n name name-there)
+
+  pub name-short : length (take n name) ≤ 255
+  name-short = rw (← name-count) h
 
 -- ── the last group ───────────────────────────────────────────────────────────────────────────
 

@@ -1,5 +1,5 @@
 -- The rules of a taking in their order: 23, 42, 43, then file by file.
-use mathlib.Core.Path.{_≡_, refl, sym, _∙_}
+use mathlib.Core.Path.{_≡_, refl, sym, ap, _∙_}
 use mathlib.Core.Bool.{Bool, true, false}
 use mathlib.Core.List.{List, [], _∷_, _++_, map}
 use mathlib.Core.Option.{Option, none}
@@ -38,6 +38,8 @@ use Rattle.tidying.specs.Long.{LongHeld}
 use Rattle.taking_limits.specs.Figures.{limitRules}
 use Rattle.taking_limits.proofs.Limits.{records-same, numbers-same}
 use Rattle.taking_files.specs.Archive.{Within}
+use Rattle.taking.specs.declared.Known.{Known}
+use Rattle.taking.specs.Known.{KnownOf}
 use Rattle.taking.specs.Took.{limitsOver, archiveRules}
 
 -- what holds of every archive holds of bytes that have sums
@@ -57,6 +59,11 @@ pub limits-are : (h : Held) (o : Parsed (List File)) (t : Totals) (g : Bool) →
 unfolding filesOf limitRules limitsOver
 limits-are h o t g l k e f {r} v = summed-up (λ o. g ≡ groupsOver (h .sheet .groups .count) (filesOf o) → r ≡ ruling (limitsOver (heldIn h) (filesIn o))) o e
     (λ fs end z f. rw (← records-same h l k fs, ← numbers-same h l k fs, ← z, ← f) v) f
+
+-- the number of groups by what is known
+pub limits-known : (h : Held) (k : Known) (o : Parsed (List File)) (t : Totals) (g : Bool) → LongHeld h → heldOk h ≡ true → KnownOf h k → totalsOf o ≡ summed.Sums t
+    → g ≡ groupsOver (k .groups) (filesOf o) → {r : Ruling} → r ≡ ruling (limitRules h t g) → r ≡ ruling (limitsOver (heldIn h) (filesIn o))
+limits-known h k o t g l ok w e f v = limits-are h o t g l ok e (f ∙ ap (λ n. groupsOver n (filesOf o)) (w .groups-are)) v
 
 within : (m a b : ℕ) → ltb m (a + b) ≡ false → b ≤ m
 within m a b e = omega (arith, ltb-false m (a + b) e)

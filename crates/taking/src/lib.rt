@@ -6,16 +6,18 @@ use archive_reader::files::sum_up;
 use columns::refusal::Refusal;
 use held::Held;
 use held::Sheet;
+use held::Subject;
 use rules::slots::Ruling;
 use storing_files::store;
 use taking_files::all::files_rules;
+use taking_limits::count;
 use taking_limits::limit_rules;
 use taking_rules::heads::Back;
 use tidying::long::held_long;
 use tidying::long::sheet_long;
 ghost use mathlib.Core.Path.{_≡_};
 ghost use mathlib.Core.Bool.{true};
-ghost use lib.ListN.{take};
+ghost use lib.ListN.{length, take};
 ghost use Rattle.rules.specs.Ruled.{ruling};
 ghost use Rattle.archive.specs.Parse.{parse};
 ghost use Rattle.archive_reader.specs.Sums.{totalsOf};
@@ -28,6 +30,7 @@ ghost use Rattle.held.specs.Valid.{sheetOk, heldOk};
 ghost use Rattle.tidying.specs.Ordered.{ordered};
 ghost use Rattle.taking_rules.specs.Back.{backOf};
 ghost use Rattle.taking_files.specs.Archive.{Within};
+ghost use Rattle.taking.specs.Known.{KnownOf};
 ghost use Rattle.taking.specs.Took.{limitsOver, archiveRules, TookBy};
 
 // What is held after a taking, and the first rule that is broken, if one is.
@@ -62,50 +65,87 @@ fn look_back(s: Sheet) -> Back
     }
 }
 
-// The rules of an archive's files, the first of which looks back at the rows of a sheet.
-fn sheet_rules(s: Sheet, bytes: &[u8]) -> Ruling
-    requires { ⌜ (sheetOk s ≡ true) × Within (totalsOf (parse (now bytes))) ⌝ }
-    ensures { λ r. ⌜ r ≡ ruling (filesRules (lookBack (sheetIn s)) (filesIn (parse (now (bytes .entry))))) ⌝ }
+// What the rules of an archive look at of what is held: its figures, the number of its groups, what the first file looks back at, and the subject.
+struct Known {
+    figures: Totals,
+    groups: usize,
+    back: Back,
+    subject: Subject,
+}
+
+fn known_of(h: Held) -> Known
+    requires { ⌜ heldOk h ≡ true ⌝ }
+    ensures { λ r. ⌜ KnownOf h r ⌝ }
 {
-    let subject = s.subject;
+    let figures = count(h);
+    let back = look_back(h.sheet);
+    let subject = h.sheet.subject;
+    Known {
+        figures: figures,
+        groups: h.sheet.groups.count,
+        back: back,
+        subject: subject,
+    }
+}
+
+fn subject_long(s: Subject)
+    ensures { λ _. ⌜ length (s .bytes) ≡ 255 ⌝ }
+{}
+
+// The rules of an archive's files, the first of which looks back at the rows that are held.
+fn known_rules(h: Held, k: Known, bytes: &[u8]) -> Ruling
+    requires { ⌜ (KnownOf h k) × Within (totalsOf (parse (now bytes))) ⌝ }
+    ensures { λ r. ⌜ r ≡ ruling (filesRules (lookBack (sheetIn (h .sheet))) (filesIn (parse (now (bytes .entry))))) ⌝ }
+{
+    let subject = k.subject;
+    subject_long(subject);
     let n = subject.length;
     let name = subject.bytes;
-    let back = look_back(s);
+    let back = k.back;
     files_rules(bytes, back, &name[..n])
 }
 
 // 42, then 43: what a run holds and an archive of those sums together.
-fn limits(h: Held, bytes: &[u8], t: Totals) -> Ruling
-    requires { ⌜ (heldOk h ≡ true) × (totalsOf (parse (now bytes)) ≡ Sums t) ⌝ }
+fn limits(h: Held, k: Known, bytes: &[u8], t: Totals) -> Ruling
+    requires { ⌜ (heldOk h ≡ true) × ((KnownOf h k) × (totalsOf (parse (now bytes)) ≡ Sums t)) ⌝ }
     ensures { λ r. ⌜ r ≡ ruling (limitsOver (heldIn h) (filesIn (parse (now (bytes .entry))))) ⌝ }
 {
     held_long(h);
-    let many = groups_over(bytes, h.sheet.groups.count);
-    limit_rules(h, t, many)
+    let many = groups_over(bytes, k.groups);
+    let figures = k.figures;
+    limit_rules(h, figures, t, many)
 }
 
 // 42, 43, then file by file.
-fn hold_rules(h: Held, bytes: &[u8], t: Totals) -> Ruling
-    requires { ⌜ (heldOk h ≡ true) × (totalsOf (parse (now bytes)) ≡ Sums t) ⌝ }
+fn hold_rules(h: Held, k: Known, bytes: &[u8], t: Totals) -> Ruling
+    requires { ⌜ (heldOk h ≡ true) × ((KnownOf h k) × (totalsOf (parse (now bytes)) ≡ Sums t)) ⌝ }
     ensures { λ r. ⌜ r ≡ ruling (holdRules (heldIn h) (filesIn (parse (now (bytes .entry))))) ⌝ }
 {
-    let r = limits(h, bytes, t);
+    let r = limits(h, k, bytes, t);
     match r {
         Ruling::Broken(x) => Ruling::Broken(x),
-        Ruling::Kept => sheet_rules(h.sheet, bytes),
+        Ruling::Kept => known_rules(h, k, bytes),
     }
 }
 
-// 23, then the others.
-pub fn archive_rules(h: Held, bytes: &[u8]) -> Ruling
-    requires { ⌜ heldOk h ≡ true ⌝ }
+// 23, then the others, by what is known of what is held, which itself is not read.
+fn rules_by(h: Held, k: Known, bytes: &[u8]) -> Ruling
+    requires { ⌜ (heldOk h ≡ true) × (KnownOf h k) ⌝ }
     ensures { λ r. ⌜ r ≡ ruling (archiveRules (heldIn h) (parse (now (bytes .entry)))) ⌝ }
 {
     let x = sum_up(bytes);
     let Summed::Sums(t) = x else {
         return Ruling::Broken(Refusal::RecordBroken);
     };
-    hold_rules(h, bytes, t)
+    hold_rules(h, k, bytes, t)
+}
+
+// The rules of an archive, in order.
+pub fn archive_rules(h: Held, bytes: &[u8]) -> Ruling
+    requires { ⌜ heldOk h ≡ true ⌝ }
+    ensures { λ r. ⌜ r ≡ ruling (archiveRules (heldIn h) (parse (now (bytes .entry)))) ⌝ }
+{
+    rules_by(h, known_of(h), bytes)
 }
 
 // What a run holds with an archive more; a refused archive leaves it as it was.

@@ -1,13 +1,8 @@
 -- `taking::limits` meets its contract.
-use Rattle.taking.proofs.Rulings.{is-read, limits-are}
+use Rattle.taking.proofs.Rulings.{is-read, limits-known}
 use borrow.Author.Needs.{needs}
 use Rattle.taking.proofs.limits.Statement.{statement}
 use Rattle.taking.proofs.limits.Tie as tie
-use Rattle.taking.proofs.limits.Reads as reads
-use Rattle.taking.proofs.limits.Lts as lts
-use Rattle.archive_groups.proofs.groups_over.Reads as groups-over-reads
-use Rattle.taking_limits.proofs.limit_rules.Reads as limit-rules-reads
-use Rattle.tidying.proofs.long.held_long.Reads as held-long-reads
 
 held-long-requires : tie.Need-held-long-requires
 held-long-requires c κs = search needs
@@ -19,7 +14,7 @@ limit-rules-requires : tie.Need-limit-rules-requires
 limit-rules-requires c κs = search needs
 
 returns : tie.Need-returns
-returns c = search limits-are
+returns c = search limits-known
 
 pub limits-spec : {M : Type 1} → statement M
 limits-spec =

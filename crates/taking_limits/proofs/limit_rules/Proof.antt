@@ -5,12 +5,8 @@ use Rattle.taking_limits.proofs.limit_rules.Statement.{statement}
 use Rattle.taking_limits.proofs.limit_rules.Tie as tie
 use Rattle.taking_limits.proofs.limit_rules.Reads as reads
 use Rattle.taking_limits.proofs.limit_rules.Lts as lts
-use Rattle.taking_limits.proofs.count.Reads as count-reads
 use Rattle.taking_limits.proofs.many_numbers.Reads as many-numbers-reads
 use Rattle.taking_limits.proofs.many_records.Reads as many-records-reads
-
-count-requires : tie.Need-count-requires
-count-requires c κs = search needs
 
 many-records-requires : tie.Need-many-records-requires
 many-records-requires c κs = search needs
@@ -31,7 +27,6 @@ pub limit-rules-spec : {M : Type 1} → statement M
 limit-rules-spec =
     tie.close
     (tie.spec
-    count-requires
     many-records-requires
     returns
     many-numbers-requires

@@ -1,15 +1,11 @@
--- `taking::sheet_rules` meets its contract.
+-- `taking::known_rules` meets its contract.
 use Rattle.taking.proofs.LastGroup.{name-there, name-count, name-short, looked-back}
 use borrow.Author.Needs.{needs}
-use Rattle.taking.proofs.sheet_rules.Statement.{statement}
-use Rattle.taking.proofs.sheet_rules.Tie as tie
-use Rattle.taking.proofs.sheet_rules.Reads as reads
-use Rattle.taking.proofs.sheet_rules.Lts as lts
-use Rattle.taking.proofs.look_back.Reads as look-back-reads
-use Rattle.taking_files.proofs.all.files_rules.Reads as files-rules-reads
+use Rattle.taking.proofs.known_rules.Statement.{statement}
+use Rattle.taking.proofs.known_rules.Tie as tie
 
-look-back-requires : tie.Need-look-back-requires
-look-back-requires c κs = search needs
+subject-long-requires : tie.Need-subject-long-requires
+subject-long-requires c κs = search needs
 
 array-share-prefix-name : tie.Need-array-share-prefix-name
 array-share-prefix-name c = search (needs, name-there)
@@ -23,11 +19,11 @@ files-rules-requires c κs = (search (needs, name-short), search needs)
 returns : tie.Need-returns
 returns c = search looked-back
 
-pub sheet-rules-spec : {M : Type 1} → statement M
-sheet-rules-spec =
+pub known-rules-spec : {M : Type 1} → statement M
+known-rules-spec =
     tie.close
     (tie.spec
-    look-back-requires
+    subject-long-requires
     array-share-prefix-name
     slice-aggregate-files-rules
     files-rules-requires

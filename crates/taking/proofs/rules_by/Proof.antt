@@ -1,12 +1,8 @@
--- `taking::archive_rules` meets its contract.
+-- `taking::rules_by` meets its contract.
 use Rattle.taking.proofs.Rulings.{not-archive, sums-known, then-held}
 use borrow.Author.Needs.{needs}
-use Rattle.taking.proofs.archive_rules.Statement.{statement}
-use Rattle.taking.proofs.archive_rules.Tie as tie
-use Rattle.taking.proofs.archive_rules.Reads as reads
-use Rattle.taking.proofs.archive_rules.Lts as lts
-use Rattle.archive_reader.proofs.files.sum_up.Reads as sum-up-reads
-use Rattle.taking.proofs.hold_rules.Reads as hold-rules-reads
+use Rattle.taking.proofs.rules_by.Statement.{statement}
+use Rattle.taking.proofs.rules_by.Tie as tie
 
 sum-up-requires : tie.Need-sum-up-requires
 sum-up-requires c κs = search needs
@@ -21,12 +17,12 @@ returns : tie.Need-returns
 returns c = search not-archive
 
 hold-rules-requires : tie.Need-hold-rules-requires
-hold-rules-requires c κs = (search needs, search sums-known)
+hold-rules-requires c κs = (search needs, (search needs, search sums-known))
 
 returns-2 : tie.Need-returns-2
 returns-2 c = search then-held
 
-pub archive-rules-spec : {M : Type 1} → statement M
-archive-rules-spec =
+pub rules-by-spec : {M : Type 1} → statement M
+rules-by-spec =
     tie.close
     (tie.spec sum-up-requires enum-known-x enum-told returns hold-rules-requires returns-2)
