@@ -22,7 +22,8 @@ use resolution::Resolution;
 use resolving::kept::keep_rows;
 use rules::slots::Ruling;
 use storing_names::store_names;
-use taking::archive_rules;
+use taking::known_of;
+use taking::rules_by;
 use tidying::is_filled;
 use tidying::long::held_long;
 use tidying::long::sheet_long;
@@ -178,7 +179,8 @@ fn survivors(bytes: &[u8]) -> Resolution
 {
     let h = fresh();
     held_long(h);
-    let a = archive_rules(h, bytes);
+    let k = known_of(h);
+    let a = rules_by(h, k, bytes);
     match a {
         Ruling::Broken(x) => refused(x),
         Ruling::Kept => gathered(h, bytes),

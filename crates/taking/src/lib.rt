@@ -66,14 +66,14 @@ fn look_back(s: Sheet) -> Back
 }
 
 // What the rules of an archive look at of what is held: its figures, the number of its groups, what the first file looks back at, and the subject.
-struct Known {
-    figures: Totals,
-    groups: usize,
-    back: Back,
-    subject: Subject,
+pub struct Known {
+    pub figures: Totals,
+    pub groups: usize,
+    pub back: Back,
+    pub subject: Subject,
 }
 
-fn known_of(h: Held) -> Known
+pub fn known_of(h: Held) -> Known
     requires { ⌜ heldOk h ≡ true ⌝ }
     ensures { λ r. ⌜ KnownOf h r ⌝ }
 {
@@ -129,7 +129,7 @@ fn hold_rules(h: Held, k: Known, bytes: &[u8], t: Totals) -> Ruling
 }
 
 // 23, then the others, by what is known of what is held, which itself is not read.
-fn rules_by(h: Held, k: Known, bytes: &[u8]) -> Ruling
+pub fn rules_by(h: Held, k: Known, bytes: &[u8]) -> Ruling
     requires { ⌜ (heldOk h ≡ true) × (KnownOf h k) ⌝ }
     ensures { λ r. ⌜ r ≡ ruling (archiveRules (heldIn h) (parse (now (bytes .entry)))) ⌝ }
 {
@@ -141,7 +141,7 @@ fn rules_by(h: Held, k: Known, bytes: &[u8]) -> Ruling
 }
 
 // The rules of an archive, in order.
-pub fn archive_rules(h: Held, bytes: &[u8]) -> Ruling
+fn archive_rules(h: Held, bytes: &[u8]) -> Ruling
     requires { ⌜ heldOk h ≡ true ⌝ }
     ensures { λ r. ⌜ r ≡ ruling (archiveRules (heldIn h) (parse (now (bytes .entry)))) ⌝ }
 {

@@ -11,8 +11,11 @@ fresh-requires c κs = search needs
 held-long-requires : tie.Need-held-long-requires
 held-long-requires c κs = search needs
 
-archive-rules-requires : tie.Need-archive-rules-requires
-archive-rules-requires c κs = search needs
+known-of-requires : tie.Need-known-of-requires
+known-of-requires c κs = search needs
+
+rules-by-requires : tie.Need-rules-by-requires
+rules-by-requires c κs = search needs
 
 enum-known-a : tie.Need-enum-known-a
 enum-known-a c = search needs
@@ -38,7 +41,8 @@ survivors-spec =
     (tie.spec
     fresh-requires
     held-long-requires
-    archive-rules-requires
+    known-of-requires
+    rules-by-requires
     enum-known-a
     refused-requires
     enum-told
