@@ -7,22 +7,26 @@ use group_parts::part_head;
 use group_parts::wide::less64;
 use group_sets::lent_sets;
 use held::Sheet;
+use out_file::Cover;
 use rules::slots::Ruling;
 use sections::places::byte_place_of;
 use sections::places::place_of;
 use tidying::long::sheet_long;
 ghost use mathlib.Core.Path.{_≡_};
 ghost use mathlib.Core.Bool.{true};
-ghost use Prim.Native.Nat.{_+_, _-_, _<_};
+ghost use mathlib.Core.List.{map};
+ghost use Prim.Native.Nat.{suc, _+_, _-_, _≤_, _<_};
 ghost use lib.ListN.{length};
+ghost use Rattle.lists.specs.Lists.{part};
 ghost use Rattle.columns.specs.Limits.{end64};
+ghost use Rattle.columns.specs.Reading.{labelsOf};
 ghost use Rattle.archive_sizes.specs.FileSize.{maxFileSize};
-ghost use Rattle.cleaning.specs.Sections.{sectionFileOf};
-ghost use Rattle.held.specs.View.{sheetIn};
+ghost use Rattle.cleaning.specs.Sections.{between, coverWhere, sectionFileOf};
+ghost use Rattle.held.specs.View.{hasCover, listed, linkAt, sheetIn};
 ghost use Rattle.held.specs.Valid.{sheetOk};
 ghost use Rattle.tidying.specs.Ordered.{ordered};
 ghost use Rattle.tidying.specs.Long.{LongSheet};
-ghost use Rattle.out_file.specs.View.{builtIn};
+ghost use Rattle.out_file.specs.View.{builtIn, coverIn};
 ghost use Rattle.out_file.specs.Lent.{setsOf};
 ghost use Rattle.file_writer.specs.Stored.{Stored};
 ghost use Rattle.group_sets.specs.ColumnGraphs.{Lends, LongSlices};
@@ -34,6 +38,18 @@ ghost use Rattle.group_writer.specs.PutBy.{PutBy};
 pub struct Put {
     pub ruling: Ruling,
     pub length: usize,
+}
+
+// The cover of group g, whose n rows start at row a, if the group has one.
+fn cover_of(s: Sheet, g: usize, a: usize, n: usize) -> Cover
+    requires { ⌜ (g < 16) × ((a + n ≤ 1024) × (s .links .count ≤ 1024)) ⌝ }
+    ensures { λ r. ⌜ coverIn n r ≡ coverWhere (hasCover (s .groups) g) (labelsOf (part a n (s .rows .chains)) (part a n (s .rows .seqs))) (map (λ x. x .link) (between (λ x. x .group) g (suc g) (listed (linkAt (s .links)) (s .links .count)))) ⌝ }
+    ensures { λ r. ⌜ (r .ranges .count ≤ 1024) × (r .links .count ≤ 1024) ⌝ }
+{
+    let groups = s.groups;
+    let labels = s.rows;
+    let links = s.links;
+    part_cover(groups, labels, links, g, a, n)
 }
 
 // The file of group g, whose rows stand from row a up to row b, whose unresolved records stand from place p up to place e of their columns, and
@@ -108,9 +124,7 @@ fn put_built(
             k,
         );
     }
-    let labels = s.rows;
-    let links = s.links;
-    let cover = part_cover(groups, labels, links, g, a, n);
+    let cover = cover_of(s, g, a, n);
     put_covered(
         out,
         at,

@@ -197,11 +197,11 @@ returns c =
     let cv = covers-none (x .s .groups) (x .g) (x .b - x .a) _ _ noCover (c .before .before .before .before .before .if1 .taken) refl in
     section-stored (x .s) (x .g) (x .a) (x .b) l k o h span sets u roots (head .result) (w .tags-are) noCover cv (unresolved-lent (x .s) (x .g) (x .a) (x .b) span l k o w (x .p) (x .e) from) (roots-lent (x .s) (x .g) (x .a) (x .b) span l k o w (x .p) (x .e) from n m (q .ensures) (y .ensures) (less .result) (less .ensures .1)) (head .ensures) (c .before .before .put-bare .ensures)
 
-part-cover-requires : tie.Need-part-cover-requires
-part-cover-requires c κs =
-    let s = c .before .before .before .before .before .before .before .before .before .before .before .before .before .before .before .before .before .before .before .before .before .before in
+cover-of-requires : tie.Need-cover-of-requires
+cover-of-requires c κs =
+    let s = c .before .before .before .before .before .before .before .before .before .before .before .before .before .before .before .before .before .before .before .before in
     let x = s .args in
-    let l = c .before .before .before .before .before .before .before .before .before .before .before .sheet-long .ensures in
+    let l = c .before .before .before .before .before .before .before .before .before .sheet-long .ensures in
     let k = s .pre .0 .0 in
     let o = s .pre .0 .1 .0 in
     let h = s .pre .0 .1 .1 in
@@ -211,29 +211,29 @@ part-cover-requires c κs =
     (group-few (x .s) (x .g) l k o h, (span-room (x .s) (x .g) (x .a) (x .b) span l k o, links-within (x .s) l k))
 
 slice-aggregate-put-covered : tie.Need-slice-aggregate-put-covered
-slice-aggregate-put-covered c = sym (c .before .before .before .before .before .before .before .less64 .ensures .0)
+slice-aggregate-put-covered c = sym (c .before .before .before .before .before .less64 .ensures .0)
 
 put-covered-requires : tie.Need-put-covered-requires
 put-covered-requires c κs =
-    let s = c .before .before .before .before .before .before .before .before .before .before .before .before .before .before .before .before .before .before .before .before .before .before .before .before .before in
+    let s = c .before .before .before .before .before .before .before .before .before .before .before .before .before .before .before .before .before .before .before .before .before .before .before in
     let x = s .args in
-    let l = c .before .before .before .before .before .before .before .before .before .before .before .before .before .before .sheet-long .ensures in
+    let l = c .before .before .before .before .before .before .before .before .before .before .before .before .sheet-long .ensures in
     let k = s .pre .0 .0 in
     let o = s .pre .0 .1 .0 in
     let h = s .pre .0 .1 .1 in
     let span = s .pre .1 .0 .0 in
     let from = s .pre .1 .0 .1 .0 in
     let w = s .pre .1 .1 .0 in
-    let q = c .before .before .before .before .before .before .before .before .before .place-of in
-    let y = c .before .before .before .before .before .before .before .before .place-of2 in
+    let q = c .before .before .before .before .before .before .before .place-of in
+    let y = c .before .before .before .before .before .before .place-of2 in
     let n = q .result in
     let m = y .result in
     let sets = setsOf (x .f) (x .r) (x .i) (x .fo .now) (x .fd .now) (x .ro .now) (x .rd .now) (x .io .now) (x .id .now) in
-    let less = c .before .before .before .before .before .before .before .less64 in
-    let head = c .before .before .before .before .before .before .before .before .before .before .part-head in
+    let less = c .before .before .before .before .before .less64 in
+    let head = c .before .before .before .before .before .before .before .before .part-head in
     let u = lentUnresolved (x .children .now) (x .kinds .now) (x .handles .now) (x .p) (x .e - x .p) in
     let roots = lentRoots (less .result) (x .roots .now) n (m - n) in
-    let cover = c .before .before .part-cover in (
+    let cover = c .before .before .cover-of in (
       (s .pre .1 .0 .1 .1, (tags-room (x .s) (x .g) (x .a) (x .b) l k o h span sets u roots (head .result) (w .tags-are), all-there (x .s) (x .g) (x .a) (x .b) span l k o w (x .p) (x .e) from n m (q .ensures) (y .ensures) (less .result) (less .ensures .0))),
       (
         lent-counted (x .s) (x .g) (x .a) (x .b) l k o h span sets u roots (head .result) (w .tags-are) (cover .result) (cover .ensures .0) (omega (arith, records-room (x .s) (x .g) (x .a) (x .b) span l k o w (x .p) (x .e) from)) (omega (arith, roots-room (x .s) (x .g) (x .a) (x .b) span l k o w (x .p) (x .e) from n m (q .ensures) (y .ensures))) (s .pre .1 .1 .1 .0) (cover .ensures .1),
@@ -246,25 +246,25 @@ same-length-2 c = search needs
 
 returns-2 : tie.Need-returns-2
 returns-2 c =
-    let s = c .before .before .before .before .before .before .before .before .before .before .before .before .before .before .before .before .before .before .before .before .before .before .before .before .before .before .before .before in
+    let s = c .before .before .before .before .before .before .before .before .before .before .before .before .before .before .before .before .before .before .before .before .before .before .before .before .before .before in
     let x = s .args in
-    let l = c .before .before .before .before .before .before .before .before .before .before .before .before .before .before .before .before .before .sheet-long .ensures in
+    let l = c .before .before .before .before .before .before .before .before .before .before .before .before .before .before .before .sheet-long .ensures in
     let k = s .pre .0 .0 in
     let o = s .pre .0 .1 .0 in
     let h = s .pre .0 .1 .1 in
     let span = s .pre .1 .0 .0 in
     let from = s .pre .1 .0 .1 .0 in
     let w = s .pre .1 .1 .0 in
-    let q = c .before .before .before .before .before .before .before .before .before .before .before .before .place-of in
-    let y = c .before .before .before .before .before .before .before .before .before .before .before .place-of2 in
+    let q = c .before .before .before .before .before .before .before .before .before .before .place-of in
+    let y = c .before .before .before .before .before .before .before .before .before .place-of2 in
     let n = q .result in
     let m = y .result in
     let sets = setsOf (x .f) (x .r) (x .i) (x .fo .now) (x .fd .now) (x .ro .now) (x .rd .now) (x .io .now) (x .id .now) in
-    let less = c .before .before .before .before .before .before .before .before .before .before .less64 in
-    let head = c .before .before .before .before .before .before .before .before .before .before .before .before .before .part-head in
+    let less = c .before .before .before .before .before .before .before .before .less64 in
+    let head = c .before .before .before .before .before .before .before .before .before .before .before .part-head in
     let u = lentUnresolved (x .children .now) (x .kinds .now) (x .handles .now) (x .p) (x .e - x .p) in
     let roots = lentRoots (less .result) (x .roots .now) n (m - n) in
-    let cover = c .before .before .before .before .before .part-cover in
+    let cover = c .before .before .before .before .before .cover-of in
     section-stored (x .s) (x .g) (x .a) (x .b) l k o h span sets u roots (head .result) (w .tags-are) (cover .result) (cover .ensures .0) (unresolved-lent (x .s) (x .g) (x .a) (x .b) span l k o w (x .p) (x .e) from) (roots-lent (x .s) (x .g) (x .a) (x .b) span l k o w (x .p) (x .e) from n m (q .ensures) (y .ensures) (less .result) (less .ensures .1)) (head .ensures) (c .before .before .put-covered .ensures)
 
 pub put-built-spec : {M : Type 1} → statement M
@@ -285,7 +285,7 @@ put-built-spec =
     put-bare-requires
     same-length
     returns
-    part-cover-requires
+    cover-of-requires
     slice-aggregate-put-covered
     put-covered-requires
     same-length-2
