@@ -21,7 +21,8 @@ use renumber::Grown;
 use resolution::Resolution;
 use resolving::kept::keep_rows;
 use rules::slots::Ruling;
-use storing_names::store_names;
+use storing_names::grow_names;
+use storing_names::names_of;
 use taking::known_of;
 use taking::rules_by;
 use tidying::is_filled;
@@ -51,7 +52,7 @@ fn gathered(h: Held, bytes: &[u8]) -> Resolution
     requires { ⌜ Alone h (now bytes) ⌝ }
     ensures { λ r. ⌜ Gathered h (now (bytes .entry)) r ⌝ }
 {
-    let names = store_names(h, bytes);
+    let names = grow_names(h, names_of(h), bytes);
     let subject = names.subject;
     let groups = names.groups;
     if groups.count == 0 {

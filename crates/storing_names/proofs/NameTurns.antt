@@ -72,8 +72,8 @@ module _ (l : List ℕ) (f : FileAt) where
       let r : storedRanges (fileIn l f .cover) ≡ f .tail .cover .ranges = ranges-counted l f u in
       rw (there, r, first-is, group-is, subject-is)
 
-pub names-start : (h : Held) (l : List ℕ) → Accepted h l → Walk namesOf h (namesOf h) l 0 0
-names-start h l a = walk-start namesOf h l a
+pub names-start : (h : Held) (l : List ℕ) {q : Names} → Accepted h l → q ≡ namesOf h → Walk namesOf h q l 0 0
+names-start h l a e = rw e (walk-start namesOf h l a)
 
 module _ (h : Held) (q : Names) (l : List ℕ) (k p : ℕ) (w : Walk namesOf h q l k p) where
   pub names-done : length l ≤ p → Named h l q

@@ -17,7 +17,7 @@ ghost use lib.ListN.{take, drop};
 ghost use Rattle.archive_reader.specs.Layout.{partIn, HoldsHead};
 ghost use Rattle.storing_parts.specs.Grown.{subjectNew};
 ghost use Rattle.storing_turns.specs.Parts.{Accepted};
-ghost use Rattle.storing_names.specs.Named.{namesMore, NamesRoom, Named};
+ghost use Rattle.storing_names.specs.Named.{namesOf, namesMore, NamesRoom, Named};
 
 // Start and subject of a run, the facts of its groups, and the number of its ranges.
 pub struct Names {
@@ -78,19 +78,26 @@ fn add_names(q: Names, bytes: &[u8], f: FileAt) -> Names
     }
 }
 
-// The names that are held, with those of the files of an archive more.
-pub fn store_names(h: Held, bytes: &[u8]) -> Names
-    requires { ⌜ Accepted h (now bytes) ⌝ }
-    ensures { λ r. ⌜ Named h (now (bytes .entry)) r ⌝ }
+// The names that are held.
+pub fn names_of(h: Held) -> Names
+    ensures { λ r. ⌜ r ≡ namesOf h ⌝ }
 {
     let subject = h.sheet.subject;
     let groups = h.sheet.groups;
-    let mut q = Names {
+    Names {
         start: h.sheet.start,
         subject: subject,
         groups: groups,
         ranges: h.ranges,
-    };
+    }
+}
+
+// The names that are held, with those of the files of an archive more. What is held itself is not read.
+pub fn grow_names(h: Held, names: Names, bytes: &[u8]) -> Names
+    requires { ⌜ (Accepted h (now bytes)) × (names ≡ namesOf h) ⌝ }
+    ensures { λ r. ⌜ Named h (now (bytes .entry)) r ⌝ }
+{
+    let mut q = names;
     let mut k: usize = 0;
     let mut p = 0;
     while p < bytes.len() {
@@ -104,4 +111,12 @@ pub fn store_names(h: Held, bytes: &[u8]) -> Names
         k = next(h, k, p);
     }
     q
+}
+
+// The same by what is held.
+pub fn store_names(h: Held, bytes: &[u8]) -> Names
+    requires { ⌜ Accepted h (now bytes) ⌝ }
+    ensures { λ r. ⌜ Named h (now (bytes .entry)) r ⌝ }
+{
+    grow_names(h, names_of(h), bytes)
 }

@@ -5,29 +5,32 @@ use borrow.Author.Needs.{needs}
 use Rattle.cleaner.proofs.gathered.Statement.{statement}
 use Rattle.cleaner.proofs.gathered.Tie as tie
 
-store-names-requires : tie.Need-store-names-requires
-store-names-requires c κs = search needs
+names-of-requires : tie.Need-names-of-requires
+names-of-requires c κs = search needs
+
+grow-names-requires : tie.Need-grow-names-requires
+grow-names-requires c κs = search needs
 
 refused-requires : tie.Need-refused-requires
 refused-requires c κs = search needs
 
 returns : tie.Need-returns
-returns c = no-file _ _ _ (c .before .before .before .before .before .store-names .ensures) _ (c .before .if1 .taken) (c .refused .ensures)
+returns c = no-file _ _ _ (c .before .before .before .before .before .grow-names .ensures) _ (c .before .if1 .taken) (c .refused .ensures)
 
 fill-rows-requires : tie.Need-fill-rows-requires
-fill-rows-requires c κs = (c .before .before .before .before .before .before .before .before .before .before .before .pre, (refl, (refl, (refl, (refl, refl)))))
+fill-rows-requires c κs = (c .before .before .before .before .before .before .before .before .before .before .before .before .pre, (refl, (refl, (refl, (refl, refl)))))
 
 slice-aggregate-fill-lists : tie.Need-slice-aggregate-fill-lists
 slice-aggregate-fill-lists c =
     let r = c .before in
-    let d = r .before .before .before .before .before .before .before .before .before .before .store-names .ensures in
+    let d = r .before .before .before .before .before .before .before .before .before .before .grow-names .ensures in
     sym (flags-long _ _ _ d (r .fill-rows .ensures .0) (r .fill-rows .ensures .1))
 
 fill-lists-requires : tie.Need-fill-lists-requires
 fill-lists-requires c κs =
     let r = c .before .before .before .before .before .before in
-    let d = r .before .before .before .before .before .before .before .before .before .before .store-names .ensures in
-    (r .before .before .before .before .before .before .before .before .before .before .before .before .pre, ((refl, refl), ((few-rows _ _ _ d (r .fill-rows .ensures .0) (r .fill-rows .ensures .1), (flags-long _ _ _ d (r .fill-rows .ensures .0) (r .fill-rows .ensures .1), rows-end _ _ _ d (r .fill-rows .ensures .0) (r .fill-rows .ensures .1))), edges-form _ _ _ d (r .fill-rows .ensures .0) (r .fill-rows .ensures .1))))
+    let d = r .before .before .before .before .before .before .before .before .before .before .grow-names .ensures in
+    (r .before .before .before .before .before .before .before .before .before .before .before .before .before .pre, ((refl, refl), ((few-rows _ _ _ d (r .fill-rows .ensures .0) (r .fill-rows .ensures .1), (flags-long _ _ _ d (r .fill-rows .ensures .0) (r .fill-rows .ensures .1), rows-end _ _ _ d (r .fill-rows .ensures .0) (r .fill-rows .ensures .1))), edges-form _ _ _ d (r .fill-rows .ensures .0) (r .fill-rows .ensures .1))))
 
 enum-known-g : tie.Need-enum-known-g
 enum-known-g c = search needs
@@ -41,67 +44,67 @@ refused-requires-2 c κs = search needs
 returns-2 : tie.Need-returns-2
 returns-2 c =
     let r = c .before .before .before .before .before .before .before .before .before .before in
-    let d = r .before .before .before .before .before .before .before .before .before .before .store-names .ensures in
+    let d = r .before .before .before .before .before .before .before .before .before .before .grow-names .ensures in
     too-many _ _ _ d (r .fill-rows .ensures .0) (r .fill-rows .ensures .1) (r .before .before .before .before .before .before .if1 .left) _ _ _ (c .before .before .before .fill-lists .ensures) _ (c .before .enum-told .given .1) (c .refused2 .ensures)
 
 array-share-prefix-flags : tie.Need-array-share-prefix-flags
 array-share-prefix-flags c =
     let r = c .before .before .before .before .before .before .before .before .before .before in
-    let d = r .before .before .before .before .before .before .before .before .before .before .store-names .ensures in
+    let d = r .before .before .before .before .before .before .before .before .before .before .grow-names .ensures in
     front-room _ _ _ d (r .fill-rows .ensures .0) (r .fill-rows .ensures .1)
 
 slice-aggregate-fill-unresolved : tie.Need-slice-aggregate-fill-unresolved
 slice-aggregate-fill-unresolved c =
     let r = c .before .before .before .before .before .before .before .before .before .before .before in
-    let d = r .before .before .before .before .before .before .before .before .before .before .store-names .ensures in
+    let d = r .before .before .before .before .before .before .before .before .before .before .grow-names .ensures in
     front-count _ _ _ d (r .fill-rows .ensures .0) (r .fill-rows .ensures .1)
 
 fill-unresolved-requires : tie.Need-fill-unresolved-requires
 fill-unresolved-requires c κs =
     let r = c .before .before .before .before .before .before .before .before .before .before .before .before .before .before in
-    let d = r .before .before .before .before .before .before .before .before .before .before .store-names .ensures in
-    (r .before .before .before .before .before .before .before .before .before .before .before .before .pre, ((refl, (refl, refl)), ((few-unresolved _ _ _ d, (front-few _ _ _ d (r .fill-rows .ensures .0) (r .fill-rows .ensures .1), front-end _ _ _ d (r .fill-rows .ensures .0) (r .fill-rows .ensures .1))), children-fit _ _ _ d (r .fill-rows .ensures .0) (r .fill-rows .ensures .1))))
+    let d = r .before .before .before .before .before .before .before .before .before .before .grow-names .ensures in
+    (r .before .before .before .before .before .before .before .before .before .before .before .before .before .pre, ((refl, (refl, refl)), ((few-unresolved _ _ _ d, (front-few _ _ _ d (r .fill-rows .ensures .0) (r .fill-rows .ensures .1), front-end _ _ _ d (r .fill-rows .ensures .0) (r .fill-rows .ensures .1))), children-fit _ _ _ d (r .fill-rows .ensures .0) (r .fill-rows .ensures .1))))
 
 array-share-prefix-flags-2 : tie.Need-array-share-prefix-flags-2
 array-share-prefix-flags-2 c =
     let r = c .before .before .before .before .before .before .before .before .before .before .before .before .before .before .before in
-    let d = r .before .before .before .before .before .before .before .before .before .before .store-names .ensures in
+    let d = r .before .before .before .before .before .before .before .before .before .before .grow-names .ensures in
     front-room _ _ _ d (r .fill-rows .ensures .0) (r .fill-rows .ensures .1)
 
 slice-aggregate-fill-roots : tie.Need-slice-aggregate-fill-roots
 slice-aggregate-fill-roots c =
     let r = c .before .before .before .before .before .before .before .before .before .before .before .before .before .before .before .before in
-    let d = r .before .before .before .before .before .before .before .before .before .before .store-names .ensures in
+    let d = r .before .before .before .before .before .before .before .before .before .before .grow-names .ensures in
     front-count _ _ _ d (r .fill-rows .ensures .0) (r .fill-rows .ensures .1)
 
 fill-roots-requires : tie.Need-fill-roots-requires
 fill-roots-requires c κs =
     let r = c .before .before .before .before .before .before .before .before .before .before .before .before .before .before .before .before .before .before in
-    let d = r .before .before .before .before .before .before .before .before .before .before .store-names .ensures in
-    (r .before .before .before .before .before .before .before .before .before .before .before .before .pre, ((refl, refl), ((few-roots _ _ _ d, (front-few _ _ _ d (r .fill-rows .ensures .0) (r .fill-rows .ensures .1), front-end _ _ _ d (r .fill-rows .ensures .0) (r .fill-rows .ensures .1))), roots-fit _ _ _ d (r .fill-rows .ensures .0) (r .fill-rows .ensures .1))))
+    let d = r .before .before .before .before .before .before .before .before .before .before .grow-names .ensures in
+    (r .before .before .before .before .before .before .before .before .before .before .before .before .before .pre, ((refl, refl), ((few-roots _ _ _ d, (front-few _ _ _ d (r .fill-rows .ensures .0) (r .fill-rows .ensures .1), front-end _ _ _ d (r .fill-rows .ensures .0) (r .fill-rows .ensures .1))), roots-fit _ _ _ d (r .fill-rows .ensures .0) (r .fill-rows .ensures .1))))
 
 fill-links-requires : tie.Need-fill-links-requires
 fill-links-requires c κs =
     let r = c .before .before .before .before .before .before .before .before .before .before .before .before .before .before .before .before .before .before .before .before .before .before .before .before in
-    let d = r .before .before .before .before .before .before .before .before .before .before .store-names .ensures in
-    (r .before .before .before .before .before .before .before .before .before .before .before .before .pre, (links-long _ _ _ d, (few-links _ _ _ d, (few-groups _ _ _ d, level-links _ _ _ d))))
+    let d = r .before .before .before .before .before .before .before .before .before .before .grow-names .ensures in
+    (r .before .before .before .before .before .before .before .before .before .before .before .before .before .pre, (links-long _ _ _ d, (few-links _ _ _ d, (few-groups _ _ _ d, level-links _ _ _ d))))
 
 array-share-prefix-flags-3 : tie.Need-array-share-prefix-flags-3
 array-share-prefix-flags-3 c =
     let r = c .before .before .before .before .before .before .before .before .before .before .before .before .before .before .before .before .before .before .before .before .before .before .before .before .before .before .before .before .before in
-    let d = r .before .before .before .before .before .before .before .before .before .before .store-names .ensures in
+    let d = r .before .before .before .before .before .before .before .before .before .before .grow-names .ensures in
     front-room _ _ _ d (r .fill-rows .ensures .0) (r .fill-rows .ensures .1)
 
 slice-aggregate-keep-rows : tie.Need-slice-aggregate-keep-rows
 slice-aggregate-keep-rows c =
     let r = c .before .before .before .before .before .before .before .before .before .before .before .before .before .before .before .before .before .before .before .before .before .before .before .before .before .before .before .before .before .before in
-    let d = r .before .before .before .before .before .before .before .before .before .before .store-names .ensures in
+    let d = r .before .before .before .before .before .before .before .before .before .before .grow-names .ensures in
     front-count _ _ _ d (r .fill-rows .ensures .0) (r .fill-rows .ensures .1)
 
 keep-rows-requires : tie.Need-keep-rows-requires
 keep-rows-requires c κs =
     let r = c .before .before .before .before .before .before .before .before .before .before .before .before .before .before .before .before .before .before .before .before .before .before .before .before .before .before .before .before .before .before in
-    let d = r .before .before .before .before .before .before .before .before .before .before .store-names .ensures in
+    let d = r .before .before .before .before .before .before .before .before .before .before .grow-names .ensures in
     front-few _ _ _ d (r .fill-rows .ensures .0) (r .fill-rows .ensures .1)
 
 sheet-long-requires : tie.Need-sheet-long-requires
@@ -110,7 +113,7 @@ sheet-long-requires c κs = search needs
 is-filled-requires : tie.Need-is-filled-requires
 is-filled-requires c κs =
     sheet-counted _ _ _
-    (c .before .before .before .before .before .before .before .before .before .before .before .before .before .before .before .before .before .before .before .before .before .before .before .before .before .before .before .before .before .before .before .before .before .before .before .before .before .before .before .before .before .before .store-names .ensures)
+    (c .before .before .before .before .before .before .before .before .before .before .before .before .before .before .before .before .before .before .before .before .before .before .before .before .before .before .before .before .before .before .before .before .before .before .before .before .before .before .before .before .before .before .grow-names .ensures)
     (c .before .before .before .before .before .before .before .before .before .before .before .before .before .before .before .before .before .before .before .before .before .before .before .before .before .before .before .before .before .before .before .before .fill-rows .ensures .0)
     (c .before .before .before .before .before .before .before .before .before .before .before .before .before .before .before .before .before .before .before .before .before .before .before .before .before .before .before .before .before .before .before .before .fill-rows .ensures .1)
     (c .before .before .before .before .before .before .before .before .before .before .before .before .before .before .before .before .before .before .before .before .before .before .before .before .before .before .before .before .before .before .before .before .before .before .before .before .before .before .if1 .left) _ _ _
@@ -130,7 +133,7 @@ refused-requires-3 c κs = search needs
 returns-3 : tie.Need-returns-3
 returns-3 c =
     one-empty _ _ _
-    (c .before .before .before .before .before .before .before .before .before .before .before .before .before .before .before .before .before .before .before .before .before .before .before .before .before .before .before .before .before .before .before .before .before .before .before .before .before .before .before .before .before .before .before .before .before .store-names .ensures)
+    (c .before .before .before .before .before .before .before .before .before .before .before .before .before .before .before .before .before .before .before .before .before .before .before .before .before .before .before .before .before .before .before .before .before .before .before .before .before .before .before .before .before .before .before .before .before .grow-names .ensures)
     (c .before .before .before .before .before .before .before .before .before .before .before .before .before .before .before .before .before .before .before .before .before .before .before .before .before .before .before .before .before .before .before .before .before .before .before .fill-rows .ensures .0)
     (c .before .before .before .before .before .before .before .before .before .before .before .before .before .before .before .before .before .before .before .before .before .before .before .before .before .before .before .before .before .before .before .before .before .before .before .fill-rows .ensures .1)
     (c .before .before .before .before .before .before .before .before .before .before .before .before .before .before .before .before .before .before .before .before .before .before .before .before .before .before .before .before .before .before .before .before .before .before .before .before .before .before .before .before .before .if1 .left) _ _ _
@@ -147,7 +150,7 @@ returns-3 c =
 returns-4 : tie.Need-returns-4
 returns-4 c =
     all-full _ _ _
-    (c .before .before .before .before .before .before .before .before .before .before .before .before .before .before .before .before .before .before .before .before .before .before .before .before .before .before .before .before .before .before .before .before .before .before .before .before .before .before .before .before .before .before .before .before .store-names .ensures)
+    (c .before .before .before .before .before .before .before .before .before .before .before .before .before .before .before .before .before .before .before .before .before .before .before .before .before .before .before .before .before .before .before .before .before .before .before .before .before .before .before .before .before .before .before .before .grow-names .ensures)
     (c .before .before .before .before .before .before .before .before .before .before .before .before .before .before .before .before .before .before .before .before .before .before .before .before .before .before .before .before .before .before .before .before .before .before .fill-rows .ensures .0)
     (c .before .before .before .before .before .before .before .before .before .before .before .before .before .before .before .before .before .before .before .before .before .before .before .before .before .before .before .before .before .before .before .before .before .before .fill-rows .ensures .1)
     (c .before .before .before .before .before .before .before .before .before .before .before .before .before .before .before .before .before .before .before .before .before .before .before .before .before .before .before .before .before .before .before .before .before .before .before .before .before .before .before .before .if1 .left) _ _ _
@@ -165,7 +168,8 @@ pub gathered-spec : {M : Type 1} → statement M
 gathered-spec =
     tie.close
     (tie.spec
-    store-names-requires
+    names-of-requires
+    grow-names-requires
     refused-requires
     returns
     fill-rows-requires

@@ -1,4 +1,4 @@
--- `storing_names::store_names` meets its contract.
+-- `storing_names::grow_names` meets its contract.
 use Prim.Native.Nat.{_≤_, _-_}
 use lib.ListN.{length}
 use Rattle.archive_reader.proofs.AtFiles.{file-fits}
@@ -6,10 +6,10 @@ use Rattle.storing_turns.proofs.Turns.{Walk, fewer-left, count-below, count-on}
 use Rattle.storing_names.specs.Named.{namesOf}
 use Rattle.storing_names.proofs.NameTurns.{names-start, names-none, names-done, names-room, names-on}
 use borrow.Author.Needs.{needs}
-use Rattle.storing_names.proofs.store_names.Statement.{statement}
-use Rattle.storing_names.proofs.store_names.Tie as tie
-use Rattle.storing_names.proofs.store_names.Reads as reads
-use Rattle.storing_names.proofs.store_names.Lts as lts
+use Rattle.storing_names.proofs.grow_names.Statement.{statement}
+use Rattle.storing_names.proofs.grow_names.Tie as tie
+use Rattle.storing_names.proofs.grow_names.Reads as reads
+use Rattle.storing_names.proofs.grow_names.Lts as lts
 use Rattle.archive_reader.proofs.records.file_at.Reads as file-at-reads
 use Rattle.storing_names.proofs.add_names.Reads as add-names-reads
 use Rattle.storing_turns.proofs.next.Reads as next-reads
@@ -50,8 +50,8 @@ returns c = search names-done
 returns-2 : tie.Need-returns-2 Inv-loop μ-loop
 returns-2 c = search names-none
 
-pub store-names-spec : {M : Type 1} → statement M
-store-names-spec =
+pub grow-names-spec : {M : Type 1} → statement M
+grow-names-spec =
     tie.close
     (tie.spec
     Inv-loop
