@@ -23,7 +23,7 @@ extern "C" {
 /* No refusal's words are longer; they are told only where there is so much room. */
 #define RIDGEOVEN_WORDS_ROOM 120
 
-/* A call uses less stack (at most 2,818,048 bytes as compiled for x86-64, a run that is given and one that is given back among them). */
+/* A call uses less stack (at most 2,416,984 bytes as compiled for x86-64, a run that is given and one that is given back among them). */
 #define RIDGEOVEN_STACK (3 << 20)
 
 /* The number of a refusal, or 0 and how many bytes were written. */
