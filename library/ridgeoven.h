@@ -1,4 +1,4 @@
-/* Cleans room archives. Every function is proved; what each promises is its contract in crates/ffi_archives and crates/ffi_run.
+/* Cleans room archives. Every function is proved; what each promises is its contract in crates/ffi_clean and crates/ffi_run.
  *
  * A call is refused by number: 1 to 27 for the archive, 41 where out has too little room, 42 and 43 where the archive is over the
  * limits; 0 where it is accepted. A refused call writes nothing, and an accepted one nothing past its length. Nothing is allocated

@@ -13,10 +13,10 @@ HERE = os.path.dirname(os.path.dirname(os.path.abspath(__file__)))
 KEPT = [os.path.join(HERE, "tests", "differential", "kept", name) for name in ("cases.txt", "alone.txt")]
 # a program's questions, and the widths in bytes that it reads its words in
 PROGRAMS = {
-    "replay_build": (["build"], [8, 4, 1]),
-    "replay_columns": (["read", "parents", "children", "label", "roots"], [8]),
-    "replay_walk": (["walk", "next"], [8]),
-    "replay_cover": (["stored", "decode", "window", "cover", "links"], [8, 4]),
+    "try_build": (["build"], [8, 4, 1]),
+    "try_columns": (["read", "parents", "children", "label", "roots"], [8]),
+    "try_walk": (["walk", "next"], [8]),
+    "try_cover": (["stored", "decode", "window", "cover", "links"], [8, 4]),
 }
 # the parts of a question's input: N a number, L a list
 FORMS = {"walk": "NNNNLLNNN"}

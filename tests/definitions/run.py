@@ -6,7 +6,7 @@
 FOLDER holds NAME.archive, NAME.listing and, where the archive is accepted, NAME.cleaned. Each answer becomes an equation that the
 prover must find true by computing, in a crate of its own beside a copy of this repository, outside it. At most N archives are
 taken (default: all), spread evenly, none of more than so many bytes (default: 1200). With --keep the crate is written to
-crates/computed of this repository instead, a sample that the gate proves without the folder."""
+crates/try_known of this repository instead, a sample that the gate proves without the folder."""
 import argparse
 import pathlib
 import sys
@@ -65,9 +65,9 @@ def main():
         return 0
     archives = choose(folder, args.most, args.bytes)
     if args.keep:
-        scratch.write(scratch.ROOT / "crates" / "computed", COMMENT, modules(archives))
+        scratch.write(scratch.ROOT / "crates" / "try_known", COMMENT, modules(archives))
         return 0
-    status, said, places = scratch.prove("computed", COMMENT, modules(archives))
+    status, said, places = scratch.prove("try_known", COMMENT, modules(archives))
     wrong = sorted({archives[int(name.removeprefix("Archive"))].name for name, _ in places})
     if status or wrong:
         print("\n".join(f"definitions: {name}: computes to something else" for name in wrong) or said[-4000:])

@@ -13,7 +13,7 @@ use Rattle.lists.proofs.Tests.{both}
 use Rattle.archive.specs.Bytes.{be, bytesOf, several}
 use Rattle.archive.specs.Reader.{Parsed, broken, got, Reader, andThen, _>>=_, byte, number, bytes, table, numbers, checked, ahead}
 use Rattle.archive.specs.Encode.{columnBytes}
-use Rattle.bigend.proofs.Numbers.{AllBytes, be-small, bytesOf-be, getD-small}
+use Rattle.archive_bytes.proofs.Numbers.{AllBytes, be-small, bytesOf-be, getD-small}
 
 -- the bytes from place p up to place q
 abbrev pub span : ℕ → ℕ → List ℕ → List ℕ

@@ -18,7 +18,7 @@ use Rattle.archive.specs.Parse
 use Rattle.archive.specs.Parse.{Head, depthFlagOk, depthRead, headEnd, edgeSet, Sets, rowAt, unresolvedAt, rootAt, rangeAt}
 use Rattle.archive.specs.Encode.{depthBytes, setBytes, flagOf, rowBytes, unresolvedBytes, rootBytes, rangeBytes, linksBytes, coverBytes, countedBytes, coverRecord}
 use Rattle.archive.specs.Fits.{DepthFits, SetFits, UnresolvedFits, RootFits, RangeFits, LinksFit, CoverFits, CoverFitsIn, Short, Wide}
-use Rattle.bigend.proofs.Numbers.{AllBytes, be-small, bytesOf-be, getD-small, unsigned-all-back}
+use Rattle.archive_bytes.proofs.Numbers.{AllBytes, be-small, bytesOf-be, getD-small, unsigned-all-back}
 use Rattle.archive.proofs.Back.{Back, Said, then-back, end-back, weaker-back, number-back, byte-back, bytes-back, Things, testedTable-back, table-back, numbers-back}
 use Rattle.archive.proofs.Framed.{record-back, optionally-back}
 

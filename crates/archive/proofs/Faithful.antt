@@ -15,7 +15,7 @@ use Rattle.archive.specs.Parse
 use Rattle.archive.specs.Parse.{files, parse}
 use Rattle.archive.specs.Encode.{headBytes, edgesBytes, fileBytes, encode}
 use Rattle.archive.specs.Fits.{FileFits}
-use Rattle.bigend.proofs.Numbers.{AllBytes}
+use Rattle.archive_bytes.proofs.Numbers.{AllBytes}
 use Rattle.archive.proofs.Back.{Back, Said, andThen-got, cond-got, tested-got, then-back, end-back}
 use Rattle.archive.proofs.Framed.{record-back, Inside, then-inside, record-inside, optionally-inside}
 use Rattle.archive.proofs.Bodies.{head-back, sets-back, rows-back, unresolved-back, roots-back, cover-found-back}

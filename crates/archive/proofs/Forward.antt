@@ -17,7 +17,7 @@ use Rattle.archive.specs.Bytes.{be, bytesOf, several}
 use Rattle.archive.specs.Reader.{Parsed, got, Reader, _>>=_, byte, number, bytes, table, numbers, checked, ahead, whole, body, recordOf, optionally, counted}
 use Rattle.archive.specs.Encode.{recordBytes, columnBytes, countedBytes}
 use Rattle.archive.specs.Fits.{Wide, Short}
-use Rattle.bigend.proofs.Numbers.{length-bytesOf, be-at}
+use Rattle.archive_bytes.proofs.Numbers.{length-bytesOf, be-at}
 
 -- the bytes e, with `post` behind them, give x, and the reader stops where they end
 pub record Reads {A : Type 0} (post : List ℕ) (r : Reader A) (e : List ℕ) (x : A) : Type 0 where

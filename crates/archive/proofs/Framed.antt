@@ -15,7 +15,7 @@ use Rattle.archive.specs.Bytes.{be}
 use Rattle.archive.specs.Reader.{broken, got, Reader, andThen, _>>=_, byte, number, bytes, whole, body, recordOf, optionally}
 use Rattle.archive.specs.Encode.{recordBytes}
 use Rattle.archive.specs.Fits.{Short}
-use Rattle.bigend.proofs.Numbers.{AllBytes}
+use Rattle.archive_bytes.proofs.Numbers.{AllBytes}
 use Rattle.archive.proofs.Back.{Back, Said, andThen-got, cond-got, tested-got, then-back, end-back, number-back, byte-back, bytes-back}
 
 -- ── a body ───────────────────────────────────────────────────────────────────────────────────

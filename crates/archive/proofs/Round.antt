@@ -24,7 +24,7 @@ use Rattle.archive.specs.Parse
 use Rattle.archive.specs.Parse.{Head, depthFlagOk, headEnd, edgeSet, rowAt, unresolvedAt, rootAt, rangeAt, files, parse}
 use Rattle.archive.specs.Encode.{recordBytes, depthBytes, headBytes, setBytes, edgesBytes, flagOf, rowBytes, unresolvedBytes, rootBytes, rangeBytes, linksBytes, coverBytes, countedBytes, coverRecord, fileBytes, encode}
 use Rattle.archive.specs.Fits.{DepthFits, SetFits, UnresolvedFits, RootFits, RangeFits, LinksFit, CoverFits, CoverFitsIn, FileFits, Short}
-use Rattle.bigend.proofs.Numbers.{length-bytesOf, be-at, signed-all, unsigned-all}
+use Rattle.archive_bytes.proofs.Numbers.{length-bytesOf, be-at, signed-all, unsigned-all}
 use Rattle.archive.proofs.Forward.{Reads, then-reads, end-reads, again-reads, number-reads, byte-reads, bytes-reads, Item, table-reads, things-read, numbers-read, counted-read, stops-at-end, record-kind, record-reads, found-reads, none-reads}
 
 -- ── 1 file ───────────────────────────────────────────────────────────────────────────────────

@@ -3,11 +3,11 @@ use Rattle.archive.specs.Encode
 use Rattle.archive.specs.Parse
 use Rattle.archive.specs.Reader
 use Rattle.cover.specs.Computes.{computes as coverOpens}
-use Rattle.bigend.specs.Computes.{computes as bigendOpens}
+use Rattle.archive_bytes.specs.Computes.{computes as archive_bytesOpens}
 
 unfoldable pub computes : Unit {0}
 unfolding
-    coverOpens bigendOpens
+    coverOpens archive_bytesOpens
     Encode.recordBytes Encode.depthBytes Encode.headBytes Encode.setBytes Encode.edgesBytes Encode.rowBytes Encode.unresolvedBytes Encode.rootBytes Encode.rangeBytes Encode.linksBytes Encode.coverBytes Encode.countedBytes Encode.fileBytes Encode.encode
     Parse.depthFlagOk Parse.headEnd Parse.head Parse.edgeSet Parse.sets Parse.rowAt Parse.rows Parse.unresolvedAt Parse.unresolved Parse.rootAt Parse.roots Parse.rangeAt Parse.links Parse.cover Parse.file Parse.files Parse.parse
     Reader._>>=_ Reader.table Reader.whole Reader.body Reader.recordOf Reader.optionally

@@ -17,7 +17,7 @@ use Rattle.cover.specs.Cover.{LinkColumns}
 use Rattle.archive.specs.File.{Unresolved, Root, CoverColumns, File}
 use Rattle.archive.specs.Encode.{edgesBytes, rowBytes, unresolvedBytes, rootBytes, countedBytes, coverBytes}
 -- numbers of w bytes
-pub use Rattle.bigend.specs.Bytes.{Wide}
+pub use Rattle.archive_bytes.specs.Bytes.{Wide}
 
 -- a body whose record has a length of 4 bytes
 abbrev pub Short : List ℕ → Type 0

@@ -1,10 +1,10 @@
 // Opens every archive that its arguments name and says of each, in a line, whether it is accepted: taken, resolved and written. It goes on after a
 // bad one, and ends with how many were accepted, refused and not read.
-use archive_reader::files::Summed;
-use archive_reader::files::sum_up;
+use archive_read::files::Summed;
+use archive_read::files::sum_up;
 use columns::refusal::Refusal;
 use libc::STDOUT_FILENO;
-use writing::Writing;
+use run_write::Writing;
 
 enum Outcome {
     Accepted,
@@ -40,23 +40,23 @@ fn less(a: usize, b: usize) -> usize {
 fn tell_accepted(bytes: &[u8], cleaned: &[u8]) {
     let events = events_of(bytes);
     let survivors = events_of(cleaned);
-    telling::tell_count(STDOUT_FILENO, b"accepted: files ", files_of(bytes));
-    telling::tell_count(STDOUT_FILENO, b", events ", events);
-    telling::tell_count(STDOUT_FILENO, b", erased ", less(events, survivors));
-    telling::tell_count(STDOUT_FILENO, b", survivors ", survivors);
+    messages::tell_count(STDOUT_FILENO, b"accepted: files ", files_of(bytes));
+    messages::tell_count(STDOUT_FILENO, b", events ", events);
+    messages::tell_count(STDOUT_FILENO, b", erased ", less(events, survivors));
+    messages::tell_count(STDOUT_FILENO, b", survivors ", survivors);
     io::write_all(STDOUT_FILENO, b"\n");
 }
 
 fn check_bytes(bytes: &[u8]) -> Outcome {
-    let mut out = telling::output_room();
-    let r = cleaner::clean(bytes, &mut out);
+    let mut out = messages::output_room();
+    let r = run_clean::clean(bytes, &mut out);
     match r {
         Writing::Refused(x) => {
-            telling::tell_refusal(STDOUT_FILENO, x);
+            messages::tell_refusal(STDOUT_FILENO, x);
             Outcome::Refused
         }
         Writing::Length(n) => {
-            let m = telling::within(n, &out);
+            let m = messages::within(n, &out);
             tell_accepted(bytes, &out[..m]);
             Outcome::Accepted
         }
@@ -65,11 +65,11 @@ fn check_bytes(bytes: &[u8]) -> Outcome {
 
 // Reads an open file, of at most 655,360 bytes, and checks it.
 fn check_file(fd: i32) -> Outcome {
-    let mut input = telling::input_room();
+    let mut input = messages::input_room();
     let n = io::read_full(fd, &mut input);
     libc::close(fd);
     if 655360 < n {
-        telling::tell_refusal(STDOUT_FILENO, Refusal::SliceShort);
+        messages::tell_refusal(STDOUT_FILENO, Refusal::SliceShort);
         return Outcome::Refused;
     }
     check_bytes(&input[..n])

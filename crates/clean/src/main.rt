@@ -4,16 +4,16 @@ use columns::refusal::Refusal;
 use libc::STDERR_FILENO;
 use libc::STDIN_FILENO;
 use libc::STDOUT_FILENO;
-use writing::Writing;
+use run_write::Writing;
 
 // Cleans bytes, and writes what they are cleaned to.
 fn clean(bytes: &[u8]) {
-    let mut out = telling::output_room();
-    let r = cleaner::clean(bytes, &mut out);
+    let mut out = messages::output_room();
+    let r = run_clean::clean(bytes, &mut out);
     match r {
-        Writing::Refused(x) => telling::tell_refusal(STDERR_FILENO, x),
+        Writing::Refused(x) => messages::tell_refusal(STDERR_FILENO, x),
         Writing::Length(n) => {
-            let m = telling::within(n, &out);
+            let m = messages::within(n, &out);
             let is_written = io::write_all(STDOUT_FILENO, &out[..m]);
             if !is_written {
                 os::fail(b"standard output");
@@ -24,10 +24,10 @@ fn clean(bytes: &[u8]) {
 
 // An archive of more than 655,360 bytes is refused with 41.
 fn main() {
-    let mut input = telling::input_room();
+    let mut input = messages::input_room();
     let n = io::read_full(STDIN_FILENO, &mut input);
     if 655360 < n {
-        telling::tell_refusal(STDERR_FILENO, Refusal::SliceShort);
+        messages::tell_refusal(STDERR_FILENO, Refusal::SliceShort);
         return;
     }
     clean(&input[..n]);

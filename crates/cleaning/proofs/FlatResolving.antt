@@ -11,7 +11,7 @@ use Rattle.columns.specs.Limits.{maxNumbers}
 use Rattle.columns.specs.Refusal.{refuse, firstOf}
 use Rattle.columns.specs.declared.refusal.Refusal.{Refusal}
 use Rattle.columns.specs.declared.refusal.Refusal.the-variants.{GroupOrder, OverNumbers, NoSurvivor}
-use Rattle.renumber.specs.NewLists.{newLists}
+use Rattle.run_renumber.specs.NewLists.{newLists}
 use Rattle.cleaning.specs.Memo.{tables}
 use Rattle.cleaning.specs.Held.{Held, archiveHeld}
 use Rattle.cleaning.specs.Survivors.{keep, survivorSheet}

@@ -14,9 +14,9 @@ use Rattle.lists.proofs.Flat.{length-upFrom, length-map-upFrom, getD-map-upFrom
 use Rattle.lists.proofs.Filters.{each-below, map-places}
 use Rattle.lists.proofs.Cut.{length-blocks, getD-blocks}
 use Rattle.columns.specs.Limits.{kinds}
-use Rattle.renumber.specs.Numbers.{numbersFrom, survivors}
-use Rattle.renumber.specs.NewLists.{newLists}
-use Rattle.renumber.specs.Reparented
+use Rattle.run_renumber.specs.Numbers.{numbersFrom, survivors}
+use Rattle.run_renumber.specs.NewLists.{newLists}
+use Rattle.run_renumber.specs.Reparented
 use Rattle.cleaning.specs.Archive.{Archive, blank}
 use Rattle.cleaning.specs.Routes.{Valid}
 use Rattle.cleaning.specs.Cleaning.{count, renumber, reparented}

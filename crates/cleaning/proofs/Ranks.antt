@@ -14,7 +14,7 @@ use Rattle.lists.specs.Lists.{flat, filter, part, upFrom, Each}
 use Rattle.lists.proofs.Tests.{tested, not-both}
 use Rattle.lists.proofs.Once.{eqb-iff}
 use Rattle.columns.specs.Limits.{kinds}
-use Rattle.renumber.specs.Numbers.{takes, numbersFrom}
+use Rattle.run_renumber.specs.Numbers.{takes, numbersFrom}
 use Rattle.archive.specs.File.{Unresolved, Root}
 use Rattle.cleaning.specs.Archive.{Event, rootIn, referencesIn}
 use Rattle.cleaning.specs.Cleaning.{count}

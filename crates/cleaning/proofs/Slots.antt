@@ -14,11 +14,11 @@ use Rattle.lists.specs.Lists.{flat, joined, part, upFrom, any, filter, sum, add
 use Rattle.lists.proofs.Each.{each-imp, each-all}
 use Rattle.lists.proofs.Flat.{length-map-upFrom, getD-map-upFrom, map-upFrom-snoc, upFrom-append, upFrom-snoc, sum-append, length-joined}
 use Rattle.columns.specs.Limits.{kinds}
-use Rattle.renumber.specs.Numbers.{takes, numbersFrom, survivors}
-use Rattle.renumber.specs.NewLists.{newList, newListsFrom, newLists}
-use Rattle.renumber.specs.NewLists
-use Rattle.renumber.specs.Reparented.{isErased}
-use Rattle.renumber.specs.Reparented
+use Rattle.run_renumber.specs.Numbers.{takes, numbersFrom, survivors}
+use Rattle.run_renumber.specs.NewLists.{newList, newListsFrom, newLists}
+use Rattle.run_renumber.specs.NewLists
+use Rattle.run_renumber.specs.Reparented.{isErased}
+use Rattle.run_renumber.specs.Reparented
 use Rattle.cleaning.specs.Archive.{Event, Archive, blank, at, parentsOf}
 use Rattle.cleaning.specs.Routes.{passes, Valid}
 use Rattle.cleaning.specs.Cleaning.{count, rank, renumber, survivorsFrom, isReparented, reparented}

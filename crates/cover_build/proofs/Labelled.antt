@@ -8,7 +8,7 @@ use lib.Seq.{length-take-le}
 use Rattle.columns.specs.Reading.{Label, labelsOf}
 use Rattle.cover.specs.Chains.{rangesOf}
 use Rattle.cover.specs.Answers.{RangeColumns}
-use Rattle.cover_labels.specs.Runs.{rangesOver}
+use Rattle.cover_sort.specs.labels.Runs.{rangesOver}
 
 pub chains-few : (cs ss : List ℕ) → length cs < length ss → length cs ≡ length (labelsOf cs ss)
 unfolding labelsOf

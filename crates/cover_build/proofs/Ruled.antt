@@ -20,8 +20,8 @@ use Rattle.columns.proofs.FirstBroken.{each-none, not-refused, passed}
 use Rattle.columns.proofs.Checks.{is-kept}
 use Rattle.cover.specs.Cover.{evenColumns}
 use Rattle.cover.specs.Answers.{linkColumns, forRecords}
-use Rattle.cover_limits.proofs.Anyone.{any-nil, few-first, long-first}
-use Rattle.cover_limits.proofs.Verdicts.{limits-records, limits-short, limits-none}
+use Rattle.cover_rows.proofs.limits.Anyone.{any-nil, few-first, long-first}
+use Rattle.cover_rows.proofs.limits.Verdicts.{limits-records, limits-short, limits-none}
 use Rattle.cover_build.specs.Built.{buildRules}
 
 module _ (chains seqs s b c d : List ℕ) (lent : List Lent) where

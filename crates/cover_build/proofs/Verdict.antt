@@ -14,8 +14,8 @@ use Rattle.columns.proofs.Checks.{is-kept, is-broken}
 use Rattle.cover.specs.Chains.{rangesOf, sortLinks}
 use Rattle.cover.specs.Cover.{LinkColumns, Cover, linksOf, coverOf, buildCover}
 use Rattle.cover.specs.Answers.{RangeColumns, linkColumns, linksOver, linksAfter}
-use Rattle.cover_limits.proofs.Verdicts.{columns-kept, columns-written}
-use Rattle.cover_labels.specs.Runs.{rangesOver}
+use Rattle.cover_rows.proofs.limits.Verdicts.{columns-kept, columns-written}
+use Rattle.cover_sort.specs.labels.Runs.{rangesOver}
 use Rattle.cover_build.specs.Built.{buildRules, builtOf, rangesAfter}
 use Rattle.cover_build.specs.declared.Built.the-variants.{Refused, Done}
 

@@ -9,7 +9,7 @@ use Rattle.columns.specs.declared.refusal.Refusal.{Refusal}
 use Rattle.columns.specs.declared.refusal.Refusal.the-variants.{CoverForm}
 use Rattle.cover.specs.Cover.{LinkColumns, Cover, evenColumns}
 use Rattle.cover.specs.Answers.{RangeColumns}
-use Rattle.cover_labels.specs.Runs.{rangesOver}
+use Rattle.cover_sort.specs.labels.Runs.{rangesOver}
 use Rattle.cover_build.specs.declared.Built.{Built}
 use Rattle.cover_build.specs.declared.Built.the-variants.{Refused, Done}
 

@@ -1,4 +1,6 @@
 // Building a cover: the ranges of labels and the sorted links, from columns in any order.
+pub mod encode;
+
 use columns::reading::Checked;
 use columns::refusal::Refusal;
 ghost use mathlib.Core.Path.{_≡_};
@@ -14,7 +16,7 @@ ghost use Rattle.columns.specs.Answers.{labelColumns, checkedOf};
 ghost use Rattle.cover.specs.Chains.{rangesOf};
 ghost use Rattle.cover.specs.Cover.{evenColumns, buildCover};
 ghost use Rattle.cover.specs.Answers.{rangeColumns, linkColumns, linksAfter, forRecords};
-ghost use Rattle.cover_labels.specs.Runs.{rangesOver};
+ghost use Rattle.cover_sort.specs.labels.Runs.{rangesOver};
 ghost use Rattle.cover_build.specs.Built.{buildRules, builtOf, rangesAfter};
 
 // How many ranges and how many links a build wrote, or why it wrote none.
@@ -33,7 +35,7 @@ fn six_over(a: usize, b: usize, c: usize, d: usize, e: usize, f: usize) -> bool
     if 1024 < b {
         return true;
     }
-    cover_limits::four_over(c, d, e, f)
+    cover_rows::limits::four_over(c, d, e, f)
 }
 
 // Whether one of the slices lent for three range columns and four link columns is too short.
@@ -49,7 +51,7 @@ fn seven_short(a: usize, b: usize, c: usize, d: usize, e: usize, f: usize, g: us
     if c < 1024 {
         return true;
     }
-    cover_limits::four_short(d, e, f, g)
+    cover_rows::limits::four_short(d, e, f, g)
 }
 
 // Whether link columns are equal in number.
@@ -127,7 +129,7 @@ fn write_ranges(
     ensures { λ _. ⌜ rangeColumns (now (ids .exit)) (now (minima .exit)) (now (maxima .exit)) ≡ rangesOver (rangesOf (labelsOf (now (chains .entry)) (now (seqs .entry)))) (rangeColumns (now (ids .entry)) (now (minima .entry)) (now (maxima .entry))) ⌝ }
 {
     let n = labels_count(chains, seqs);
-    cover_labels::ranges_of(&chains[..n], &seqs[..n], ids, minima, maxima)
+    cover_sort::labels::ranges_of(&chains[..n], &seqs[..n], ids, minima, maxima)
 }
 
 // Builds a cover of labels and of links (from chains, from seqs, to chains, to seqs): writes its ranges into three columns and its links

@@ -1,1 +1,4 @@
+pub mod Climbing
+pub mod Ranged
+pub mod Windows
 pub mod Readings

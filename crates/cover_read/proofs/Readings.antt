@@ -16,9 +16,9 @@ use Rattle.cover.specs.Chains.{Link}
 use Rattle.cover.specs.Cover.{LinkColumns, Cover, linksOk, linkRules, storedLinks}
 use Rattle.cover.specs.Answers.{RangeColumns, rangeLengths, linkLengths, lentRanges, rangesFit, columnRules, forRecords, readLent, counted, linksOver, linksAfter, linkColumns}
 use Rattle.cover.specs.declared.answer.Answer.the-variants.{Refused, Done}
-use Rattle.cover_limits.proofs.Anyone.{any-nil, few-first, long-first}
+use Rattle.cover_rows.proofs.limits.Anyone.{any-nil, few-first, long-first}
 use Rattle.cover_rows.proofs.Fitting.{ok-count}
-use Rattle.cover_limits.proofs.Verdicts.{counted-refused, columns-kept, counted-done, columns-written, limits-records, limits-short, limits-none, first-refuses, next-rule, no-rule, refuse-not, refuse-none}
+use Rattle.cover_rows.proofs.limits.Verdicts.{counted-refused, columns-kept, counted-done, columns-written, limits-records, limits-short, limits-none, first-refuses, next-rule, no-rule, refuse-not, refuse-none}
 
 module _ (r : RangeColumns) (l : LinkColumns) (ns : List ℕ) where
   abbrev cover : Cover

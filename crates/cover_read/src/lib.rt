@@ -1,4 +1,9 @@
 // Reading a cover: ranges and stored links, refused or answered as links.
+pub mod chosen;
+pub mod links;
+pub mod ranges;
+pub mod window;
+
 use columns::refusal::Refusal;
 use cover::answer::Answer;
 ghost use mathlib.Core.Path.{_≡_};
@@ -47,7 +52,7 @@ pub fn read(
     ensures { λ r. ⌜ r ≡ counted (λ x. x .links) (readLent (rangeColumns (now (ids .entry)) (now (minima .entry)) (now (maxima .entry))) (linkColumns (now (differences .entry)) (now (fs .entry)) (now (tc .entry)) (now (ts .entry))) (forRecords (length (now (a .entry)) ∷ length (now (b .entry)) ∷ length (now (c .entry)) ∷ length (now (d .entry)) ∷ []))) ⌝ }
     ensures { λ _. ⌜ linkColumns (now (a .exit)) (now (b .exit)) (now (c .exit)) (now (d .exit)) ≡ linksAfter (λ x. x .links) (readLent (rangeColumns (now (ids .entry)) (now (minima .entry)) (now (maxima .entry))) (linkColumns (now (differences .entry)) (now (fs .entry)) (now (tc .entry)) (now (ts .entry))) (forRecords (length (now (a .entry)) ∷ length (now (b .entry)) ∷ length (now (c .entry)) ∷ length (now (d .entry)) ∷ []))) (linkColumns (now (a .entry)) (now (b .entry)) (now (c .entry)) (now (d .entry))) ⌝ }
 {
-    if cover_limits::seven_over(
+    if cover_rows::limits::seven_over(
         ids.len(),
         minima.len(),
         maxima.len(),
@@ -58,10 +63,10 @@ pub fn read(
     ) {
         return Answer::Refused(Refusal::OverRecords);
     }
-    if cover_limits::four_short(a.len(), b.len(), c.len(), d.len()) {
+    if cover_rows::limits::four_short(a.len(), b.len(), c.len(), d.len()) {
         return Answer::Refused(Refusal::SliceShort);
     }
-    if !cover_ranges::ranges::ranges_fit(ids, minima, maxima) {
+    if !crate::ranges::ranges_fit(ids, minima, maxima) {
         return Answer::Refused(Refusal::CoverForm);
     }
     if !cover_rows::links_fit(differences, fs, tc, ts) {

@@ -1,4 +1,7 @@
 // Link columns row by row: their order, and the sums of the first one.
+pub mod limits;
+pub mod pick;
+
 ghost use mathlib.Core.Path.{_≡_};
 ghost use mathlib.Core.Bool.{true};
 ghost use Prim.Native.Nat.{_≤_, _<_};

@@ -1,1 +1,4 @@
 pub mod Kept
+pub mod codes
+pub mod labels
+pub mod packing

@@ -1,8 +1,8 @@
 -- What reading an archive and writing a record answer by numbers.
 use mathlib.Core.Path.{_≡_, ap, sym, _∙_}
 use Rattle.columns.specs.declared.refusal.Refusal.{Refusal}
-use Rattle.archive_reader.specs.declared.files.Summed.{Summed}
-use Rattle.archive_writer.specs.declared.writer.Wrote as writer
+use Rattle.archive_read.specs.declared.files.Summed.{Summed}
+use Rattle.archive_write.specs.declared.writer.Wrote as writer
 use Rattle.ffi.specs.Numbers.{noEntries}
 use Rattle.ffi.specs.Records.{sumsOf, wroteOf}
 use Rattle.ffi.specs.declared.answer.Answer.{Answer}

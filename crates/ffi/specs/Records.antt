@@ -1,7 +1,7 @@
 -- What reading an archive and writing records answer by numbers.
 use Prim.Native.Nat.{ℕ}
-use Rattle.archive_reader.specs.declared.files.Summed as reader
-use Rattle.archive_writer.specs.declared.writer.Wrote as writer
+use Rattle.archive_read.specs.declared.files.Summed as reader
+use Rattle.archive_write.specs.declared.writer.Wrote as writer
 use Rattle.ffi.specs.Numbers.{entries, noEntries}
 use Rattle.ffi.specs.declared.answer.Answer.{Answer}
 use Rattle.ffi.specs.declared.archives.Sums.{Sums}

@@ -1,9 +1,9 @@
 // What is given and answered by numbers: a refusal by its number and nothing else, or 0 and what was found.
-use building::roots::Roots;
 use columns::kind::Kind;
 use columns::reading::Counted;
 use columns::refusal::Refusal;
 use columns::refusal::number;
+use columns_build::roots::Roots;
 ghost use mathlib.Core.Path.{_≡_};
 ghost use Rattle.ffi.specs.Numbers.{flagAt, kindAt, entries, noEntries, countOf, rootsOf, recordsOf};
 

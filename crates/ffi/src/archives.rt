@@ -2,10 +2,10 @@
 use crate::answer::Answer;
 use crate::answer::no_entries;
 use crate::answer::some_entries;
-use archive_reader::files::Summed;
-use archive_reader::files::sum_up;
-use archive_writer::writer;
-use archive_writer::writer::Wrote;
+use archive_read::files::Summed;
+use archive_read::files::sum_up;
+use archive_write::writer;
+use archive_write::writer::Wrote;
 ghost use mathlib.Core.Path.{_≡_};
 ghost use Prim.Native.Nat.{_+_};
 ghost use lib.ListN.{length};
@@ -13,9 +13,9 @@ ghost use lib.Seq.{sets};
 ghost use Rattle.lists.specs.Lists.{flat};
 ghost use Rattle.archive.specs.Parse.{parse};
 ghost use Rattle.archive.specs.Encode.{recordBytes, setsBytes, rowBytes};
-ghost use Rattle.archive_reader.specs.Sums.{totalsOf};
-ghost use Rattle.archive_stores.specs.Lent.{zip2, setFrom, rowFrom};
-ghost use Rattle.archive_writer.specs.Writes.{edgesRules, rowsRules, wrote, left};
+ghost use Rattle.archive_read.specs.Sums.{totalsOf};
+ghost use Rattle.archive_store.specs.Lent.{zip2, setFrom, rowFrom};
+ghost use Rattle.archive_write.specs.Writes.{edgesRules, rowsRules, wrote, left};
 ghost use Rattle.ffi.specs.Records.{sumsOf, wroteOf};
 
 // How many files an archive has, and the sums of their counts; `refusal` is 23 where the bytes are no archive.

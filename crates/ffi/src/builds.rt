@@ -3,14 +3,14 @@ use crate::answer::flag_at;
 use crate::edges::Granule;
 use crate::edges::no_edges;
 use crate::edges::some_edges;
-use building::encode::encode_graph_blocks;
-use encoding::kept::Encoded;
-use records::groups::Depth;
+use columns_build::encode::encode_graph_blocks;
+use columns_encode::kept::Encoded;
+use columns_rules::records::groups::Depth;
 ghost use mathlib.Core.Path.{_≡_};
 ghost use lib.ListN.{length};
 ghost use Rattle.columns.specs.Building.{build};
-ghost use Rattle.encoding.specs.Answered.{encodedOf, offsetsLaid, deltasLaid};
-ghost use Rattle.building.specs.Lent.{graphOf, slicesOf};
+ghost use Rattle.columns_encode.specs.Answered.{encodedOf, offsetsLaid, deltasLaid};
+ghost use Rattle.columns_build.specs.Lent.{graphOf, slicesOf};
 ghost use Rattle.ffi.specs.Numbers.{flagAt, depthAt, builtOf};
 
 fn built_of(encoded: Encoded) -> Granule

@@ -30,7 +30,7 @@ pub extern "C" fn ridgeoven_cover_store(
     ensures { λ r. ⌜ r ≡ recordsOf (counted (λ x. x .fromChains) (encode (linkColumns (now (fc .entry)) (now (fs .entry)) (now (tc .entry)) (now (ts .entry))) (forRecords (length (now (a .entry)) ∷ length (now (b .entry)) ∷ length (now (c .entry)) ∷ length (now (d .entry)) ∷ [])))) ⌝ }
     ensures { λ _. ⌜ linkColumns (now (a .exit)) (now (b .exit)) (now (c .exit)) (now (d .exit)) ≡ columnsAfter (encode (linkColumns (now (fc .entry)) (now (fs .entry)) (now (tc .entry)) (now (ts .entry))) (forRecords (length (now (a .entry)) ∷ length (now (b .entry)) ∷ length (now (c .entry)) ∷ length (now (d .entry)) ∷ []))) (linkColumns (now (a .entry)) (now (b .entry)) (now (c .entry)) (now (d .entry))) ⌝ }
 {
-    records_of(cover_encode::encode_links(fc, fs, tc, ts, a, b, c, d))
+    records_of(cover_build::encode::encode_links(fc, fs, tc, ts, a, b, c, d))
 }
 
 // The links of stored columns, whose ranges are read too.
@@ -95,7 +95,7 @@ pub extern "C" fn ridgeoven_window(
 ) -> Held
     ensures { λ r. ⌜ r ≡ heldOf (windowAnswer (mayHoldLent (rangeColumns (now (ids .entry)) (now (minima .entry)) (now (maxima .entry))) chain low high)) ⌝ }
 {
-    held_of(cover_ranges::window::may_hold_chain(ids, minima, maxima, chain, low, high))
+    held_of(cover_read::window::may_hold_chain(ids, minima, maxima, chain, low, high))
 }
 
 // The links from some chains, of stored columns.
@@ -114,7 +114,7 @@ pub extern "C" fn ridgeoven_chain_links(
     ensures { λ r. ⌜ r ≡ recordsOf (counted (λ x. x) (chainLinks (linkColumns (now (differences .entry)) (now (fs .entry)) (now (tc .entry)) (now (ts .entry))) (now (chains .entry)) (forRecords (length (now (a .entry)) ∷ length (now (b .entry)) ∷ length (now (c .entry)) ∷ length (now (d .entry)) ∷ [])))) ⌝ }
     ensures { λ _. ⌜ linkColumns (now (a .exit)) (now (b .exit)) (now (c .exit)) (now (d .exit)) ≡ linksAfter (λ x. x) (chainLinks (linkColumns (now (differences .entry)) (now (fs .entry)) (now (tc .entry)) (now (ts .entry))) (now (chains .entry)) (forRecords (length (now (a .entry)) ∷ length (now (b .entry)) ∷ length (now (c .entry)) ∷ length (now (d .entry)) ∷ []))) (linkColumns (now (a .entry)) (now (b .entry)) (now (c .entry)) (now (d .entry))) ⌝ }
 {
-    records_of(cover_links::chain_links(differences, fs, tc, ts, chains, a, b, c, d))
+    records_of(cover_read::links::chain_links(differences, fs, tc, ts, chains, a, b, c, d))
 }
 
 // How many ranges and links a cover has.

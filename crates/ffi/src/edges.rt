@@ -6,9 +6,9 @@ use crate::answer::kind_at;
 use crate::answer::roots_of;
 use columns::refusal::Refusal;
 use columns::refusal::number;
-use granules::Decoded;
-use granules::Head;
-use questions::Labelled;
+use columns_ask::Labelled;
+use columns_read::Decoded;
+use columns_read::Head;
 ghost use mathlib.Core.Path.{_≡_};
 ghost use mathlib.Core.List.{[], _∷_};
 ghost use lib.ListN.{length};
@@ -16,9 +16,9 @@ ghost use Rattle.columns.specs.Reading.{decodeSet, readGranule};
 ghost use Rattle.columns.specs.Questions as asked;
 ghost use Rattle.columns.specs.Roots.{rootEntries};
 ghost use Rattle.columns.specs.Answers.{kindOf, columnsOf, labelColumns, room, inOne, countedOf, writtenOver};
-ghost use Rattle.granules.specs.Granules.{lentGranule, rooms, decodedOf, setIn};
-ghost use Rattle.questions.specs.Views.{labelledOf};
-ghost use Rattle.building.specs.Written.{records, rootsAnswer, over};
+ghost use Rattle.columns_read.specs.Granules.{lentGranule, rooms, decodedOf, setIn};
+ghost use Rattle.columns_ask.specs.Views.{labelledOf};
+ghost use Rattle.columns_build.specs.Written.{records, rootsAnswer, over};
 ghost use Rattle.ffi.specs.Numbers.{kindAt, headAt, countOf, rootsOf, edges, noEdges, granuleOf, labelOf};
 
 // One set of edges: 0 forward, 1 reverse, 2 inbound.
@@ -115,7 +115,7 @@ pub extern "C" fn ridgeoven_read_granule(
         inbound: icount,
         cover: flag_at(cover),
     };
-    granule_of(granules::decode_granule_edges(
+    granule_of(columns_read::decode_granule_edges(
         head,
         fo,
         fd,
@@ -146,7 +146,7 @@ pub extern "C" fn ridgeoven_parents(
     ensures { λ r. ⌜ r ≡ countOf (countedOf (asked.parents first rows end (columnsOf count (now (offsets .entry)) (now (deltas .entry))) (kindOf (kindAt kind)) number (room (length (now (list .entry)))))) ⌝ }
     ensures { λ _. ⌜ now (list .exit) ≡ writtenOver (now (list .entry)) (asked.parents first rows end (columnsOf count (now (offsets .entry)) (now (deltas .entry))) (kindOf (kindAt kind)) number (room (length (now (list .entry))))) ⌝ }
 {
-    count_of(questions::parents(
+    count_of(columns_ask::parents(
         first,
         rows,
         end,
@@ -177,7 +177,7 @@ pub extern "C" fn ridgeoven_children(
     ensures { λ r. ⌜ r ≡ countOf (countedOf (asked.children first rows end (columnsOf rcount (now (ro .entry)) (now (rd .entry))) (columnsOf icount (now (io .entry)) (now (id .entry))) (kindOf (kindAt kind)) number (room (length (now (list .entry)))))) ⌝ }
     ensures { λ _. ⌜ now (list .exit) ≡ writtenOver (now (list .entry)) (asked.children first rows end (columnsOf rcount (now (ro .entry)) (now (rd .entry))) (columnsOf icount (now (io .entry)) (now (id .entry))) (kindOf (kindAt kind)) number (room (length (now (list .entry))))) ⌝ }
 {
-    count_of(questions::children(
+    count_of(columns_ask::children(
         first,
         rows,
         end,
@@ -237,7 +237,7 @@ pub extern "C" fn ridgeoven_label(
 ) -> Label
     ensures { λ r. ⌜ r ≡ labelOf (labelledOf (asked.label first rows (labelColumns (now (chains .entry)) (now (seqs .entry))) number)) ⌝ }
 {
-    label_of(questions::label(first, rows, chains, seqs, number))
+    label_of(columns_ask::label(first, rows, chains, seqs, number))
 }
 
 // The rows of the events that have a state root.
@@ -251,5 +251,5 @@ pub extern "C" fn ridgeoven_roots(
     ensures { λ r. ⌜ r ≡ rootsOf (rootsAnswer (rootEntries first rows (now (events .entry)) (records (now (list .entry)) ∷ []))) ⌝ }
     ensures { λ _. ⌜ now (list .exit) ≡ over (rootEntries first rows (now (events .entry)) (records (now (list .entry)) ∷ [])) (now (list .entry)) ⌝ }
 {
-    roots_of(building::roots::state_root_entries(first, rows, events, list))
+    roots_of(columns_build::roots::state_root_entries(first, rows, events, list))
 }

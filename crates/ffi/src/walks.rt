@@ -3,8 +3,8 @@ use crate::answer::Answer;
 use crate::answer::count_of;
 use crate::answer::kind_at;
 use columns::refusal::number;
-use walk::Handed;
-use walk::Shared;
+use columns_walk::Handed;
+use columns_walk::Shared;
 ghost use mathlib.Core.Path.{_≡_};
 ghost use mathlib.Core.List.{[]};
 ghost use lib.ListN.{length};
@@ -12,8 +12,8 @@ ghost use Rattle.columns.specs.Reading.{slotsOf};
 ghost use Rattle.columns.specs.Questions.{listOf};
 ghost use Rattle.columns.specs.Answers.{kindOf, columnsOf, room, lentRules, countedOf, writtenOver};
 ghost use Rattle.columns.specs.Walk as definition;
-ghost use Rattle.walk.specs.Handing.{rooms, handedOf, numbersOf, endsOf};
-ghost use Rattle.levels.specs.Step as step;
+ghost use Rattle.columns_walk.specs.Handing.{rooms, handedOf, numbersOf, endsOf};
+ghost use Rattle.columns_walk.specs.level.Step as step;
 ghost use Rattle.ffi.specs.Numbers.{kindAt, countOf, walkedOf, ancestorOf, PromisedBy};
 
 // How many levels a walk has, and how many numbers it has handed out.
@@ -60,7 +60,7 @@ pub extern "C" fn ridgeoven_walk(
     ensures { λ _. ⌜ now (numbers .exit) ≡ writtenOver (now (numbers .entry)) (numbersOf (definition.walk first rows end (columnsOf count (now (offsets .entry)) (now (deltas .entry))) (kindOf (kindAt kind)) limit start (rooms (length (now (numbers .entry))) (length (now (ends .entry)))))) ⌝ }
     ensures { λ _. ⌜ now (ends .exit) ≡ writtenOver (now (ends .entry)) (endsOf (definition.walk first rows end (columnsOf count (now (offsets .entry)) (now (deltas .entry))) (kindOf (kindAt kind)) limit start (rooms (length (now (numbers .entry))) (length (now (ends .entry)))))) ⌝ }
 {
-    walked_of(walk::walk(
+    walked_of(columns_walk::walk(
         first,
         rows,
         end,
@@ -93,7 +93,7 @@ pub extern "C" fn ridgeoven_next(
     ensures { λ r. ⌜ r ≡ countOf (countedOf (step.next first rows end (columnsOf count (now (offsets .entry)) (now (deltas .entry))) (kindOf (kindAt kind)) limit (now (visited .entry)) (now (frontier .entry)) (room (length (now (level .entry)))))) ⌝ }
     ensures { λ _. ⌜ now (level .exit) ≡ writtenOver (now (level .entry)) (step.next first rows end (columnsOf count (now (offsets .entry)) (now (deltas .entry))) (kindOf (kindAt kind)) limit (now (visited .entry)) (now (frontier .entry)) (room (length (now (level .entry))))) ⌝ }
 {
-    count_of(levels::next(
+    count_of(columns_walk::level::next(
         first,
         rows,
         end,
@@ -152,7 +152,7 @@ pub extern "C" fn ridgeoven_ancestor(
 ) -> Ancestor
     ensures { λ r. ⌜ PromisedBy r (lentRules 0 first rows end (columnsOf count (now (offsets .entry)) (now (deltas .entry))) []) (listOf first (slotsOf first (columnsOf count (now (offsets .entry)) (now (deltas .entry)))) (kindOf (kindAt kind))) a b ⌝ }
 {
-    ancestor_of(walk::ancestor(
+    ancestor_of(columns_walk::ancestor(
         first,
         rows,
         end,

@@ -1,15 +1,15 @@
 // Document 01's listing program: an archive of at most 65,536 bytes on standard input, its listing or the one line `refused N` on standard output.
 use libc::STDIN_FILENO;
 use libc::STDOUT_FILENO;
-use writing::Writing;
+use run_write::Writing;
 
 fn list(bytes: &[u8]) {
-    let mut out = telling::text_room();
-    let r = listing_bytes::listing(bytes, &mut out);
+    let mut out = messages::text_room();
+    let r = run_print::listing(bytes, &mut out);
     match r {
-        Writing::Refused(x) => telling::tell_refusal(STDOUT_FILENO, x),
+        Writing::Refused(x) => messages::tell_refusal(STDOUT_FILENO, x),
         Writing::Length(n) => {
-            let m = telling::within(n, &out);
+            let m = messages::within(n, &out);
             io::write_all(STDOUT_FILENO, &out[..m]);
         }
     }

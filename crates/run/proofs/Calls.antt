@@ -14,20 +14,20 @@ use Rattle.cleaning.specs.Runs.{RunState, taking, resolved, runOutcome, runStep
 use Rattle.cleaning.specs.Held.{holdMore, archiveHeld}
 use Rattle.cleaning.specs.Cleaning.{mapped, reparented}
 use Rattle.archive.specs.Parse.{parse}
-use Rattle.rules.specs.declared.slots.Ruling.the-variants.{Kept, Broken}
-use Rattle.held.specs.View.{sheetIn, heldIn}
-use Rattle.held.specs.Valid.{sheetOk, heldOk}
-use Rattle.tidying.specs.Ordered.{ordered, filled}
-use Rattle.taking.specs.Took.{TookBy}
-use Rattle.taking.specs.declared.Taken.{Taken}
-use Rattle.resolution.specs.Outcome.{ResolvedBy}
-use Rattle.resolution.specs.Map.{mappedOf}
-use Rattle.resolution.specs.declared.Resolution.{Resolution}
-use Rattle.resolution.specs.declared.asked.Mapped.{Mapped}
-use Rattle.resolution.specs.declared.asked.Mapped.the-variants.{To, Nothing}
-use Rattle.writing.specs.Answers.{answerOf, Wrote}
-use Rattle.writing.specs.declared.Writing.{Writing}
-use Rattle.writing.specs.declared.Writing.the-variants as writing
+use Rattle.columns_rules.specs.declared.slots.Ruling.the-variants.{Kept, Broken}
+use Rattle.run_state.specs.View.{sheetIn, heldIn}
+use Rattle.run_state.specs.Valid.{sheetOk, heldOk}
+use Rattle.run_state.specs.order.Ordered.{ordered, filled}
+use Rattle.run_take.specs.Took.{TookBy}
+use Rattle.run_take.specs.declared.Taken.{Taken}
+use Rattle.run_resolve.specs.Outcome.{ResolvedBy}
+use Rattle.run_resolve.specs.Map.{mappedOf}
+use Rattle.run_resolve.specs.declared.Resolution.{Resolution}
+use Rattle.run_resolve.specs.declared.asked.Mapped.{Mapped}
+use Rattle.run_resolve.specs.declared.asked.Mapped.the-variants.{To, Nothing}
+use Rattle.run_write.specs.Answers.{answerOf, Wrote}
+use Rattle.run_write.specs.declared.Writing.{Writing}
+use Rattle.run_write.specs.declared.Writing.the-variants as writing
 use Rattle.run.specs.View.{view, phased, holdable, writable, isTaking, isResolved}
 use Rattle.run.specs.Contracts.{Steps, Writes, Maps, Counts}
 use Rattle.run.specs.declared.Run.{Run}

@@ -10,11 +10,11 @@ use Rattle.cleaning.specs.Sheet as sheets
 use Rattle.cleaning.specs.Held as held
 use Rattle.cleaning.specs.Step.{Call, refused}
 use Rattle.cleaning.specs.Runs.{RunState, taking, resolved, spoiled, runOutcome, runStep}
-use Rattle.held.specs.View.{sheetIn, heldIn}
-use Rattle.held.specs.declared.Sheet.{Sheet}
-use Rattle.held.specs.declared.Held.{Held}
-use Rattle.held.specs.Valid.{countsOk, sheetOk, heldOk}
-use Rattle.tidying.specs.Ordered.{ordered, filled}
+use Rattle.run_state.specs.View.{sheetIn, heldIn}
+use Rattle.run_state.specs.declared.Sheet.{Sheet}
+use Rattle.run_state.specs.declared.Held.{Held}
+use Rattle.run_state.specs.Valid.{countsOk, sheetOk, heldOk}
+use Rattle.run_state.specs.order.Ordered.{ordered, filled}
 use Rattle.run.specs.declared.Run.{Run}
 use Rattle.run.specs.View.{holdable, writable, phased, view, takingBy, resolvedBy, isTaking, isResolved}
 

@@ -14,18 +14,18 @@ use Rattle.cleaning.specs.Held as run
 use Rattle.cleaning.specs.Held.{holdMore}
 use Rattle.cleaning.specs.Sheet as sheets
 use Rattle.archive.specs.Parse.{parse}
-use Rattle.rules.specs.declared.slots.Ruling.the-variants.{Kept, Broken}
-use Rattle.held.specs.declared.Held.{Held}
-use Rattle.held.specs.View.{sheetIn, heldIn}
-use Rattle.held.specs.Valid.{heldOk}
-use Rattle.tidying.specs.Ordered.{ordered}
-use Rattle.taking.specs.Took.{TookBy}
-use Rattle.taking.specs.declared.Taken.{Taken}
-use Rattle.resolution.specs.Outcome.{rulesIn, newIn, ResolvedBy}
-use Rattle.resolution.specs.declared.Resolution.{Resolution}
-use Rattle.writing.proofs.Rest.{kept-none, broken-some}
-use Rattle.writing.specs.Answers.{answerOf, Wrote}
-use Rattle.writing.specs.declared.Writing.{Writing}
+use Rattle.columns_rules.specs.declared.slots.Ruling.the-variants.{Kept, Broken}
+use Rattle.run_state.specs.declared.Held.{Held}
+use Rattle.run_state.specs.View.{sheetIn, heldIn}
+use Rattle.run_state.specs.Valid.{heldOk}
+use Rattle.run_state.specs.order.Ordered.{ordered}
+use Rattle.run_take.specs.Took.{TookBy}
+use Rattle.run_take.specs.declared.Taken.{Taken}
+use Rattle.run_resolve.specs.Outcome.{rulesIn, newIn, ResolvedBy}
+use Rattle.run_resolve.specs.declared.Resolution.{Resolution}
+use Rattle.run_write.proofs.Rest.{kept-none, broken-some}
+use Rattle.run_write.specs.Answers.{answerOf, Wrote}
+use Rattle.run_write.specs.declared.Writing.{Writing}
 
 -- ── taking ───────────────────────────────────────────────────────────────────────────────────
 

@@ -12,7 +12,7 @@ use Rattle.run.specs.View.{view}
 use Rattle.run.specs.Contracts.{replied, numbered, countedAs}
 use Rattle.run.specs.Traces.{Link, took, resolved, wrote, mapped, counted, Trace, ended, linked, Fresh, callOf, ClaimOfRuns, AcceptedByRuns, SameAgain}
 use Rattle.run.specs.declared.Run.{Run}
-use Rattle.writing.specs.Answers.{answerOf}
+use Rattle.run_write.specs.Answers.{answerOf}
 
 -- the trace of steps, whose answers are those of the contracts
 abbrev StepTrace : Run → List Did → Type 0

@@ -5,12 +5,12 @@ use Rattle.lists.proofs.Tests.{both}
 use Rattle.cleaning.specs.Held.{nothing}
 use Rattle.cleaning.specs.Runs.{freshRun}
 use Rattle.cleaning.proofs.Neat.{Neat, neat-nothing}
-use Rattle.held.specs.declared.Held.{Held}
-use Rattle.held.specs.View.{heldIn}
-use Rattle.held.specs.Valid.{sheetOk, heldOk}
-use Rattle.tidying.specs.Ordered.{ordered}
-use Rattle.tidying.specs.Long.{LongHeld}
-use Rattle.tidying.proofs.TidySheets.{ordered-sheet}
+use Rattle.run_state.specs.declared.Held.{Held}
+use Rattle.run_state.specs.View.{heldIn}
+use Rattle.run_state.specs.Valid.{sheetOk, heldOk}
+use Rattle.run_state.specs.order.Ordered.{ordered}
+use Rattle.run_state.specs.order.Long.{LongHeld}
+use Rattle.run_state.proofs.order.TidySheets.{ordered-sheet}
 use Rattle.run.specs.declared.Run.{Run}
 use Rattle.run.specs.View.{holdable, phased, view}
 

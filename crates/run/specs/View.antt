@@ -3,11 +3,11 @@ use mathlib.Core.Bool.{Bool, cond, _&&_}
 use Prim.Native.Nat.{ℕ, zero, suc}
 use lib.Dec.{eqb}
 use Rattle.cleaning.specs.Runs.{RunState, taking, resolved, spoiled}
-use Rattle.held.specs.declared.Sheet.{Sheet}
-use Rattle.held.specs.declared.Held.{Held}
-use Rattle.held.specs.View.{sheetIn, heldIn}
-use Rattle.held.specs.Valid.{sheetOk, heldOk}
-use Rattle.tidying.specs.Ordered.{ordered, filled}
+use Rattle.run_state.specs.declared.Sheet.{Sheet}
+use Rattle.run_state.specs.declared.Held.{Held}
+use Rattle.run_state.specs.View.{sheetIn, heldIn}
+use Rattle.run_state.specs.Valid.{sheetOk, heldOk}
+use Rattle.run_state.specs.order.Ordered.{ordered, filled}
 use Rattle.run.specs.declared.Run.{Run}
 
 -- columns that a run holds of its sources

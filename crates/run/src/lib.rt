@@ -3,11 +3,11 @@ pub mod listing;
 mod turns;
 
 use columns::refusal::Refusal;
-use held::Held;
-use held::Sheet;
-use resolution::asked::Mapped;
-use rules::slots::Ruling;
-use writing::Writing;
+use columns_rules::slots::Ruling;
+use run_resolve::asked::Mapped;
+use run_state::Held;
+use run_state::Sheet;
+use run_write::Writing;
 ghost use mathlib.Core.Path.{_≡_};
 ghost use Rattle.cleaning.specs.Step.{takes, resolves};
 ghost use Rattle.cleaning.specs.Runs.{freshRun};
@@ -51,8 +51,8 @@ pub enum Count {
 pub fn new() -> Run
     ensures { λ r. ⌜ view r ≡ freshRun ⌝ }
 {
-    let h = held::empty::fresh();
-    tidying::long::held_long(h);
+    let h = run_state::empty::fresh();
+    run_state::order::long::held_long(h);
     let s = h.sheet;
     Run {
         phase: 0,
@@ -72,7 +72,7 @@ pub fn take(run: Run, bytes: &[u8]) -> Stepped
             reply: Reply::Refused(Refusal::OutOfTurn),
         };
     }
-    let t = taking::take(run.held, bytes);
+    let t = run_take::take(run.held, bytes);
     let v = t.ruling;
     match v {
         Ruling::Broken(x) => Stepped {
@@ -105,7 +105,7 @@ pub fn resolve(run: Run) -> Stepped
             reply: Reply::Refused(Refusal::OutOfTurn),
         };
     }
-    let q = resolution::resolve(run.held);
+    let q = run_resolve::resolve(run.held);
     let v = q.ruling;
     match v {
         Ruling::Broken(x) => Stepped {
@@ -135,7 +135,7 @@ pub fn write(run: Run, out: &mut [u8]) -> Writing
     if !turns::is_resolved(run.phase, holds, turns::is_writable(run.sheet)) {
         return Writing::Refused(Refusal::OutOfTurn);
     }
-    writing::write_sheet(run.sheet, out)
+    run_write::write_sheet(run.sheet, out)
 }
 
 // The new number of an old one, in a resolved run.
@@ -146,7 +146,7 @@ pub fn new_number(run: Run, old: u64) -> Number
     if !turns::is_resolved(run.phase, holds, turns::is_writable(run.sheet)) {
         return Number::Refused(Refusal::OutOfTurn);
     }
-    let m = resolution::asked::new_number(run.held, old);
+    let m = run_resolve::asked::new_number(run.held, old);
     match m {
         Mapped::To(n) => Number::To(n),
         Mapped::Nothing => Number::Nothing,
@@ -161,5 +161,5 @@ pub fn reparented(run: Run) -> Count
     if !turns::is_resolved(run.phase, holds, turns::is_writable(run.sheet)) {
         return Count::Refused(Refusal::OutOfTurn);
     }
-    Count::Of(resolving::asked::reparented(run.held))
+    Count::Of(run_resolve::sheet::asked::reparented(run.held))
 }

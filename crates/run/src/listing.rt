@@ -2,7 +2,7 @@
 use crate::Run;
 use crate::turns;
 use columns::refusal::Refusal;
-use writing::Writing;
+use run_write::Writing;
 ghost use Rattle.run.specs.Listed.{ListsOf};
 
 // Writes the listing into lent bytes, and answers its length.
@@ -13,5 +13,5 @@ pub fn list(run: Run, out: &mut [u8]) -> Writing
     if !turns::is_resolved(run.phase, holds, turns::is_writable(run.sheet)) {
         return Writing::Refused(Refusal::OutOfTurn);
     }
-    listings::list(run.held, run.sheet, out)
+    run_list::list(run.held, run.sheet, out)
 }

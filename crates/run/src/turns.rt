@@ -1,6 +1,6 @@
 // Whether a run is in turn for a step. A run is tested part by part, so that it is not copied for its tests.
-use held::Held;
-use held::Sheet;
+use run_state::Held;
+use run_state::Sheet;
 ghost use mathlib.Core.Path.{_≡_};
 ghost use Rattle.run.specs.View.{holdable, writable, takingBy, resolvedBy};
 
@@ -8,23 +8,23 @@ ghost use Rattle.run.specs.View.{holdable, writable, takingBy, resolvedB
 pub(crate) fn is_holdable(h: Held) -> bool
     ensures { λ r. ⌜ r ≡ holdable h ⌝ }
 {
-    if !held::valid::ok(h) {
+    if !run_state::valid::ok(h) {
         return false;
     }
-    tidying::is_ordered(h.sheet)
+    run_state::order::is_ordered(h.sheet)
 }
 
 // Whether columns are those of survivors.
 pub(crate) fn is_writable(s: Sheet) -> bool
     ensures { λ r. ⌜ r ≡ writable s ⌝ }
 {
-    if !held::valid::sheet_ok(s) {
+    if !run_state::valid::sheet_ok(s) {
         return false;
     }
-    if !tidying::is_ordered(s) {
+    if !run_state::order::is_ordered(s) {
         return false;
     }
-    tidying::is_filled(s)
+    run_state::order::is_filled(s)
 }
 
 // Whether a run of that phase takes sources.

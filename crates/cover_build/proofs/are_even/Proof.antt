@@ -1,4 +1,4 @@
-use Rattle.cover_encode.proofs.Encoding.{uneven-from, uneven-to, even-ends}
+use Rattle.cover_build.proofs.encode.Encoding.{uneven-from, uneven-to, even-ends}
 use Rattle.cover_build.proofs.are_even.Statement.{statement}
 use Rattle.cover_build.proofs.are_even.Tie as tie
 

@@ -1,4 +1,4 @@
-use Rattle.cover_limits.proofs.Anyone.{short-here, short-on}
+use Rattle.cover_rows.proofs.limits.Anyone.{short-here, short-on}
 use borrow.Author.Needs.{needs}
 use Rattle.cover_build.proofs.seven_short.Statement.{statement}
 use Rattle.cover_build.proofs.seven_short.Tie as tie

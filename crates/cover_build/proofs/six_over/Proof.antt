@@ -1,4 +1,4 @@
-use Rattle.cover_limits.proofs.Anyone.{any-here, any-on}
+use Rattle.cover_rows.proofs.limits.Anyone.{any-here, any-on}
 use borrow.Author.Needs.{needs}
 use Rattle.cover_build.proofs.six_over.Statement.{statement}
 use Rattle.cover_build.proofs.six_over.Tie as tie

@@ -1,4 +1,4 @@
-//! The functions of the proved library's crates `ffi`, `ffi_archives` and `ffi_run`. A slice is two parameters, its pointer and its length. Every
+//! The functions of the proved library's crates `ffi`, `ffi_clean` and `ffi_run`. A slice is two parameters, its pointer and its length. Every
 //! function answers a record whose first part is a refusal's number, or 0; outputs are lent. The README beside the workspace says what
 //! each is given.
 

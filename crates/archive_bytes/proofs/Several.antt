@@ -1,0 +1,31 @@
+-- Numbers and other things one after the other in bytes.
+use mathlib.Core.Path.{_≡_, refl, _∙_, ap}
+use mathlib.Core.List.{List, [], _∷_, _++_}
+use Prim.Native.Nat.{ℕ, zero, suc, _≤_, _<_, _+_, _-_}
+use native.Mathlib.Nat.{add-zero, add-suc, suc-add}
+use native.Mathlib.Omega.{arith}
+use lib.ListN.{length, set, drop}
+use lib.Seq.{sets, drop-drop, getD-drop}
+use Rattle.archive_bytes.specs.Bytes.{be, several}
+
+-- a number from place p on is the number at the front of what is left there
+pub be-drop : (w : ℕ) (l : List ℕ) (p q : ℕ) → be w (drop p l) q ≡ be w l (p + q)
+unfolding be
+be-drop zero l p q = refl
+be-drop (suc w) l p q = let z : p + (q + w) ≡ p + q + w = omega arith in rw (be-drop w l p q, getD-drop, z)
+
+pub be-front : (w : ℕ) (l : List ℕ) (p : ℕ) → be w (drop p l) 0 ≡ be w l p
+be-front w l p = be-drop w l p 0 ∙ ap (be w l) (add-zero p)
+
+module _ {A : Type 0} (w : ℕ) (f : List ℕ → A) (n i : ℕ) (l : List ℕ) (p : ℕ) where
+  pub several-none : n ≤ i → several w f (n - i) (drop p l) ≡ []
+  unfolding several
+  several-none h = let z : n - i ≡ 0 = omega arith in rw z
+
+  pub several-cons : i < n → several w f (n - i) (drop p l) ≡ f (drop p l) ∷ several w f (n - (i + 1)) (drop (p + w) l)
+  unfolding several
+  several-cons h = let z : n - i ≡ suc (n - (i + 1)) = omega arith in rw (z, drop-drop w p l)
+
+pub sets-append : {A : Type 0} (l : List A) (p : ℕ) (xs ys : List A) → sets l p (xs ++ ys) ≡ sets (sets l p xs) (p + length xs) ys
+sets-append l p [] ys = rw add-zero
+sets-append l p (x ∷ xs) ys = sets-append (set l p x) (suc p) xs ys ∙ rw (suc-add, add-suc)

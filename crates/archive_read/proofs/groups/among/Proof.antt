@@ -1,0 +1,51 @@
+-- `archive_read::groups::among` meets its contract.
+use mathlib.Core.Path.{_≡_}
+use Prim.Native.Nat.{_≤_, _-_}
+use lib.ListN.{take}
+use lib.Seq.{slice}
+use Rattle.lists.specs.Lists.{mem}
+use Rattle.archive_read.proofs.groups.Marked.{none-left, is-here, not-here}
+use borrow.Author.Needs.{needs}
+use Rattle.archive_read.proofs.groups.among.Statement.{statement}
+use Rattle.archive_read.proofs.groups.among.Tie as tie
+
+abbrev Inv-loop : tie.InvT-loop
+Inv-loop list n g i₀ i = (i ≤ n) × (mem g (take n list) ≡ mem g (slice i n list))
+
+abbrev μ-loop : tie.MeasureT-loop
+μ-loop list n g i₀ i = n - i
+
+loop-holds : tie.Need-loop-holds Inv-loop μ-loop
+loop-holds c = search needs
+
+shared-slice-read-if1 : tie.Need-shared-slice-read-if1 Inv-loop μ-loop
+shared-slice-read-if1 c = search needs
+
+returns : tie.Need-returns Inv-loop μ-loop
+returns c = search (needs, is-here)
+
+add-i : tie.Need-add-i Inv-loop μ-loop
+add-i c = search needs
+
+loop-less : tie.Need-loop-less Inv-loop μ-loop
+loop-less c = search needs
+
+loop-again : tie.Need-loop-again Inv-loop μ-loop
+loop-again c = (search needs, search (needs, not-here))
+
+returns-2 : tie.Need-returns-2 Inv-loop μ-loop
+returns-2 c = search (needs, none-left)
+
+pub among-spec : {M : Type 1} → statement M
+among-spec =
+    tie.close
+    (tie.spec
+    Inv-loop
+    μ-loop
+    loop-holds
+    shared-slice-read-if1
+    returns
+    add-i
+    loop-less
+    loop-again
+    returns-2)

@@ -1,0 +1,4 @@
+pub mod Layout
+pub mod Sums
+pub mod bodies
+pub mod groups

@@ -1,0 +1,13 @@
+-- `archive_store::tables::flag_byte` meets its contract.
+use borrow.Author.Tests.{eq-eqb, ne-eqb}
+use Rattle.archive_store.proofs.tables.flag_byte.Statement.{statement}
+use Rattle.archive_store.proofs.tables.flag_byte.Tie as tie
+
+returns : tie.Need-returns
+returns c = rw (eq-eqb _ _ (c .if1 .taken))
+
+returns-2 : tie.Need-returns-2
+returns-2 c = rw (ne-eqb _ _ (c .if1 .left))
+
+pub flag-byte-spec : {M : Type 1} → statement M
+flag-byte-spec = tie.close (tie.spec returns returns-2)

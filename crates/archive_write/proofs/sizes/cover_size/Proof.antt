@@ -1,0 +1,20 @@
+-- `archive_write::sizes::cover_size` meets its contract.
+use Rattle.archive_write.proofs.sizes.Sized.{with-cover, without-cover}
+use borrow.Author.Needs.{needs}
+use Rattle.archive_write.proofs.sizes.cover_size.Statement.{statement}
+use Rattle.archive_write.proofs.sizes.cover_size.Tie as tie
+
+cover-body-requires : tie.Need-cover-body-requires
+cover-body-requires c κs = search needs
+
+add-result : tie.Need-add-result
+add-result c = search needs
+
+returns : tie.Need-returns
+returns c = (search (needs, with-cover), search needs)
+
+returns-2 : tie.Need-returns-2
+returns-2 c = (search without-cover, search needs)
+
+pub cover-size-spec : {M : Type 1} → statement M
+cover-size-spec = tie.close (tie.spec cover-body-requires add-result returns returns-2)

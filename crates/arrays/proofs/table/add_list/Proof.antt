@@ -1,0 +1,67 @@
+-- `arrays::table::add_list` meets its contract. The invariant: the keys so far, and the rest of the list still to put in.
+use mathlib.Core.Path.{_≡_}
+use Prim.Native.Nat.{_≤_, _<_, _+_, _-_}
+use lib.ListN.{length, take}
+use lib.Seq.{slice}
+use Rattle.arrays.specs.table.Table.{Table, addsCap}
+use Rattle.arrays.proofs.table.Chains.{list-in, one-in}
+use borrow.Author.Needs.{needs}
+use Rattle.arrays.proofs.table.add_list.Statement.{statement}
+use Rattle.arrays.proofs.table.add_list.Tie as tie
+
+abbrev Inv-loop : tie.InvT-loop
+Inv-loop keys₀ links₀ heads₀ n src a b m₀ i₀ keys links heads m i = (length keys ≡ length keys₀) × (length links ≡ length links₀) × (length heads ≡ length heads₀) × Table keys links heads m × (addsCap (length keys₀) (take n keys₀) (slice a b src) ≡ addsCap (length keys₀) (take m keys) (slice i b src))
+
+abbrev μ-loop : tie.MeasureT-loop
+μ-loop keys₀ links₀ heads₀ n src a b m₀ i₀ keys links heads m i = b - i
+
+loop-holds : tie.Need-loop-holds Inv-loop μ-loop
+loop-holds c = search needs
+
+mul-add : tie.Need-mul-add Inv-loop μ-loop
+mul-add c = search needs
+
+shared-slice-read-add : tie.Need-shared-slice-read-add Inv-loop μ-loop
+shared-slice-read-add c = search needs
+
+add-requires : tie.Need-add-requires Inv-loop μ-loop
+add-requires c κs = search needs
+
+add-i : tie.Need-add-i Inv-loop μ-loop
+add-i c = search needs
+
+loop-less : tie.Need-loop-less Inv-loop μ-loop
+loop-less c = search needs
+
+loop-again : tie.Need-loop-again Inv-loop μ-loop
+loop-again c = (search needs, search needs, search needs, search needs, search (needs, one-in))
+
+same-length : tie.Need-same-length Inv-loop μ-loop
+same-length c = search needs
+
+same-length-2 : tie.Need-same-length-2 Inv-loop μ-loop
+same-length-2 c = search needs
+
+same-length-3 : tie.Need-same-length-3 Inv-loop μ-loop
+same-length-3 c = search needs
+
+returns : tie.Need-returns Inv-loop μ-loop
+returns c = (search needs, search list-in)
+
+pub add-list-spec : {M : Type 1} → statement M
+add-list-spec =
+    tie.close
+    (tie.spec
+    Inv-loop
+    μ-loop
+    loop-holds
+    mul-add
+    shared-slice-read-add
+    add-requires
+    add-i
+    loop-less
+    loop-again
+    same-length
+    same-length-2
+    same-length-3
+    returns)

@@ -1,0 +1,65 @@
+-- `arrays::table::follow` meets its contract. The invariant: the rest of the chain decides.
+use mathlib.Core.Path.{_≡_}
+use Prim.Native.Nat.{_≤_, _<_, _+_, _-_}
+use Rattle.arrays.specs.table.Table.{chain}
+use Rattle.arrays.proofs.table.Chains.{chain-end, chain-hit, chain-on, falls, falls-in}
+use borrow.Author.Needs.{needs}
+use Rattle.arrays.proofs.table.follow.Statement.{statement}
+use Rattle.arrays.proofs.table.follow.Tie as tie
+
+abbrev Inv-loop : tie.InvT-loop
+Inv-loop keys links n top x i₀ i = (i ≤ n) × (chain top keys links top x ≡ chain i keys links i x)
+
+abbrev μ-loop : tie.MeasureT-loop
+μ-loop keys links n top x i₀ i = i
+
+loop-holds : tie.Need-loop-holds Inv-loop μ-loop
+loop-holds c = search needs
+
+sub-j : tie.Need-sub-j Inv-loop μ-loop
+sub-j c = search needs
+
+mul-if1 : tie.Need-mul-if1 Inv-loop μ-loop
+mul-if1 c = search needs
+
+shared-slice-read-if1 : tie.Need-shared-slice-read-if1 Inv-loop μ-loop
+shared-slice-read-if1 c = search needs
+
+returns : tie.Need-returns Inv-loop μ-loop
+returns c = search chain-hit
+
+mul-index : tie.Need-mul-index Inv-loop μ-loop
+mul-index c = search needs
+
+shared-slice-read-index : tie.Need-shared-slice-read-index Inv-loop μ-loop
+shared-slice-read-index c = search needs
+
+index-requires : tie.Need-index-requires Inv-loop μ-loop
+index-requires c κs = search needs
+
+loop-less : tie.Need-loop-less Inv-loop μ-loop
+loop-less c = search falls
+
+loop-again : tie.Need-loop-again Inv-loop μ-loop
+loop-again c = (search falls-in, search chain-on)
+
+returns-2 : tie.Need-returns-2 Inv-loop μ-loop
+returns-2 c = search chain-end
+
+pub follow-spec : {M : Type 1} → statement M
+follow-spec =
+    tie.close
+    (tie.spec
+    Inv-loop
+    μ-loop
+    loop-holds
+    sub-j
+    mul-if1
+    shared-slice-read-if1
+    returns
+    mul-index
+    shared-slice-read-index
+    index-requires
+    loop-less
+    loop-again
+    returns-2)

@@ -1,0 +1,3 @@
+pub mod searching
+pub mod sorting
+pub mod table

@@ -1,1 +1,0 @@
-// Laws of building and reading together: what was built reads back as the lists that it was built from.

@@ -1,0 +1,116 @@
+-- What a question for parents or children answers, and leaves in the slice that it is lent.
+use mathlib.Core.Path.{_≡_, refl, _∙_, ap, sym}
+use mathlib.Core.Bool.{Bool, true, false}
+use mathlib.Core.List.{List, [], _∷_, _++_}
+use mathlib.Core.Option.{none}
+use Prim.Native.Nat.{ℕ, _+_, _-_}
+use native.Mathlib.Omega.{arith}
+use lib.Dec.{ltb}
+use lib.ListN.{length, length-append}
+use lib.Seq.{sets}
+use Rattle.columns.specs.Limits.{maxNumbers}
+use Rattle.columns.specs.Refusal.{unless, refuse, firstOf, Lent, limits}
+use Rattle.columns.specs.EdgeSet.{EdgeSet, reverse, inbound}
+use Rattle.columns.specs.Reading.{slotsOf, setRules, setLengths}
+use Rattle.columns.specs.Questions.{listOf, parents, children, childrenOf}
+use Rattle.columns.specs.Answers.{kindOf, room, lentRules, checkedOf, countedOf, writtenOver}
+use Rattle.columns.specs.Readable.{Readable}
+use Rattle.columns_ask.specs.Views.{childrenRules, askedRules}
+use Rattle.columns.specs.declared.kind.Kind.{Kind}
+use Rattle.columns.specs.declared.reading.Checked.{Checked}
+use Rattle.columns.specs.declared.reading.Checked.the-variants.{Kept, Broken}
+use Rattle.columns.specs.declared.reading.Counted.the-variants.{Entries, Refused}
+use Rattle.columns.specs.declared.refusal.Refusal.{Refusal}
+use Rattle.columns.proofs.Checks.{is-kept, list-counted, list-written, list-refused, list-as-was, then-rest, then-broken, first-append}
+use Rattle.columns.proofs.Writes.{sets-append}
+use Rattle.columns.specs.declared.refusal.Refusal.the-variants.{OverNumbers}
+use Rattle.columns.proofs.FirstBroken.{each-none}
+use Rattle.columns_ask.proofs.Limited.{readable-reverse, readable-inbound}
+
+-- ── parents ──────────────────────────────────────────────────────────────────────────────────
+
+module _ (first rows end : ℕ) (s : EdgeSet) (kind : Kind) (slot number : ℕ) (old : List ℕ) (k : Checked)
+    (e : k ≡ checkedOf (lentRules 0 first rows end s (room (length old)))) where
+  asked : parents first rows end s (kindOf kind) number (room (length old)) ≡ unless (lentRules 0 first rows end s (room (length old))) (listOf first (slotsOf first s) (kindOf kind) number)
+  unfolding parents lentRules
+  asked = refl
+
+  module _ (h : k ≡ Kept) (i : slot ≡ kindOf kind) where
+    pub parents-counted : (n : ℕ) → n ≡ 0 + length (listOf first (slotsOf first s) slot number) → Entries n ≡ countedOf (parents first rows end s (kindOf kind) number (room (length old)))
+    parents-counted n f = rw asked (list-counted k _ _ old e h n (rw (← i) (f ∙ omega arith)))
+
+    pub parents-written : (out : List ℕ) → out ≡ sets old 0 (listOf first (slotsOf first s) slot number) → out ≡ writtenOver old (parents first rows end s (kindOf kind) number (room (length old)))
+    parents-written out f = rw asked (list-written k _ _ old e h out (rw (← i) f))
+
+  pub parents-refused : (why : Refusal) → k ≡ Broken why → Refused why ≡ countedOf (parents first rows end s (kindOf kind) number (room (length old)))
+  parents-refused why h = rw asked (list-refused k _ (listOf first (slotsOf first s) (kindOf kind) number) old e why h)
+
+  pub parents-as-were : (why : Refusal) → k ≡ Broken why → old ≡ writtenOver old (parents first rows end s (kindOf kind) number (room (length old)))
+  parents-as-were why h = rw asked (list-as-was k _ (listOf first (slotsOf first s) (kindOf kind) number) old e why h)
+
+-- ── children ─────────────────────────────────────────────────────────────────────────────────
+
+-- two lists one after the other
+module _ (first : ℕ) (r i : EdgeSet) (kind number n m : ℕ) (e : n ≡ length (listOf first (slotsOf first r) kind number)) (f : m ≡ length (listOf first (slotsOf first i) kind number)) where
+  both-long : length (childrenOf first r i kind number) ≡ n + m
+  unfolding childrenOf
+  both-long = omega (arith, length-append (listOf first (slotsOf first r) kind number) (listOf first (slotsOf first i) kind number))
+
+  pub many-children : ltb 4096 (n + m) ≡ ltb maxNumbers (length (childrenOf first r i kind number))
+  many-children = rw both-long
+
+module _ (first : ℕ) (r i : EdgeSet) (kind number n : ℕ) (e : n ≡ 0 + length (listOf first (slotsOf first r) kind number)) where
+  pub both-counted : (m : ℕ) → m ≡ n + length (listOf first (slotsOf first i) kind number) → m ≡ length (childrenOf first r i kind number)
+  unfolding childrenOf
+  both-counted m f = omega (arith, length-append (listOf first (slotsOf first r) kind number) (listOf first (slotsOf first i) kind number))
+
+  pub both-written : (old mid out : List ℕ) → mid ≡ sets old 0 (listOf first (slotsOf first r) kind number) → out ≡ sets mid n (listOf first (slotsOf first i) kind number)
+      → out ≡ sets old 0 (childrenOf first r i kind number)
+  unfolding childrenOf
+  both-written old mid out g p = p ∙ rw (e, g, sets-append old 0 (listOf first (slotsOf first r) kind number) (listOf first (slotsOf first i) kind number))
+
+-- the rules of the two sets, then that of the answer
+module _ (first rows end : ℕ) (r i : EdgeSet) (kind number : ℕ) (lent : List Lent) (k : Checked) (e : k ≡ checkedOf (childrenRules first rows end r i lent)) where
+  module _ (h : k ≡ Kept) (over : Bool) (f : over ≡ ltb maxNumbers (length (childrenOf first r i kind number))) where
+    pub over-children : over ≡ true → Broken OverNumbers ≡ checkedOf (askedRules first rows end r i kind number lent)
+    unfolding askedRules firstOf
+    over-children g = then-rest k (childrenRules first rows end r i lent) (refuse OverNumbers (ltb maxNumbers (length (childrenOf first r i kind number))) ∷ []) e h (Broken OverNumbers) (rw (← f, g))
+
+    pub few-children : over ≡ false → Kept ≡ checkedOf (askedRules first rows end r i kind number lent)
+    unfolding askedRules firstOf
+    few-children g = then-rest k (childrenRules first rows end r i lent) (refuse OverNumbers (ltb maxNumbers (length (childrenOf first r i kind number))) ∷ []) e h Kept (rw (← f, g))
+
+  pub sets-refused : (why : Refusal) → k ≡ Broken why → Broken why ≡ checkedOf (askedRules first rows end r i kind number lent)
+  unfolding askedRules
+  sets-refused why h = then-broken k _ _ e why h
+
+module _ (first rows end : ℕ) (r i : EdgeSet) (kind : Kind) (slot number : ℕ) (j : slot ≡ kindOf kind) (old : List ℕ) (k : Checked)
+    (e : k ≡ checkedOf (askedRules first rows end r i slot number (room (length old)))) where
+  asked-both : children first rows end r i (kindOf kind) number (room (length old)) ≡ unless (askedRules first rows end r i slot number (room (length old))) (childrenOf first r i slot number)
+  unfolding children askedRules childrenRules
+  asked-both = rw j (ap (λ o. unless o (childrenOf first r i (kindOf kind) number))
+      (first-append (limits (rows ∷ []) (setLengths r ++ setLengths i) (room (length old)) ∷ setRules reverse first rows end r ∷ setRules inbound first rows end i ∷ [])
+      (refuse OverNumbers (ltb maxNumbers (length (childrenOf first r i (kindOf kind) number))) ∷ [])))
+
+  module _ (h : k ≡ Kept) where
+    kept-both : childrenRules first rows end r i (room (length old)) ≡ none
+    unfolding askedRules
+    kept-both = each-none _ (is-kept k _ e h) .0
+
+    pub reverse-readable : Readable first r
+    reverse-readable = readable-reverse first rows end r i (room (length old)) Kept (ap checkedOf (sym kept-both)) refl
+
+    pub inbound-readable : Readable first i
+    inbound-readable = readable-inbound first rows end r i (room (length old)) Kept (ap checkedOf (sym kept-both)) refl
+
+    pub children-counted : (n : ℕ) → n ≡ length (childrenOf first r i slot number) → Entries n ≡ countedOf (children first rows end r i (kindOf kind) number (room (length old)))
+    children-counted n f = rw asked-both (list-counted k _ _ old e h n f)
+
+    pub children-written : (out : List ℕ) → out ≡ sets old 0 (childrenOf first r i slot number) → out ≡ writtenOver old (children first rows end r i (kindOf kind) number (room (length old)))
+    children-written out f = rw asked-both (list-written k _ _ old e h out f)
+
+  pub children-refused : (why : Refusal) → k ≡ Broken why → Refused why ≡ countedOf (children first rows end r i (kindOf kind) number (room (length old)))
+  children-refused why h = rw asked-both (list-refused k _ (childrenOf first r i slot number) old e why h)
+
+  pub children-as-were : (why : Refusal) → k ≡ Broken why → old ≡ writtenOver old (children first rows end r i (kindOf kind) number (room (length old)))
+  children-as-were why h = rw asked-both (list-as-was k _ (childrenOf first r i slot number) old e why h)

@@ -1,0 +1,39 @@
+-- `columns_ask::asked_rules` meets its contract.
+use Rattle.columns_ask.proofs.Asked.{over-children, few-children, sets-refused}
+use Rattle.columns_ask.proofs.Limited.{readable-reverse, readable-inbound}
+use borrow.Author.Needs.{needs}
+use Rattle.columns_ask.proofs.asked_rules.Statement.{statement}
+use Rattle.columns_ask.proofs.asked_rules.Tie as tie
+
+children-rules-requires : tie.Need-children-rules-requires
+children-rules-requires c κs = search needs
+
+enum-told : tie.Need-enum-told
+enum-told c = search needs
+
+are-children-over-requires : tie.Need-are-children-over-requires
+are-children-over-requires c κs = (search needs, (search readable-reverse, search readable-inbound))
+
+returns : tie.Need-returns
+returns c = search over-children
+
+enum-known-rules : tie.Need-enum-known-rules
+enum-known-rules c = search needs
+
+returns-2 : tie.Need-returns-2
+returns-2 c = search few-children
+
+returns-3 : tie.Need-returns-3
+returns-3 c = search sets-refused
+
+pub asked-rules-spec : {M : Type 1} → statement M
+asked-rules-spec =
+    tie.close
+    (tie.spec
+    children-rules-requires
+    enum-told
+    are-children-over-requires
+    returns
+    enum-known-rules
+    returns-2
+    returns-3)

@@ -1,0 +1,46 @@
+-- `columns_ask::label_at` meets its contract.
+use borrow.Author.Needs.{needs}
+use Rattle.columns_ask.proofs.Labels.{short-beside, short-at, label-below, label-past, label-told}
+use Rattle.columns_ask.proofs.label_at.Statement.{statement}
+use Rattle.columns_ask.proofs.label_at.Tie as tie
+
+returns : tie.Need-returns
+returns c = search label-below
+
+returns-2 : tie.Need-returns-2
+returns-2 c = search label-past
+
+mul-short : tie.Need-mul-short
+mul-short c = search needs
+
+shared-slice-read-short : tie.Need-shared-slice-read-short
+shared-slice-read-short c = search needs
+
+short-requires : tie.Need-short-requires
+short-requires c κs = search short-at
+
+mul-short-2 : tie.Need-mul-short-2
+mul-short-2 c = search needs
+
+shared-slice-read-short-2 : tie.Need-shared-slice-read-short-2
+shared-slice-read-short-2 c = search needs
+
+short-requires-2 : tie.Need-short-requires-2
+short-requires-2 c κs = search short-beside
+
+returns-3 : tie.Need-returns-3
+returns-3 c = search label-told
+
+pub label-at-spec : {M : Type 1} → statement M
+label-at-spec =
+    tie.close
+    (tie.spec
+    returns
+    returns-2
+    mul-short
+    shared-slice-read-short
+    short-requires
+    mul-short-2
+    shared-slice-read-short-2
+    short-requires-2
+    returns-3)

@@ -1,0 +1,348 @@
+// Questions over lent columns: parents, children and label of a number. The columns that a question uses are read first.
+use columns::kind;
+use columns::kind::Kind;
+use columns::reading;
+use columns::reading::Checked;
+use columns::reading::Counted;
+use columns::refusal::Refusal;
+ghost use mathlib.Core.Path.{_≡_};
+ghost use mathlib.Core.Bool.{true};
+ghost use Prim.Native.Nat.{_+_, _<_, _≤_};
+ghost use lib.Dec.{ltb};
+ghost use lib.ListN.{length};
+ghost use lib.Seq.{sets};
+ghost use Rattle.lists.specs.Lists.{all};
+ghost use Rattle.columns.specs.Limits.{kinds, maxNumbers, end32};
+ghost use Rattle.columns.specs.Refusal.{accepted};
+ghost use Rattle.columns.specs.Reading.{slotsOf, labelsOf};
+ghost use Rattle.columns.specs.Questions as asked;
+ghost use Rattle.columns.specs.Answers.{kindOf, short32, columnsOf, labelColumns, room, checkedOf, countedOf, writtenOver};
+ghost use Rattle.columns.specs.Readable.{Readable};
+ghost use Rattle.columns_ask.specs.Views.{childrenRules, askedRules, lentLabelRules, labelledOf};
+
+// An event's place in a chain cover.
+pub struct ChainLabel {
+    pub chain: u32,
+    pub seq: u32,
+}
+
+// The label of a number, none, or why there is no answer.
+pub enum Labelled {
+    At(ChainLabel),
+    Unlabelled,
+    Refused(Refusal),
+}
+
+// ── parents and children ──
+
+// How many numbers the list of a number and a kind has, in a set whose rules are kept.
+fn list_length(
+    first: u64,
+    count: u64,
+    offsets: &[u64],
+    deltas: &[i64],
+    kind: usize,
+    number: u64,
+) -> usize
+    requires { ⌜ kind < kinds ⌝ }
+    requires { ⌜ Readable first (columnsOf count (now offsets) (now deltas)) ⌝ }
+    ensures { λ r. ⌜ r ≡ length (asked.listOf first (slotsOf first (columnsOf count (now (offsets .entry)) (now (deltas .entry)))) kind number) ⌝ }
+{
+    if count == 0 {
+        return 0;
+    }
+    if number < first {
+        return 0;
+    }
+    let row = number - first;
+    if (offsets.len() / 2) as u64 <= row {
+        return 0;
+    }
+    let slot = 2 * (row as usize) + kind;
+    (offsets[slot + 1] - offsets[slot]) as usize
+}
+
+// Writes that list from `at` on, and answers where it ends.
+fn write_list(
+    first: u64,
+    count: u64,
+    offsets: &[u64],
+    deltas: &[i64],
+    kind: usize,
+    number: u64,
+    out: &mut [u64],
+    at: usize,
+) -> usize
+    requires { ⌜ (kind < kinds) × (at ≤ maxNumbers) ⌝ }
+    requires { ⌜ Readable first (columnsOf count (now offsets) (now deltas)) ⌝ }
+    ensures { λ r. ⌜ r ≡ at + length (asked.listOf first (slotsOf first (columnsOf count (now (offsets .entry)) (now (deltas .entry)))) kind number) ⌝ }
+    ensures { λ _. ⌜ now (out .exit) ≡ sets (now (out .entry)) at (asked.listOf first (slotsOf first (columnsOf count (now (offsets .entry)) (now (deltas .entry)))) kind number) ⌝ }
+{
+    if list_length(first, count, offsets, deltas, kind, number) == 0 {
+        return at;
+    }
+    let slot = 2 * ((number - first) as usize) + kind;
+    reading::write_slot(first, offsets, deltas, slot, out, at)
+}
+
+// The parents of a number by a kind, in the order in which they stand.
+pub fn parents(
+    first: u64,
+    rows: usize,
+    end: u64,
+    count: u64,
+    offsets: &[u64],
+    deltas: &[i64],
+    kind: Kind,
+    number: u64,
+    out: &mut [u64],
+) -> Counted
+    ensures { λ r. ⌜ r ≡ countedOf (asked.parents first rows end (columnsOf count (now (offsets .entry)) (now (deltas .entry))) (kindOf kind) number (room (length (now (out .entry))))) ⌝ }
+    ensures { λ _. ⌜ now (out .exit) ≡ writtenOver (now (out .entry)) (asked.parents first rows end (columnsOf count (now (offsets .entry)) (now (deltas .entry))) (kindOf kind) number (room (length (now (out .entry))))) ⌝ }
+{
+    let rules = reading::csr_rules(0, first, rows, end, count, offsets, deltas, out.len());
+    match rules {
+        Checked::Kept => Counted::Entries(write_list(
+            first,
+            count,
+            offsets,
+            deltas,
+            kind::slot(kind),
+            number,
+            out,
+            0,
+        )),
+        Checked::Broken(why) => Counted::Refused(why),
+    }
+}
+
+// The limits and the rules of the two sets that children come from, with a slice of length `out` for the answer.
+fn children_rules(
+    first: u64,
+    rows: usize,
+    end: u64,
+    rcount: u64,
+    roffsets: &[u64],
+    rdeltas: &[i64],
+    icount: u64,
+    ioffsets: &[u64],
+    ideltas: &[i64],
+    out: usize,
+) -> Checked
+    ensures { λ r. ⌜ r ≡ checkedOf (childrenRules first rows end (columnsOf rcount (now (roffsets .entry)) (now (rdeltas .entry))) (columnsOf icount (now (ioffsets .entry)) (now (ideltas .entry))) (room out)) ⌝ }
+{
+    let over = reading::is_any_over(roffsets.len(), rdeltas.len(), ioffsets.len(), ideltas.len());
+    let limit = reading::limit_rules(rows, over, out < 4096);
+    match limit {
+        Checked::Kept => reading::both_rules(
+            first,
+            rows,
+            end,
+            rcount,
+            roffsets,
+            rdeltas,
+            icount,
+            ioffsets,
+            ideltas,
+        ),
+        Checked::Broken(why) => Checked::Broken(why),
+    }
+}
+
+// Whether a number has more children in two sets whose rules are kept than a column holds.
+fn are_children_over(
+    first: u64,
+    rcount: u64,
+    roffsets: &[u64],
+    rdeltas: &[i64],
+    icount: u64,
+    ioffsets: &[u64],
+    ideltas: &[i64],
+    kind: usize,
+    number: u64,
+) -> bool
+    requires { ⌜ kind < kinds ⌝ }
+    requires { ⌜ Readable first (columnsOf rcount (now roffsets) (now rdeltas)) ⌝ }
+    requires { ⌜ Readable first (columnsOf icount (now ioffsets) (now ideltas)) ⌝ }
+    ensures { λ r. ⌜ r ≡ ltb maxNumbers (length (asked.childrenOf first (columnsOf rcount (now (roffsets .entry)) (now (rdeltas .entry))) (columnsOf icount (now (ioffsets .entry)) (now (ideltas .entry))) kind number)) ⌝ }
+{
+    let n = list_length(first, rcount, roffsets, rdeltas, kind, number);
+    let m = list_length(first, icount, ioffsets, ideltas, kind, number);
+    4096 < n + m
+}
+
+// Writes the children of a number out of two sets whose rules are kept, those in the file first, and answers how many there are.
+fn write_children(
+    first: u64,
+    rcount: u64,
+    roffsets: &[u64],
+    rdeltas: &[i64],
+    icount: u64,
+    ioffsets: &[u64],
+    ideltas: &[i64],
+    kind: usize,
+    number: u64,
+    out: &mut [u64],
+) -> usize
+    requires { ⌜ kind < kinds ⌝ }
+    requires { ⌜ Readable first (columnsOf rcount (now roffsets) (now rdeltas)) ⌝ }
+    requires { ⌜ Readable first (columnsOf icount (now ioffsets) (now ideltas)) ⌝ }
+    ensures { λ r. ⌜ r ≡ length (asked.childrenOf first (columnsOf rcount (now (roffsets .entry)) (now (rdeltas .entry))) (columnsOf icount (now (ioffsets .entry)) (now (ideltas .entry))) kind number) ⌝ }
+    ensures { λ _. ⌜ now (out .exit) ≡ sets (now (out .entry)) 0 (asked.childrenOf first (columnsOf rcount (now (roffsets .entry)) (now (rdeltas .entry))) (columnsOf icount (now (ioffsets .entry)) (now (ideltas .entry))) kind number) ⌝ }
+{
+    let n = write_list(first, rcount, roffsets, rdeltas, kind, number, out, 0);
+    write_list(first, icount, ioffsets, ideltas, kind, number, out, n)
+}
+
+// The limits and the rules of the two sets, and whether the number has more children than a column holds.
+fn asked_rules(
+    first: u64,
+    rows: usize,
+    end: u64,
+    rcount: u64,
+    roffsets: &[u64],
+    rdeltas: &[i64],
+    icount: u64,
+    ioffsets: &[u64],
+    ideltas: &[i64],
+    kind: usize,
+    number: u64,
+    out: usize,
+) -> Checked
+    requires { ⌜ kind < kinds ⌝ }
+    ensures { λ r. ⌜ r ≡ checkedOf (askedRules first rows end (columnsOf rcount (now (roffsets .entry)) (now (rdeltas .entry))) (columnsOf icount (now (ioffsets .entry)) (now (ideltas .entry))) kind number (room out)) ⌝ }
+{
+    let rules = children_rules(
+        first,
+        rows,
+        end,
+        rcount,
+        roffsets,
+        rdeltas,
+        icount,
+        ioffsets,
+        ideltas,
+        out,
+    );
+    match rules {
+        Checked::Kept => {
+            if are_children_over(
+                first,
+                rcount,
+                roffsets,
+                rdeltas,
+                icount,
+                ioffsets,
+                ideltas,
+                kind,
+                number,
+            ) {
+                return Checked::Broken(Refusal::OverNumbers);
+            }
+            Checked::Kept
+        }
+        Checked::Broken(why) => Checked::Broken(why),
+    }
+}
+
+// The children of a number by a kind: those in the file, then those past it.
+pub fn children(
+    first: u64,
+    rows: usize,
+    end: u64,
+    rcount: u64,
+    roffsets: &[u64],
+    rdeltas: &[i64],
+    icount: u64,
+    ioffsets: &[u64],
+    ideltas: &[i64],
+    kind: Kind,
+    number: u64,
+    out: &mut [u64],
+) -> Counted
+    ensures { λ r. ⌜ r ≡ countedOf (asked.children first rows end (columnsOf rcount (now (roffsets .entry)) (now (rdeltas .entry))) (columnsOf icount (now (ioffsets .entry)) (now (ideltas .entry))) (kindOf kind) number (room (length (now (out .entry))))) ⌝ }
+    ensures { λ _. ⌜ now (out .exit) ≡ writtenOver (now (out .entry)) (asked.children first rows end (columnsOf rcount (now (roffsets .entry)) (now (rdeltas .entry))) (columnsOf icount (now (ioffsets .entry)) (now (ideltas .entry))) (kindOf kind) number (room (length (now (out .entry))))) ⌝ }
+{
+    let slot = kind::slot(kind);
+    let rules = asked_rules(
+        first,
+        rows,
+        end,
+        rcount,
+        roffsets,
+        rdeltas,
+        icount,
+        ioffsets,
+        ideltas,
+        slot,
+        number,
+        out.len(),
+    );
+    match rules {
+        Checked::Kept => Counted::Entries(write_children(
+            first,
+            rcount,
+            roffsets,
+            rdeltas,
+            icount,
+            ioffsets,
+            ideltas,
+            slot,
+            number,
+            out,
+        )),
+        Checked::Broken(why) => Counted::Refused(why),
+    }
+}
+
+// ── labels ──
+
+// The limits and the rules of label columns that are lent by themselves.
+fn lent_label_rules(rows: usize, chains: &[u64], seqs: &[u64]) -> Checked
+    ensures { λ r. ⌜ r ≡ checkedOf (lentLabelRules rows (labelColumns (now (chains .entry)) (now (seqs .entry)))) ⌝ }
+{
+    let limit = reading::limit_rules(rows, reading::is_over(chains.len(), seqs.len()), false);
+    match limit {
+        Checked::Kept => reading::label_rules(rows, chains, seqs),
+        Checked::Broken(why) => Checked::Broken(why),
+    }
+}
+
+fn short(x: u64) -> u32
+    requires { ⌜ x < end32 ⌝ }
+    ensures { λ r. ⌜ r ≡ x ⌝ }
+{
+    x as u32
+}
+
+// The label of a number in columns whose rules are kept.
+fn label_at(first: u64, chains: &[u64], seqs: &[u64], number: u64) -> Labelled
+    requires { ⌜ (length (now seqs) ≡ length (now chains)) × ((all short32 (now chains) ≡ true) × (all short32 (now seqs) ≡ true)) ⌝ }
+    ensures { λ r. ⌜ r ≡ labelledOf (accepted (asked.labelAt first (labelsOf (now (chains .entry)) (now (seqs .entry))) number)) ⌝ }
+{
+    if number < first {
+        return Labelled::Unlabelled;
+    }
+    let row = number - first;
+    if chains.len() as u64 <= row {
+        return Labelled::Unlabelled;
+    }
+    let i = row as usize;
+    let chain = short(chains[i]);
+    let seq = short(seqs[i]);
+    Labelled::At(ChainLabel {
+        chain: chain,
+        seq: seq,
+    })
+}
+
+// The label of a number.
+pub fn label(first: u64, rows: usize, chains: &[u64], seqs: &[u64], number: u64) -> Labelled
+    ensures { λ r. ⌜ r ≡ labelledOf (asked.label first rows (labelColumns (now (chains .entry)) (now (seqs .entry))) number) ⌝ }
+{
+    let rules = lent_label_rules(rows, chains, seqs);
+    match rules {
+        Checked::Kept => label_at(first, chains, seqs, number),
+        Checked::Broken(why) => Labelled::Refused(why),
+    }
+}

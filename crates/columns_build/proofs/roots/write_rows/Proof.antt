@@ -1,0 +1,74 @@
+-- `columns_build::roots::write_rows` meets its contract.
+use mathlib.Core.Path.{_≡_}
+use mathlib.Core.Bool.{true}
+use Prim.Native.Nat.{_≤_, _+_, _-_}
+use lib.ListN.{length, drop}
+use lib.Seq.{sets}
+use Rattle.lists.specs.Lists.{all}
+use Rattle.columns.specs.Building.{inFile}
+use Rattle.columns_build.specs.Written.{rowsOf}
+use Rattle.columns_build.proofs.RootRows.{this-from-first, rest-inside, row-more, rows-done}
+use borrow.Author.Needs.{needs}
+use Rattle.columns_build.proofs.roots.write_rows.Statement.{statement}
+use Rattle.columns_build.proofs.roots.write_rows.Tie as tie
+use Rattle.columns_build.proofs.roots.write_rows.Reads as reads
+use Rattle.columns_build.proofs.roots.write_rows.Lts as lts
+
+abbrev Inv-loop : tie.InvT-loop
+Inv-loop first rows events out₀ i₀ out i =
+    (i ≤ length events) × (length out ≡ length out₀) × (all (inFile first (first + rows)) (drop i events) ≡ true)
+    × (sets out₀ 0 (rowsOf first events) ≡ sets out i (rowsOf first (drop i events)))
+
+abbrev μ-loop : tie.MeasureT-loop
+μ-loop first rows events out₀ i₀ out i = length events - i
+
+loop-holds : tie.Need-loop-holds Inv-loop μ-loop
+loop-holds c = search needs
+
+mul-out : tie.Need-mul-out Inv-loop μ-loop
+mul-out c = search needs
+
+shared-slice-read-out : tie.Need-shared-slice-read-out Inv-loop μ-loop
+shared-slice-read-out c = search needs
+
+sub-out : tie.Need-sub-out Inv-loop μ-loop
+sub-out c = search (needs, this-from-first)
+
+mul-out-2 : tie.Need-mul-out-2 Inv-loop μ-loop
+mul-out-2 c = search needs
+
+slice-write-out : tie.Need-slice-write-out Inv-loop μ-loop
+slice-write-out c = search needs
+
+add-i : tie.Need-add-i Inv-loop μ-loop
+add-i c = search needs
+
+loop-less : tie.Need-loop-less Inv-loop μ-loop
+loop-less c = search needs
+
+loop-again : tie.Need-loop-again Inv-loop μ-loop
+loop-again c = search (needs, rest-inside, row-more)
+
+same-length : tie.Need-same-length Inv-loop μ-loop
+same-length c = search needs
+
+returns : tie.Need-returns Inv-loop μ-loop
+returns c = search (needs, rows-done)
+
+pub write-rows-spec : {M : Type 1} → statement M
+write-rows-spec =
+    tie.close
+    (tie.spec
+    Inv-loop
+    μ-loop
+    loop-holds
+    mul-out
+    shared-slice-read-out
+    sub-out
+    mul-out-2
+    slice-write-out
+    add-i
+    loop-less
+    loop-again
+    same-length
+    returns)

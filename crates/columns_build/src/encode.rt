@@ -1,0 +1,165 @@
+// `encode_graph_blocks`: the three sets of one granule of a file.
+use columns_encode::early::are_sets_short;
+use columns_encode::early::early_rules;
+use columns_encode::kept::Encoded;
+use columns_encode::kept::encode_kept;
+use columns_rules::records::groups::Depth;
+use columns_rules::slots::Ruling;
+ghost use mathlib.Core.Path.{_≡_};
+ghost use Prim.Native.Nat.{_≤_};
+ghost use lib.ListN.{length};
+ghost use Rattle.columns.specs.Building.{build};
+ghost use Rattle.columns_encode.specs.Answered.{encodedOf, offsetsLaid, deltasLaid};
+ghost use Rattle.columns_build.specs.Lent.{graphOf, slicesOf};
+
+// Builds the sets of the n rows from row `from` on: the forward set into `fo` and `fd`, offsets and deltas from the start of each slice on, the
+// reverse set into `ro` and `rd`, the inbound set into `io` and `id`. Parents come as slot offsets into targets, unresolved records and inbound
+// edges (`ichildren`, `iparents`, `ikinds`) as a column for each part. A refused file leaves all six slices as they were.
+// `offs`, `list` and `w` are work space: what they hold does not matter.
+pub fn encode_lent(
+    subject: &[u8],
+    first: u64,
+    rows: usize,
+    offsets: &[u64],
+    targets: &[u64],
+    children: &[u64],
+    kinds: &[u64],
+    flags: &[u64],
+    depth: Depth,
+    labelled: bool,
+    chains: &[u32],
+    seqs: &[u32],
+    ichildren: &[u64],
+    iparents: &[u64],
+    ikinds: &[u64],
+    from: usize,
+    n: usize,
+    fo: &mut [u64],
+    fd: &mut [i64],
+    ro: &mut [u64],
+    rd: &mut [i64],
+    io: &mut [u64],
+    id: &mut [i64],
+    offs: &mut [u64],
+    list: &mut [u64],
+    w: &mut [u64],
+) -> Encoded
+    requires { ⌜ (2049 ≤ length (now offs)) × ((4096 ≤ length (now list)) × (4096 ≤ length (now w))) ⌝ }
+    ensures { λ r. ⌜ r ≡ encodedOf (build (graphOf (now (subject .entry)) first rows (now (offsets .entry)) (now (targets .entry)) (now (children .entry)) (now (kinds .entry)) (now (flags .entry)) depth labelled (now (chains .entry)) (now (seqs .entry)) (now (ichildren .entry)) (now (iparents .entry)) (now (ikinds .entry)) from n) (slicesOf (length (now (fo .entry))) (length (now (fd .entry))) (length (now (ro .entry))) (length (now (rd .entry))) (length (now (io .entry))) (length (now (id .entry))))) ⌝ }
+    ensures { λ _. ⌜ now (fo .exit) ≡ offsetsLaid 0 (build (graphOf (now (subject .entry)) first rows (now (offsets .entry)) (now (targets .entry)) (now (children .entry)) (now (kinds .entry)) (now (flags .entry)) depth labelled (now (chains .entry)) (now (seqs .entry)) (now (ichildren .entry)) (now (iparents .entry)) (now (ikinds .entry)) from n) (slicesOf (length (now (fo .entry))) (length (now (fd .entry))) (length (now (ro .entry))) (length (now (rd .entry))) (length (now (io .entry))) (length (now (id .entry))))) (now (fo .entry)) ⌝ }
+    ensures { λ _. ⌜ now (fd .exit) ≡ deltasLaid 0 (build (graphOf (now (subject .entry)) first rows (now (offsets .entry)) (now (targets .entry)) (now (children .entry)) (now (kinds .entry)) (now (flags .entry)) depth labelled (now (chains .entry)) (now (seqs .entry)) (now (ichildren .entry)) (now (iparents .entry)) (now (ikinds .entry)) from n) (slicesOf (length (now (fo .entry))) (length (now (fd .entry))) (length (now (ro .entry))) (length (now (rd .entry))) (length (now (io .entry))) (length (now (id .entry))))) (now (fd .entry)) ⌝ }
+    ensures { λ _. ⌜ now (ro .exit) ≡ offsetsLaid 1 (build (graphOf (now (subject .entry)) first rows (now (offsets .entry)) (now (targets .entry)) (now (children .entry)) (now (kinds .entry)) (now (flags .entry)) depth labelled (now (chains .entry)) (now (seqs .entry)) (now (ichildren .entry)) (now (iparents .entry)) (now (ikinds .entry)) from n) (slicesOf (length (now (fo .entry))) (length (now (fd .entry))) (length (now (ro .entry))) (length (now (rd .entry))) (length (now (io .entry))) (length (now (id .entry))))) (now (ro .entry)) ⌝ }
+    ensures { λ _. ⌜ now (rd .exit) ≡ deltasLaid 1 (build (graphOf (now (subject .entry)) first rows (now (offsets .entry)) (now (targets .entry)) (now (children .entry)) (now (kinds .entry)) (now (flags .entry)) depth labelled (now (chains .entry)) (now (seqs .entry)) (now (ichildren .entry)) (now (iparents .entry)) (now (ikinds .entry)) from n) (slicesOf (length (now (fo .entry))) (length (now (fd .entry))) (length (now (ro .entry))) (length (now (rd .entry))) (length (now (io .entry))) (length (now (id .entry))))) (now (rd .entry)) ⌝ }
+    ensures { λ _. ⌜ now (io .exit) ≡ offsetsLaid 2 (build (graphOf (now (subject .entry)) first rows (now (offsets .entry)) (now (targets .entry)) (now (children .entry)) (now (kinds .entry)) (now (flags .entry)) depth labelled (now (chains .entry)) (now (seqs .entry)) (now (ichildren .entry)) (now (iparents .entry)) (now (ikinds .entry)) from n) (slicesOf (length (now (fo .entry))) (length (now (fd .entry))) (length (now (ro .entry))) (length (now (rd .entry))) (length (now (io .entry))) (length (now (id .entry))))) (now (io .entry)) ⌝ }
+    ensures { λ _. ⌜ now (id .exit) ≡ deltasLaid 2 (build (graphOf (now (subject .entry)) first rows (now (offsets .entry)) (now (targets .entry)) (now (children .entry)) (now (kinds .entry)) (now (flags .entry)) depth labelled (now (chains .entry)) (now (seqs .entry)) (now (ichildren .entry)) (now (iparents .entry)) (now (ikinds .entry)) from n) (slicesOf (length (now (fo .entry))) (length (now (fd .entry))) (length (now (ro .entry))) (length (now (rd .entry))) (length (now (io .entry))) (length (now (id .entry))))) (now (id .entry)) ⌝ }
+{
+    let tight = are_sets_short(fo.len(), fd.len(), ro.len(), rd.len(), io.len(), id.len());
+    let r = early_rules(
+        subject,
+        first,
+        rows,
+        offsets,
+        targets,
+        children,
+        kinds,
+        flags,
+        depth,
+        labelled,
+        chains,
+        seqs,
+        ichildren.len(),
+        iparents.len(),
+        ikinds.len(),
+        tight,
+    );
+    match r {
+        Ruling::Broken(x) => Encoded::Refused(x),
+        Ruling::Kept => encode_kept(
+            first,
+            rows,
+            offsets,
+            targets,
+            ichildren,
+            iparents,
+            ikinds,
+            from,
+            n,
+            fo,
+            fd,
+            ro,
+            rd,
+            io,
+            id,
+            offs,
+            list,
+            w,
+        ),
+    }
+}
+
+// The same with work space of its own.
+pub fn encode_graph_blocks(
+    subject: &[u8],
+    first: u64,
+    rows: usize,
+    offsets: &[u64],
+    targets: &[u64],
+    children: &[u64],
+    kinds: &[u64],
+    flags: &[u64],
+    depth: Depth,
+    labelled: bool,
+    chains: &[u32],
+    seqs: &[u32],
+    ichildren: &[u64],
+    iparents: &[u64],
+    ikinds: &[u64],
+    from: usize,
+    n: usize,
+    fo: &mut [u64],
+    fd: &mut [i64],
+    ro: &mut [u64],
+    rd: &mut [i64],
+    io: &mut [u64],
+    id: &mut [i64],
+) -> Encoded
+    ensures { λ r. ⌜ r ≡ encodedOf (build (graphOf (now (subject .entry)) first rows (now (offsets .entry)) (now (targets .entry)) (now (children .entry)) (now (kinds .entry)) (now (flags .entry)) depth labelled (now (chains .entry)) (now (seqs .entry)) (now (ichildren .entry)) (now (iparents .entry)) (now (ikinds .entry)) from n) (slicesOf (length (now (fo .entry))) (length (now (fd .entry))) (length (now (ro .entry))) (length (now (rd .entry))) (length (now (io .entry))) (length (now (id .entry))))) ⌝ }
+    ensures { λ _. ⌜ now (fo .exit) ≡ offsetsLaid 0 (build (graphOf (now (subject .entry)) first rows (now (offsets .entry)) (now (targets .entry)) (now (children .entry)) (now (kinds .entry)) (now (flags .entry)) depth labelled (now (chains .entry)) (now (seqs .entry)) (now (ichildren .entry)) (now (iparents .entry)) (now (ikinds .entry)) from n) (slicesOf (length (now (fo .entry))) (length (now (fd .entry))) (length (now (ro .entry))) (length (now (rd .entry))) (length (now (io .entry))) (length (now (id .entry))))) (now (fo .entry)) ⌝ }
+    ensures { λ _. ⌜ now (fd .exit) ≡ deltasLaid 0 (build (graphOf (now (subject .entry)) first rows (now (offsets .entry)) (now (targets .entry)) (now (children .entry)) (now (kinds .entry)) (now (flags .entry)) depth labelled (now (chains .entry)) (now (seqs .entry)) (now (ichildren .entry)) (now (iparents .entry)) (now (ikinds .entry)) from n) (slicesOf (length (now (fo .entry))) (length (now (fd .entry))) (length (now (ro .entry))) (length (now (rd .entry))) (length (now (io .entry))) (length (now (id .entry))))) (now (fd .entry)) ⌝ }
+    ensures { λ _. ⌜ now (ro .exit) ≡ offsetsLaid 1 (build (graphOf (now (subject .entry)) first rows (now (offsets .entry)) (now (targets .entry)) (now (children .entry)) (now (kinds .entry)) (now (flags .entry)) depth labelled (now (chains .entry)) (now (seqs .entry)) (now (ichildren .entry)) (now (iparents .entry)) (now (ikinds .entry)) from n) (slicesOf (length (now (fo .entry))) (length (now (fd .entry))) (length (now (ro .entry))) (length (now (rd .entry))) (length (now (io .entry))) (length (now (id .entry))))) (now (ro .entry)) ⌝ }
+    ensures { λ _. ⌜ now (rd .exit) ≡ deltasLaid 1 (build (graphOf (now (subject .entry)) first rows (now (offsets .entry)) (now (targets .entry)) (now (children .entry)) (now (kinds .entry)) (now (flags .entry)) depth labelled (now (chains .entry)) (now (seqs .entry)) (now (ichildren .entry)) (now (iparents .entry)) (now (ikinds .entry)) from n) (slicesOf (length (now (fo .entry))) (length (now (fd .entry))) (length (now (ro .entry))) (length (now (rd .entry))) (length (now (io .entry))) (length (now (id .entry))))) (now (rd .entry)) ⌝ }
+    ensures { λ _. ⌜ now (io .exit) ≡ offsetsLaid 2 (build (graphOf (now (subject .entry)) first rows (now (offsets .entry)) (now (targets .entry)) (now (children .entry)) (now (kinds .entry)) (now (flags .entry)) depth labelled (now (chains .entry)) (now (seqs .entry)) (now (ichildren .entry)) (now (iparents .entry)) (now (ikinds .entry)) from n) (slicesOf (length (now (fo .entry))) (length (now (fd .entry))) (length (now (ro .entry))) (length (now (rd .entry))) (length (now (io .entry))) (length (now (id .entry))))) (now (io .entry)) ⌝ }
+    ensures { λ _. ⌜ now (id .exit) ≡ deltasLaid 2 (build (graphOf (now (subject .entry)) first rows (now (offsets .entry)) (now (targets .entry)) (now (children .entry)) (now (kinds .entry)) (now (flags .entry)) depth labelled (now (chains .entry)) (now (seqs .entry)) (now (ichildren .entry)) (now (iparents .entry)) (now (ikinds .entry)) from n) (slicesOf (length (now (fo .entry))) (length (now (fd .entry))) (length (now (ro .entry))) (length (now (rd .entry))) (length (now (io .entry))) (length (now (id .entry))))) (now (id .entry)) ⌝ }
+{
+    let mut offs = [0u64; 2049];
+    let mut list = [0u64; 4096];
+    let mut w = [0u64; 4096];
+    encode_lent(
+        subject,
+        first,
+        rows,
+        offsets,
+        targets,
+        children,
+        kinds,
+        flags,
+        depth,
+        labelled,
+        chains,
+        seqs,
+        ichildren,
+        iparents,
+        ikinds,
+        from,
+        n,
+        fo,
+        fd,
+        ro,
+        rd,
+        io,
+        id,
+        &mut offs,
+        &mut list,
+        &mut w,
+    )
+}

@@ -1,0 +1,4 @@
+pub mod Grouped
+pub mod Encoded
+pub mod Answered
+pub mod built

@@ -1,0 +1,71 @@
+-- `columns_levels::frontier::copy` meets its contract. The invariant: the part passed is copied.
+use mathlib.Core.Path.{_≡_}
+use Prim.Native.Nat.{_≤_, _<_, _+_, _-_}
+use lib.ListN.{length, take}
+use lib.Seq.{slice}
+use Rattle.columns_levels.specs.frontier.Frontier.{parentsIn, copied, Laid, Seen}
+use Rattle.columns_levels.proofs.frontier.Turns.{copy-starts, copy-turn, copy-done}
+use borrow.Author.Needs.{needs}
+use Rattle.columns_levels.proofs.frontier.copy.Statement.{statement}
+use Rattle.columns_levels.proofs.frontier.copy.Tie as tie
+
+abbrev Inv-loop : tie.InvT-loop
+Inv-loop l₀ at src from k i₀ l i = (i ≤ k) × (length l ≡ length l₀) × (copied l₀ at (slice from (from + k) src) ≡ copied l (at + i) (slice (from + i) (from + k) src))
+
+abbrev μ-loop : tie.MeasureT-loop
+μ-loop l₀ at src from k i₀ l i = k - i
+
+loop-holds : tie.Need-loop-holds Inv-loop μ-loop
+loop-holds c = (search needs, search needs, search copy-starts)
+
+add-l : tie.Need-add-l Inv-loop μ-loop
+add-l c = search needs
+
+mul-l : tie.Need-mul-l Inv-loop μ-loop
+mul-l c = search needs
+
+shared-slice-read-l : tie.Need-shared-slice-read-l Inv-loop μ-loop
+shared-slice-read-l c = search needs
+
+add-l-2 : tie.Need-add-l-2 Inv-loop μ-loop
+add-l-2 c = search needs
+
+mul-l-2 : tie.Need-mul-l-2 Inv-loop μ-loop
+mul-l-2 c = search needs
+
+slice-write-l : tie.Need-slice-write-l Inv-loop μ-loop
+slice-write-l c = search needs
+
+add-i : tie.Need-add-i Inv-loop μ-loop
+add-i c = search needs
+
+loop-less : tie.Need-loop-less Inv-loop μ-loop
+loop-less c = search needs
+
+loop-again : tie.Need-loop-again Inv-loop μ-loop
+loop-again c = (search needs, search needs, search copy-turn)
+
+same-length : tie.Need-same-length Inv-loop μ-loop
+same-length c = search needs
+
+returns : tie.Need-returns Inv-loop μ-loop
+returns c = search copy-done
+
+pub copy-spec : {M : Type 1} → statement M
+copy-spec =
+    tie.close
+    (tie.spec
+    Inv-loop
+    μ-loop
+    loop-holds
+    add-l
+    mul-l
+    shared-slice-read-l
+    add-l-2
+    mul-l-2
+    slice-write-l
+    add-i
+    loop-less
+    loop-again
+    same-length
+    returns)

@@ -1,0 +1,110 @@
+-- What the verdict of a reading says of the set, and the parents that its stored targets have.
+use mathlib.Core.Path.{_≡_, refl, sym, _∙_, ap, fun-ext}
+use mathlib.Core.Bool.{Bool, true, false, _||_}
+use mathlib.Core.List.{List, [], _∷_, _++_, append-nil}
+use mathlib.Core.Option.{Option, none, some}
+use Prim.Native.Nat.{ℕ, _≤_, _<_}
+use native.Mathlib.Omega.{arith}
+use lib.Dec.{ltb}
+use lib.ListN.{length, take, drop}
+use lib.Seq.{sets, length-take-le, take-all}
+use borrow.Author.Tests.{ltb-false}
+use Rattle.lists.specs.Lists.{any, joined}
+use Rattle.columns.specs.Refusal.{unless, firstOf, short, limits}
+use Rattle.columns.specs.EdgeSet.{EdgeSet, cut}
+use Rattle.columns.specs.Reading.{setRules, slotsOf, setLengths, decodeSet}
+use Rattle.columns.specs.Questions.{listOf}
+use Rattle.columns.specs.Answers.{kindOf, room, lentRules, inOne, countedOf, writtenOver}
+use Rattle.columns.specs.declared.kind.Kind.{Kind}
+use Rattle.columns.specs.declared.kind.Kind.the-variants.{Prev, Auth}
+use Rattle.columns.specs.declared.refusal.Refusal.{Refusal}
+use Rattle.columns.specs.declared.refusal.Refusal.the-variants.{SliceShort}
+use Rattle.columns.specs.declared.reading.Counted.{Counted}
+use Rattle.columns.specs.declared.reading.Counted.the-variants as counted
+use Rattle.columns.proofs.FirstBroken.{each-none, not-refused}
+use Rattle.columns.proofs.Checks.{few-numbers, few-deltas}
+use Rattle.columns_levels.specs.frontier.Frontier.{parentsIn}
+use Rattle.columns_levels.proofs.targets.Stored.{stored}
+
+-- ── limits ───────────────────────────────────────────────────────────────────────────────────
+
+no-room : any short (room 4096) ≡ any short []
+unfolding any short
+no-room = refl
+
+pub same-alone : (first rows end : ℕ) (s : EdgeSet) → lentRules 0 first rows end s (room 4096) ≡ lentRules 0 first rows end s []
+unfolding lentRules limits
+same-alone first rows end s = rw no-room
+
+-- ── the reading ──────────────────────────────────────────────────────────────────────────────
+
+module _ (n first rows end : ℕ) (s : EdgeSet) (r : Counted) (e : r ≡ countedOf (inOne (decodeSet 0 first rows end s (room n)))) where
+  pub was-read : (k : ℕ) → r ≡ counted.Entries k → lentRules 0 first rows end s (room n) ≡ none
+  unfolding countedOf inOne decodeSet lentRules unless
+  was-read k f = go (firstOf (limits (rows ∷ []) (setLengths s) (room n) ∷ setRules 0 first rows end s ∷ [])) (sym f ∙ e)
+    where
+      go : (o : Option Refusal) → counted.Entries k ≡ countedOf (inOne (unless o (slotsOf first s))) → o ≡ none
+      go none q = refl
+      go (some w) q = let z : _≡_ {A = ℕ} 0 1 = cc in absurd (omega arith)
+
+  pub was-refused : (why : Refusal) → r ≡ counted.Refused why → lentRules 0 first rows end s (room n) ≡ some why
+  unfolding countedOf inOne decodeSet lentRules unless
+  was-refused why f = go (firstOf (limits (rows ∷ []) (setLengths s) (room n) ∷ setRules 0 first rows end s ∷ [])) (sym f ∙ e)
+    where
+      go : (o : Option Refusal) → counted.Refused why ≡ countedOf (inOne (unless o (slotsOf first s))) → o ≡ some why
+      go none q = let z : _≡_ {A = ℕ} 0 1 = cc in absurd (omega arith)
+      go (some w) q = let z : w ≡ why = cc in rw z
+
+module _ (n first rows end : ℕ) (s : EdgeSet) (k : lentRules 0 first rows end s (room n) ≡ none) where
+  pub whole : 4096 ≤ n
+  unfolding lentRules limits any short
+  whole = ltb-false n 4096 (go (ltb n 4096) (not-refused SliceShort _ (each-none _ (each-none _ k .0) .1 .1 .0)))
+    where
+      go : (b : Bool) → b || false ≡ false → b ≡ false
+      go true f = f
+      go false f = refl
+
+  few : length (s .deltas) ≤ 4096
+  unfolding lentRules
+  few = few-deltas s (few-numbers _ _ (room n) (each-none _ k .0))
+
+  kept : setRules 0 first rows end s ≡ none
+  unfolding lentRules
+  kept = each-none _ k .1 .0
+
+  targets-are : (l : List ℕ) → writtenOver l (inOne (decodeSet 0 first rows end s (room n))) ≡ sets l 0 (joined (slotsOf first s))
+  unfolding writtenOver inOne decodeSet lentRules unless
+  targets-are l = rw k
+
+  pub parents-are : (l t : List ℕ) → t ≡ writtenOver (take n l) (inOne (decodeSet 0 first rows end s (room n))) ++ drop n l → n ≤ 4096 → length l ≡ 4096
+      → cut (s .offsets) t ≡ slotsOf first s
+  parents-are l t e h j =
+      let a : take n l ≡ l = take-all n l (let w = whole in omega arith) in
+      let b : drop n l ≡ [] = lib.ListN.drop-of-length-le l {i = n} (let w = whole in omega arith) in
+      let d : writtenOver (take n l) (inOne (decodeSet 0 first rows end s (room n))) ++ drop n l ≡ writtenOver l (inOne (decodeSet 0 first rows end s (room n))) = rw (a, b) (append-nil (writtenOver l (inOne (decodeSet 0 first rows end s (room n))))) in
+      let c : t ≡ sets l 0 (joined (slotsOf first s)) = e ∙ d ∙ targets-are l in
+      rw c (stored 0 first rows end s kept l (omega (arith, few)))
+
+-- stored targets have the parents of the set
+pub parents-fun : (first kind : ℕ) (offsets t : List ℕ) (lists : List (List ℕ)) → cut offsets t ≡ lists → parentsIn first kind offsets t ≡ listOf first lists kind
+unfolding parentsIn
+parents-fun first kind offsets t lists e = fun-ext (λ v. ap (λ (g : List (List ℕ)). listOf first g kind v) e)
+
+-- ── read ─────────────────────────────────────────────────────────────────────────────────────
+
+pub read-count : (n first rows end : ℕ) (s : EdgeSet) (l : List ℕ) (r : Counted) → r ≡ countedOf (inOne (decodeSet 0 first rows end s (room (length (take n l))))) → n ≤ length l
+    → r ≡ countedOf (inOne (decodeSet 0 first rows end s (room n)))
+read-count n first rows end s l r e h = e ∙ ap (λ (k : ℕ). countedOf (inOne (decodeSet 0 first rows end s (room k)))) (length-take-le n l h)
+
+pub read-written : {t : List ℕ} (n first rows end : ℕ) (s : EdgeSet) (l : List ℕ) → t ≡ writtenOver (take n l) (inOne (decodeSet 0 first rows end s (room (length (take n l))))) → n ≤ length l
+    → t ++ drop n l ≡ writtenOver (take n l) (inOne (decodeSet 0 first rows end s (room n))) ++ drop n l
+read-written n first rows end s l e h = ap (λ (m : List ℕ). m ++ drop n l) (e ∙ ap (λ (k : ℕ). writtenOver (take n l) (inOne (decodeSet 0 first rows end s (room k)))) (length-take-le n l h))
+
+pub part-count : (n : ℕ) (l : List ℕ) → n ≤ length l → n ≡ length (take n l)
+part-count n l h = sym (length-take-le n l h)
+
+-- ── leaves ───────────────────────────────────────────────────────────────────────────────────
+
+pub kind-below : (k : Kind) (n : ℕ) → n ≡ kindOf k → n < 2
+kind-below Prev n e = omega arith
+kind-below Auth n e = omega arith

@@ -1,0 +1,221 @@
+-- A granule's limits and rules in parts, and what is answered of them.
+use mathlib.Core.Path.{_≡_, refl, sym, _∙_, ap}
+use mathlib.Core.Bool.{Bool, true, false, _||_, or-false}
+use mathlib.Core.List.{List, [], _∷_, _++_}
+use mathlib.Core.Option.{none}
+use Prim.Native.Nat.{ℕ, _≤_, _<_}
+use lib.Dec.{ltb}
+use lib.IntN.{ℤ}
+use lib.ListN.{length}
+use lib.Seq.{sets}
+use borrow.Author.Tests.{lt-ltb, le-ltb}
+use Rattle.lists.specs.Lists.{any, joined}
+use Rattle.columns.specs.Limits.{maxNumbers}
+use Rattle.columns.specs.Refusal.{accepted, refused, unless, firstOf, short, limits}
+use Rattle.columns.specs.EdgeSet.{forward, reverse, inbound}
+use Rattle.columns.specs.Reading.{slotsOf, setRules, setLengths, labelRules, coverRules, labelLengths, columnLengths, granuleRules, granuleOf, readGranule}
+use Rattle.columns.specs.Answers.{columnsOf, labelColumns, limitsOf, bothRules, checkedOf, writtenOver}
+use Rattle.columns_read.specs.Granules.{coverOf, coverLengths, lentGranule, rooms, setsRules, lentGranuleRules, countsOf, decodedOf, setIn}
+use Rattle.columns.specs.Readable.{Readable}
+use Rattle.columns_read.specs.declared.Head.{Head}
+use Rattle.columns_read.specs.declared.Counts.{Counts}
+use Rattle.columns_read.specs.declared.Decoded.the-variants.{Edges, Refused}
+use Rattle.columns.specs.declared.reading.Checked.{Checked}
+use Rattle.columns.specs.declared.reading.Checked.the-variants.{Kept, Broken}
+use Rattle.columns.specs.declared.refusal.Refusal.{Refusal}
+use Rattle.columns.proofs.FirstBroken.{each-none}
+use Rattle.columns.proofs.Checks.{is-kept, is-broken, first-alone, first-append, then-rest, then-broken, any-append, or-kept, over-none, few-deltas}
+
+-- ── limits ───────────────────────────────────────────────────────────────────────────────────
+
+module _ (fo fd ro rd io id : ℕ) (cover : Bool) (chains seqs : ℕ) (a : Bool) (e : a ≡ any (ltb maxNumbers) (fo ∷ fd ∷ ro ∷ rd ∷ [])) where
+  split : any (ltb maxNumbers) (fo ∷ fd ∷ ro ∷ rd ∷ io ∷ id ∷ coverLengths cover chains seqs) ≡ a || any (ltb maxNumbers) (io ∷ id ∷ coverLengths cover chains seqs)
+  split = any-append (ltb maxNumbers) (fo ∷ fd ∷ ro ∷ rd ∷ []) (io ∷ id ∷ coverLengths cover chains seqs) ∙ rw e
+
+  pub four-over : a ≡ true → true ≡ any (ltb maxNumbers) (fo ∷ fd ∷ ro ∷ rd ∷ io ∷ id ∷ coverLengths cover chains seqs)
+  four-over h = rw (split, h)
+
+  module _ (h : a ≡ false) (b : Bool) (f : b ≡ any (ltb maxNumbers) (io ∷ id ∷ [])) where
+    split-again : any (ltb maxNumbers) (fo ∷ fd ∷ ro ∷ rd ∷ io ∷ id ∷ coverLengths cover chains seqs) ≡ b || any (ltb maxNumbers) (coverLengths cover chains seqs)
+    split-again = split ∙ rw h (any-append (ltb maxNumbers) (io ∷ id ∷ []) (coverLengths cover chains seqs) ∙ rw f)
+
+    pub two-over : b ≡ true → true ≡ any (ltb maxNumbers) (fo ∷ fd ∷ ro ∷ rd ∷ io ∷ id ∷ coverLengths cover chains seqs)
+    two-over g = rw (split-again, g)
+
+    module _ (g : b ≡ false) where
+      pub labels-over : cover ≡ true → (r : Bool) → r ≡ any (ltb maxNumbers) (chains ∷ seqs ∷ []) → r ≡ any (ltb maxNumbers) (fo ∷ fd ∷ ro ∷ rd ∷ io ∷ id ∷ coverLengths cover chains seqs)
+      labels-over c r k = rw (split-again, g, c) k
+
+      pub none-over : cover ≡ false → false ≡ any (ltb maxNumbers) (fo ∷ fd ∷ ro ∷ rd ∷ io ∷ id ∷ coverLengths cover chains seqs)
+      unfolding any
+      none-over c = rw (split-again, g, c)
+
+module _ (f r i : ℕ) where
+  pub first-short : f < 4096 → true ≡ any short (rooms f r i)
+  unfolding any short
+  first-short h = rw (lt-ltb f 4096 h)
+
+  module _ (h : 4096 ≤ f) where
+    pub second-short : r < 4096 → true ≡ any short (rooms f r i)
+    unfolding any short
+    second-short k = rw (le-ltb f 4096 h, lt-ltb r 4096 k)
+
+    pub third-short : 4096 ≤ r → ltb i 4096 ≡ any short (rooms f r i)
+    unfolding any short
+    third-short k = rw (le-ltb f 4096 h, le-ltb r 4096 k, or-false (ltb i 4096))
+
+-- ── rules ────────────────────────────────────────────────────────────────────────────────────
+
+module _ (rows : ℕ) (cover : Bool) (chains seqs : List ℕ) where
+  pub covered : cover ≡ true → (q : Checked) → q ≡ checkedOf (labelRules rows (labelColumns chains seqs)) → q ≡ checkedOf (coverRules rows (coverOf cover chains seqs))
+  covered c q e = rw c e
+
+  pub uncovered : cover ≡ false → Kept ≡ checkedOf (coverRules rows (coverOf cover chains seqs))
+  uncovered c = rw c
+
+module _ (h : Head) (fo : List ℕ) (fd : List ℤ) (ro : List ℕ) (rd : List ℤ) (io : List ℕ) (id : List ℤ) where
+  module _ (k : Checked) (e : k ≡ checkedOf (setRules 0 (h .first) (h .rows) (h .end) (columnsOf (h .forward) fo fd))) where
+    pub sets-kept : k ≡ Kept → (q : Checked) → q ≡ checkedOf (bothRules (h .first) (h .rows) (h .end) (columnsOf (h .reverse) ro rd) (columnsOf (h .inbound) io id))
+        → q ≡ checkedOf (setsRules h fo fd ro rd io id)
+    unfolding setsRules bothRules
+    sets-kept g q f = then-rest k _ _ e g q f
+
+    pub sets-broken : (why : Refusal) → k ≡ Broken why → Broken why ≡ checkedOf (setsRules h fo fd ro rd io id)
+    unfolding setsRules
+    sets-broken why g = then-broken k _ _ e why g
+
+  module _ (chains seqs : List ℕ) where
+    edges-are : granuleRules (h .first) (h .rows) (h .end) (lentGranule h fo fd ro rd io id chains seqs)
+        ≡ firstOf (setsRules h fo fd ro rd io id ∷ coverRules (h .rows) (coverOf (h .cover) chains seqs) ∷ [])
+    unfolding granuleRules setsRules
+    edges-are =
+        first-append (setRules forward (h .first) (h .rows) (h .end) (columnsOf (h .forward) fo fd)
+        ∷ setRules reverse (h .first) (h .rows) (h .end) (columnsOf (h .reverse) ro rd)
+        ∷ setRules inbound (h .first) (h .rows) (h .end) (columnsOf (h .inbound) io id)
+        ∷ []) (coverRules (h .rows) (coverOf (h .cover) chains seqs) ∷ [])
+
+    module _ (k : Checked) (e : k ≡ checkedOf (setsRules h fo fd ro rd io id)) where
+      pub edges-kept : k ≡ Kept → (q : Checked) → q ≡ checkedOf (coverRules (h .rows) (coverOf (h .cover) chains seqs))
+          → q ≡ checkedOf (granuleRules (h .first) (h .rows) (h .end) (lentGranule h fo fd ro rd io id chains seqs))
+      edges-kept g q f = rw edges-are (then-rest k _ _ e g q (f ∙ ap checkedOf (sym (first-alone (coverRules (h .rows) (coverOf (h .cover) chains seqs))))))
+
+      pub edges-broken : (why : Refusal) → k ≡ Broken why → Broken why ≡ checkedOf (granuleRules (h .first) (h .rows) (h .end) (lentGranule h fo fd ro rd io id chains seqs))
+      edges-broken why g = rw edges-are (then-broken k _ _ e why g)
+
+    lengths-are : columnLengths (lentGranule h fo fd ro rd io id chains seqs)
+        ≡ length fo ∷ length fd ∷ length ro ∷ length rd ∷ length io ∷ length id ∷ coverLengths (h .cover) (length chains) (length seqs)
+    unfolding columnLengths setLengths
+    lengths-are = go (h .cover)
+      where
+        go : (b : Bool) → _≡_ {A = List ℕ} (length fo ∷ length fd ∷ length ro ∷ length rd ∷ length io ∷ length id ∷ labelLengths (coverOf b chains seqs))
+            (length fo ∷ length fd ∷ length ro ∷ length rd ∷ length io ∷ length id ∷ coverLengths b (length chains) (length seqs))
+        go true = refl
+        go false = refl
+
+    module _ (tight over : Bool) (k : Checked)
+        (f : over ≡ any (ltb maxNumbers) (length fo ∷ length fd ∷ length ro ∷ length rd ∷ length io ∷ length id ∷ coverLengths (h .cover) (length chains) (length seqs)))
+        (e : k ≡ checkedOf (limitsOf (h .rows) over tight)) where
+      in-limits : k ≡ checkedOf (limitsOf (h .rows) (any (ltb maxNumbers) (columnLengths (lentGranule h fo fd ro rd io id chains seqs))) tight)
+      in-limits = rw (lengths-are, ← f) e
+
+      pub granule-kept : k ≡ Kept → (q : Checked) → q ≡ checkedOf (granuleRules (h .first) (h .rows) (h .end) (lentGranule h fo fd ro rd io id chains seqs))
+          → q ≡ checkedOf (lentGranuleRules h fo fd ro rd io id chains seqs tight)
+      unfolding lentGranuleRules
+      granule-kept g q p = then-rest k _ _ in-limits g q (p ∙ ap checkedOf (sym (first-alone (granuleRules (h .first) (h .rows) (h .end) (lentGranule h fo fd ro rd io id chains seqs)))))
+
+      pub granule-broken : (why : Refusal) → k ≡ Broken why → Broken why ≡ checkedOf (lentGranuleRules h fo fd ro rd io id chains seqs tight)
+      unfolding lentGranuleRules
+      granule-broken why g = then-broken k _ _ in-limits why g
+
+    -- ── a granule whose rules are kept ─────────────────────────────────────────────────────────
+
+    module _ (tight : Bool) (k : Checked) (e : k ≡ checkedOf (lentGranuleRules h fo fd ro rd io id chains seqs tight)) where
+      module _ (g : k ≡ Kept) where
+        parts : (limitsOf (h .rows) (any (ltb maxNumbers) (columnLengths (lentGranule h fo fd ro rd io id chains seqs))) tight ≡ none)
+            × (granuleRules (h .first) (h .rows) (h .end) (lentGranule h fo fd ro rd io id chains seqs) ≡ none)
+        unfolding lentGranuleRules
+        parts = let p = each-none _ (is-kept k _ e g) in (p .0, p .1 .0)
+
+        few : (any (ltb maxNumbers) (setLengths (columnsOf (h .forward) fo fd)) ≡ false)
+            × (any (ltb maxNumbers) (setLengths (columnsOf (h .reverse) ro rd)) ≡ false)
+            × (any (ltb maxNumbers) (setLengths (columnsOf (h .inbound) io id)) ≡ false)
+        unfolding columnLengths
+        few =
+            let m = ltb maxNumbers in
+            let f = setLengths (columnsOf (h .forward) fo fd) in
+            let r = setLengths (columnsOf (h .reverse) ro rd) in
+            let i = setLengths (columnsOf (h .inbound) io id) in
+            let l = labelLengths (coverOf (h .cover) chains seqs) in
+            let p = or-kept _ _ (sym (any-append m f (r ++ (i ++ l))) ∙ over-none (h .rows) _ tight (parts .0)) in
+            let q = or-kept _ _ (sym (any-append m r (i ++ l)) ∙ p .1) in
+            let s = or-kept _ _ (sym (any-append m i l) ∙ q .1) in
+            (p .0, q .0, s .0)
+
+        kept : (setRules forward (h .first) (h .rows) (h .end) (columnsOf (h .forward) fo fd) ≡ none)
+            × (setRules reverse (h .first) (h .rows) (h .end) (columnsOf (h .reverse) ro rd) ≡ none)
+            × (setRules inbound (h .first) (h .rows) (h .end) (columnsOf (h .inbound) io id) ≡ none)
+        unfolding granuleRules
+        kept = let p = each-none _ (parts .1) in (p .0, p .1 .0, p .1 .1 .0)
+
+        pub forward-readable : Readable (h .first) (columnsOf (h .forward) fo fd)
+        forward-readable = record { set = forward; rows = h .rows; end = h .end; kept = kept .0; few = few-deltas _ (few .0) }
+
+        pub reverse-readable : Readable (h .first) (columnsOf (h .reverse) ro rd)
+        reverse-readable = record { set = reverse; rows = h .rows; end = h .end; kept = kept .1; few = few-deltas _ (few .1) }
+
+        pub inbound-readable : Readable (h .first) (columnsOf (h .inbound) io id)
+        inbound-readable = record { set = inbound; rows = h .rows; end = h .end; kept = kept .2; few = few-deltas _ (few .2) }
+
+      -- ── the answer ───────────────────────────────────────────────────────────────────────────
+
+      module _ (f r i : ℕ) (t : tight ≡ any short (rooms f r i)) where
+        lent-are : readGranule (h .first) (h .rows) (h .end) (lentGranule h fo fd ro rd io id chains seqs) (rooms f r i)
+            ≡ unless (lentGranuleRules h fo fd ro rd io id chains seqs tight) (granuleOf (h .first) (lentGranule h fo fd ro rd io id chains seqs))
+        unfolding readGranule lentGranuleRules limits limitsOf
+        lent-are = rw t
+
+        module _ (g : k ≡ Kept) where
+          read-kept : readGranule (h .first) (h .rows) (h .end) (lentGranule h fo fd ro rd io id chains seqs) (rooms f r i)
+              ≡ accepted (granuleOf (h .first) (lentGranule h fo fd ro rd io id chains seqs))
+          unfolding unless
+          read-kept = lent-are ∙ rw (is-kept k (lentGranuleRules h fo fd ro rd io id chains seqs tight) e g)
+
+          pub granule-counted : (n : Counts)
+              → n ≡ countsOf (slotsOf (h .first) (columnsOf (h .forward) fo fd)) (slotsOf (h .first) (columnsOf (h .reverse) ro rd)) (slotsOf (h .first) (columnsOf (h .inbound) io id))
+              → Edges n ≡ decodedOf (readGranule (h .first) (h .rows) (h .end) (lentGranule h fo fd ro rd io id chains seqs) (rooms f r i))
+          unfolding decodedOf granuleOf
+          granule-counted n p = rw (read-kept, p)
+
+          module _ (old out : List ℕ) where
+            pub forward-written : out ≡ sets old 0 (joined (slotsOf (h .first) (columnsOf (h .forward) fo fd)))
+                → out ≡ writtenOver old (setIn 0 (readGranule (h .first) (h .rows) (h .end) (lentGranule h fo fd ro rd io id chains seqs) (rooms f r i)))
+            unfolding setIn writtenOver granuleOf
+            forward-written p = rw read-kept p
+
+            pub reverse-written : out ≡ sets old 0 (joined (slotsOf (h .first) (columnsOf (h .reverse) ro rd)))
+                → out ≡ writtenOver old (setIn 1 (readGranule (h .first) (h .rows) (h .end) (lentGranule h fo fd ro rd io id chains seqs) (rooms f r i)))
+            unfolding setIn writtenOver granuleOf
+            reverse-written p = rw read-kept p
+
+            pub inbound-written : out ≡ sets old 0 (joined (slotsOf (h .first) (columnsOf (h .inbound) io id)))
+                → out ≡ writtenOver old (setIn 2 (readGranule (h .first) (h .rows) (h .end) (lentGranule h fo fd ro rd io id chains seqs) (rooms f r i)))
+            unfolding setIn writtenOver granuleOf
+            inbound-written p = rw read-kept p
+
+        module _ (why : Refusal) (g : k ≡ Broken why) where
+          read-broken : readGranule (h .first) (h .rows) (h .end) (lentGranule h fo fd ro rd io id chains seqs) (rooms f r i) ≡ refused why
+          unfolding unless
+          read-broken = lent-are ∙ rw (is-broken k (lentGranuleRules h fo fd ro rd io id chains seqs tight) why e g)
+
+          pub granule-refused : Refused why ≡ decodedOf (readGranule (h .first) (h .rows) (h .end) (lentGranule h fo fd ro rd io id chains seqs) (rooms f r i))
+          unfolding decodedOf
+          granule-refused = rw read-broken
+
+          pub granule-as-was : (set : ℕ) (old : List ℕ) → old ≡ writtenOver old (setIn set (readGranule (h .first) (h .rows) (h .end) (lentGranule h fo fd ro rd io id chains seqs) (rooms f r i)))
+          unfolding setIn writtenOver
+          granule-as-was set old = rw read-broken
+
+-- three figures at once
+pub three-counted : (f r i : List (List ℕ)) (a b c : ℕ) → a ≡ length (joined f) → b ≡ length (joined r) → c ≡ length (joined i)
+    → _≡_ {A = Counts} (record { forward = a; reverse = b; inbound = c }) (countsOf f r i)
+three-counted f r i a b c p q s = rw (p, q, s)

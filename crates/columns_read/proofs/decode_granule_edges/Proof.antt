@@ -1,0 +1,69 @@
+-- `columns_read::decode_granule_edges` meets its contract.
+use borrow.Author.Needs.{needs}
+use Rattle.columns_read.proofs.ThreeSets.{forward-readable, reverse-readable, inbound-readable, granule-counted, forward-written, reverse-written, inbound-written, granule-refused, granule-as-was}
+use Rattle.columns_read.proofs.decode_granule_edges.Statement.{statement}
+use Rattle.columns_read.proofs.decode_granule_edges.Tie as tie
+
+is-any-short-requires : tie.Need-is-any-short-requires
+is-any-short-requires c κs = search needs
+
+granule-rules-requires : tie.Need-granule-rules-requires
+granule-rules-requires c κs = search needs
+
+enum-told : tie.Need-enum-told
+enum-told c = search needs
+
+write-granule-requires : tie.Need-write-granule-requires
+write-granule-requires c κs =
+    let rules = c .before .before .before .before .before .granule-rules .ensures in
+    let kept = c .before .before .before .enum-told .given .1 in
+    (forward-readable _ _ _ _ _ _ _ _ _ _ _ rules kept, (reverse-readable _ _ _ _ _ _ _ _ _ _ _ rules kept, inbound-readable _ _ _ _ _ _ _ _ _ _ _ rules kept))
+
+enum-known-rules : tie.Need-enum-known-rules
+enum-known-rules c = search needs
+
+same-length : tie.Need-same-length
+same-length c = search needs
+
+same-length-2 : tie.Need-same-length-2
+same-length-2 c = search needs
+
+same-length-3 : tie.Need-same-length-3
+same-length-3 c = search needs
+
+returns : tie.Need-returns
+returns c =
+    let tight = c .before .before .before .before .before .before .before .before .before .before .before .before .before .is-any-short .ensures in
+    let rules = c .before .before .before .before .before .before .before .before .before .before .before .before .granule-rules .ensures in
+    let kept = c .before .before .before .before .before .before .before .before .before .before .enum-told .given .1 in
+    let out = c .before .before .before .before .before .before .write-granule .ensures in (
+      granule-counted _ _ _ _ _ _ _ _ _ _ _ rules _ _ _ tight kept _ (out .0),
+      (
+        forward-written _ _ _ _ _ _ _ _ _ _ _ rules _ _ _ tight kept _ _ (out .1 .0),
+        (reverse-written _ _ _ _ _ _ _ _ _ _ _ rules _ _ _ tight kept _ _ (out .1 .1 .0), inbound-written _ _ _ _ _ _ _ _ _ _ _ rules _ _ _ tight kept _ _ (out .1 .1 .1)),
+      ),
+    )
+
+returns-2 : tie.Need-returns-2
+returns-2 c =
+    let tight = c .before .before .before .before .is-any-short .ensures in
+    let rules = c .before .before .before .granule-rules .ensures in
+    let broken = c .before .rules .given .1 in (
+      granule-refused _ _ _ _ _ _ _ _ _ _ _ rules _ _ _ tight _ broken,
+      (granule-as-was _ _ _ _ _ _ _ _ _ _ _ rules _ _ _ tight _ broken 0 _, (granule-as-was _ _ _ _ _ _ _ _ _ _ _ rules _ _ _ tight _ broken 1 _, granule-as-was _ _ _ _ _ _ _ _ _ _ _ rules _ _ _ tight _ broken 2 _)),
+    )
+
+pub decode-granule-edges-spec : {M : Type 1} → statement M
+decode-granule-edges-spec =
+    tie.close
+    (tie.spec
+    is-any-short-requires
+    granule-rules-requires
+    enum-told
+    write-granule-requires
+    enum-known-rules
+    same-length
+    same-length-2
+    same-length-3
+    returns
+    returns-2)

@@ -1,0 +1,256 @@
+// Reading a granule: its three sets of edges and, where there is a cover, its label columns, in one call.
+use columns::reading;
+use columns::reading::Checked;
+use columns::refusal::Refusal;
+ghost use mathlib.Core.Path.{_≡_};
+ghost use mathlib.Core.List.{_∷_};
+ghost use lib.Dec.{ltb};
+ghost use lib.ListN.{length};
+ghost use lib.Seq.{sets};
+ghost use Rattle.lists.specs.Lists.{any, joined};
+ghost use Rattle.columns.specs.Limits.{maxNumbers};
+ghost use Rattle.columns.specs.Refusal.{short};
+ghost use Rattle.columns.specs.Reading.{slotsOf, coverRules, granuleRules, readGranule};
+ghost use Rattle.columns.specs.Answers.{columnsOf, checkedOf, writtenOver};
+ghost use Rattle.columns_read.specs.Granules.{coverOf, coverLengths, lentGranule, rooms, setsRules, lentGranuleRules, countsOf, decodedOf, setIn};
+ghost use Rattle.columns.specs.Readable.{Readable};
+
+// What a granule is lent with besides its columns: its first number, its rows, the number past its file's last one, the edge count of each
+// set, and whether there is a cover. In the functions below `fo` and `fd` are the offsets and deltas of the forward set, `ro` and `rd` those
+// of the reverse set, `io` and `id` those of the inbound set.
+pub struct Head {
+    pub first: u64,
+    pub rows: usize,
+    pub end: u64,
+    pub forward: u64,
+    pub reverse: u64,
+    pub inbound: u64,
+    pub cover: bool,
+}
+
+// How many targets each set of a granule has.
+pub struct Counts {
+    pub forward: usize,
+    pub reverse: usize,
+    pub inbound: usize,
+}
+
+// What reading a granule answers.
+pub enum Decoded {
+    Edges(Counts),
+    Refused(Refusal),
+}
+
+// ── limits ──
+
+// Whether one of a granule's columns is too long, by their lengths.
+fn is_granule_over(
+    fo: usize,
+    fd: usize,
+    ro: usize,
+    rd: usize,
+    io: usize,
+    id: usize,
+    cover: bool,
+    chains: usize,
+    seqs: usize,
+) -> bool
+    ensures { λ r. ⌜ r ≡ any (ltb maxNumbers) (fo ∷ fd ∷ ro ∷ rd ∷ io ∷ id ∷ coverLengths cover chains seqs) ⌝ }
+{
+    if reading::is_any_over(fo, fd, ro, rd) {
+        return true;
+    }
+    if reading::is_over(io, id) {
+        return true;
+    }
+    if cover {
+        return reading::is_over(chains, seqs);
+    }
+    false
+}
+
+// Whether one of the three slices is too short, by their lengths.
+fn is_any_short(f: usize, r: usize, i: usize) -> bool
+    ensures { λ q. ⌜ q ≡ any short (rooms f r i) ⌝ }
+{
+    if f < 4096 {
+        return true;
+    }
+    if r < 4096 {
+        return true;
+    }
+    i < 4096
+}
+
+// ── rules ──
+
+// The rules of the label columns, where there is a cover.
+fn cover_rules(rows: usize, cover: bool, chains: &[u64], seqs: &[u64]) -> Checked
+    ensures { λ r. ⌜ r ≡ checkedOf (coverRules rows (coverOf cover (now (chains .entry)) (now (seqs .entry)))) ⌝ }
+{
+    if cover {
+        return reading::label_rules(rows, chains, seqs);
+    }
+    Checked::Kept
+}
+
+// The rules of the three sets.
+fn sets_rules(
+    head: Head,
+    fo: &[u64],
+    fd: &[i64],
+    ro: &[u64],
+    rd: &[i64],
+    io: &[u64],
+    id: &[i64],
+) -> Checked
+    ensures { λ r. ⌜ r ≡ checkedOf (setsRules head (now (fo .entry)) (now (fd .entry)) (now (ro .entry)) (now (rd .entry)) (now (io .entry)) (now (id .entry))) ⌝ }
+{
+    let first = head.first;
+    let rows = head.rows;
+    let end = head.end;
+    let rules = reading::set_rules(0, first, rows, end, head.forward, fo, fd);
+    match rules {
+        Checked::Kept => reading::both_rules(
+            first,
+            rows,
+            end,
+            head.reverse,
+            ro,
+            rd,
+            head.inbound,
+            io,
+            id,
+        ),
+        Checked::Broken(why) => Checked::Broken(why),
+    }
+}
+
+// The rules of the three sets, then those of the labels.
+fn edge_rules(
+    head: Head,
+    fo: &[u64],
+    fd: &[i64],
+    ro: &[u64],
+    rd: &[i64],
+    io: &[u64],
+    id: &[i64],
+    chains: &[u64],
+    seqs: &[u64],
+) -> Checked
+    ensures { λ r. ⌜ r ≡ checkedOf (granuleRules (head .first) (head .rows) (head .end) (lentGranule head (now (fo .entry)) (now (fd .entry)) (now (ro .entry)) (now (rd .entry)) (now (io .entry)) (now (id .entry)) (now (chains .entry)) (now (seqs .entry)))) ⌝ }
+{
+    let rules = sets_rules(head, fo, fd, ro, rd, io, id);
+    match rules {
+        Checked::Kept => cover_rules(head.rows, head.cover, chains, seqs),
+        Checked::Broken(why) => Checked::Broken(why),
+    }
+}
+
+// The limits, by whether one of the three slices is too short, and the rules of a granule.
+fn granule_rules(
+    head: Head,
+    fo: &[u64],
+    fd: &[i64],
+    ro: &[u64],
+    rd: &[i64],
+    io: &[u64],
+    id: &[i64],
+    chains: &[u64],
+    seqs: &[u64],
+    tight: bool,
+) -> Checked
+    ensures { λ r. ⌜ r ≡ checkedOf (lentGranuleRules head (now (fo .entry)) (now (fd .entry)) (now (ro .entry)) (now (rd .entry)) (now (io .entry)) (now (id .entry)) (now (chains .entry)) (now (seqs .entry)) tight) ⌝ }
+{
+    let c = chains.len();
+    let s = seqs.len();
+    let over = is_granule_over(
+        fo.len(),
+        fd.len(),
+        ro.len(),
+        rd.len(),
+        io.len(),
+        id.len(),
+        head.cover,
+        c,
+        s,
+    );
+    let limit = reading::limit_rules(head.rows, over, tight);
+    match limit {
+        Checked::Kept => edge_rules(head, fo, fd, ro, rd, io, id, chains, seqs),
+        Checked::Broken(why) => Checked::Broken(why),
+    }
+}
+
+// ── targets ──
+
+// Writes the targets of three sets whose rules are kept.
+fn write_granule(
+    head: Head,
+    fo: &[u64],
+    fd: &[i64],
+    ro: &[u64],
+    rd: &[i64],
+    io: &[u64],
+    id: &[i64],
+    forward: &mut [u64],
+    reverse: &mut [u64],
+    inbound: &mut [u64],
+) -> Counts
+    requires { ⌜ Readable (head .first) (columnsOf (head .forward) (now fo) (now fd)) ⌝ }
+    requires { ⌜ Readable (head .first) (columnsOf (head .reverse) (now ro) (now rd)) ⌝ }
+    requires { ⌜ Readable (head .first) (columnsOf (head .inbound) (now io) (now id)) ⌝ }
+    ensures { λ r. ⌜ r ≡ countsOf (slotsOf (head .first) (columnsOf (head .forward) (now (fo .entry)) (now (fd .entry)))) (slotsOf (head .first) (columnsOf (head .reverse) (now (ro .entry)) (now (rd .entry)))) (slotsOf (head .first) (columnsOf (head .inbound) (now (io .entry)) (now (id .entry)))) ⌝ }
+    ensures { λ _. ⌜ now (forward .exit) ≡ sets (now (forward .entry)) 0 (joined (slotsOf (head .first) (columnsOf (head .forward) (now (fo .entry)) (now (fd .entry))))) ⌝ }
+    ensures { λ _. ⌜ now (reverse .exit) ≡ sets (now (reverse .entry)) 0 (joined (slotsOf (head .first) (columnsOf (head .reverse) (now (ro .entry)) (now (rd .entry))))) ⌝ }
+    ensures { λ _. ⌜ now (inbound .exit) ≡ sets (now (inbound .entry)) 0 (joined (slotsOf (head .first) (columnsOf (head .inbound) (now (io .entry)) (now (id .entry))))) ⌝ }
+{
+    let first = head.first;
+    let f = reading::write_csr(first, head.forward, fo, fd, forward);
+    let r = reading::write_csr(first, head.reverse, ro, rd, reverse);
+    let i = reading::write_csr(first, head.inbound, io, id, inbound);
+    Counts {
+        forward: f,
+        reverse: r,
+        inbound: i,
+    }
+}
+
+// Reads a granule: the targets of each set into a slice of its own, slot after slot. A refused granule leaves all three as they were.
+pub fn decode_granule_edges(
+    head: Head,
+    fo: &[u64],
+    fd: &[i64],
+    ro: &[u64],
+    rd: &[i64],
+    io: &[u64],
+    id: &[i64],
+    chains: &[u64],
+    seqs: &[u64],
+    forward: &mut [u64],
+    reverse: &mut [u64],
+    inbound: &mut [u64],
+) -> Decoded
+    ensures { λ r. ⌜ r ≡ decodedOf (readGranule (head .first) (head .rows) (head .end) (lentGranule head (now (fo .entry)) (now (fd .entry)) (now (ro .entry)) (now (rd .entry)) (now (io .entry)) (now (id .entry)) (now (chains .entry)) (now (seqs .entry))) (rooms (length (now (forward .entry))) (length (now (reverse .entry))) (length (now (inbound .entry))))) ⌝ }
+    ensures { λ _. ⌜ now (forward .exit) ≡ writtenOver (now (forward .entry)) (setIn 0 (readGranule (head .first) (head .rows) (head .end) (lentGranule head (now (fo .entry)) (now (fd .entry)) (now (ro .entry)) (now (rd .entry)) (now (io .entry)) (now (id .entry)) (now (chains .entry)) (now (seqs .entry))) (rooms (length (now (forward .entry))) (length (now (reverse .entry))) (length (now (inbound .entry)))))) ⌝ }
+    ensures { λ _. ⌜ now (reverse .exit) ≡ writtenOver (now (reverse .entry)) (setIn 1 (readGranule (head .first) (head .rows) (head .end) (lentGranule head (now (fo .entry)) (now (fd .entry)) (now (ro .entry)) (now (rd .entry)) (now (io .entry)) (now (id .entry)) (now (chains .entry)) (now (seqs .entry))) (rooms (length (now (forward .entry))) (length (now (reverse .entry))) (length (now (inbound .entry)))))) ⌝ }
+    ensures { λ _. ⌜ now (inbound .exit) ≡ writtenOver (now (inbound .entry)) (setIn 2 (readGranule (head .first) (head .rows) (head .end) (lentGranule head (now (fo .entry)) (now (fd .entry)) (now (ro .entry)) (now (rd .entry)) (now (io .entry)) (now (id .entry)) (now (chains .entry)) (now (seqs .entry))) (rooms (length (now (forward .entry))) (length (now (reverse .entry))) (length (now (inbound .entry)))))) ⌝ }
+{
+    let tight = is_any_short(forward.len(), reverse.len(), inbound.len());
+    let rules = granule_rules(head, fo, fd, ro, rd, io, id, chains, seqs, tight);
+    match rules {
+        Checked::Kept => Decoded::Edges(write_granule(
+            head,
+            fo,
+            fd,
+            ro,
+            rd,
+            io,
+            id,
+            forward,
+            reverse,
+            inbound,
+        )),
+        Checked::Broken(why) => Decoded::Refused(why),
+    }
+}

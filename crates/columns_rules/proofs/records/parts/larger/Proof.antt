@@ -1,0 +1,15 @@
+-- `columns_rules::records::parts::larger` meets its contract.
+use Rattle.columns_rules.proofs.records.RecordParts.{larger-first, larger-second}
+use Rattle.columns_rules.proofs.records.parts.larger.Statement.{statement}
+use Rattle.columns_rules.proofs.records.parts.larger.Tie as tie
+use Rattle.columns_rules.proofs.records.parts.larger.Reads as reads
+use Rattle.columns_rules.proofs.records.parts.larger.Lts as lts
+
+returns : tie.Need-returns
+returns c = search larger-second
+
+returns-2 : tie.Need-returns-2
+returns-2 c = search larger-first
+
+pub larger-spec : {M : Type 1} → statement M
+larger-spec = tie.close (tie.spec returns returns-2)

@@ -1,0 +1,68 @@
+-- `columns_rules::slots::slot_rules` meets its contract.
+use mathlib.Core.Path.{_≡_}
+use Prim.Native.Nat.{_≤_, _-_, _*_}
+use lib.ListN.{drop}
+use Rattle.columns.specs.EdgeSet.{cut}
+use Rattle.columns.specs.Building.{slotRules}
+use Rattle.columns_rules.specs.Ruled.{ruling}
+use Rattle.columns_rules.proofs.ParentTurns.{slots-done, slots-stop, slots-on}
+use borrow.Author.Needs.{needs}
+use Rattle.columns_rules.proofs.slots.slot_rules.Statement.{statement}
+use Rattle.columns_rules.proofs.slots.slot_rules.Tie as tie
+use Rattle.columns_rules.proofs.slots.slot_rules.Reads as reads
+use Rattle.columns_rules.proofs.slots.slot_rules.Lts as lts
+use Rattle.columns_rules.proofs.slots.slot_rule.Reads as slot-rule-reads
+
+abbrev Inv-loop : tie.InvT-loop
+Inv-loop first rows offsets targets s₀ s =
+    (s ≤ 2 * rows) × (ruling (slotRules first 0 (cut offsets targets)) ≡ ruling (slotRules first s (drop s (cut offsets targets))))
+
+abbrev μ-loop : tie.MeasureT-loop
+μ-loop first rows offsets targets s₀ s = 2 * rows - s
+
+loop-holds : tie.Need-loop-holds Inv-loop μ-loop
+loop-holds c = search needs
+
+mul-loop : tie.Need-mul-loop Inv-loop μ-loop
+mul-loop c = search needs
+
+slot-rule-requires : tie.Need-slot-rule-requires Inv-loop μ-loop
+slot-rule-requires c κs = search needs
+
+enum-known-r : tie.Need-enum-known-r Inv-loop μ-loop
+enum-known-r c = search needs
+
+returns : tie.Need-returns Inv-loop μ-loop
+returns c = search (needs, slots-stop)
+
+enum-told : tie.Need-enum-told Inv-loop μ-loop
+enum-told c = search needs
+
+add-s : tie.Need-add-s Inv-loop μ-loop
+add-s c = search needs
+
+loop-less : tie.Need-loop-less Inv-loop μ-loop
+loop-less c = search needs
+
+loop-again : tie.Need-loop-again Inv-loop μ-loop
+loop-again c = search (needs, slots-on)
+
+returns-2 : tie.Need-returns-2 Inv-loop μ-loop
+returns-2 c = search (needs, slots-done)
+
+pub slot-rules-spec : {M : Type 1} → statement M
+slot-rules-spec =
+    tie.close
+    (tie.spec
+    Inv-loop
+    μ-loop
+    loop-holds
+    mul-loop
+    slot-rule-requires
+    enum-known-r
+    returns
+    enum-told
+    add-s
+    loop-less
+    loop-again
+    returns-2)

@@ -1,0 +1,4 @@
+pub mod Ruled
+pub mod chain_table
+pub mod records
+pub mod spans

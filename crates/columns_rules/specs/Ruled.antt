@@ -1,0 +1,27 @@
+-- What building's rules answer, and those of a file and its parents (1 to 5).
+use mathlib.Core.Bool.{not}
+use mathlib.Core.List.{List, [], _∷_}
+use mathlib.Core.Option.{Option, none, some}
+use Prim.Native.Nat.{ℕ}
+use lib.ListN.{length}
+use Rattle.columns.specs.Refusal.{refuse, firstOf}
+use Rattle.columns.specs.Building.{subjectOk, numbersOk, slotRules}
+use Rattle.columns.specs.EdgeSet.{offsetsForm, cut}
+use Rattle.columns.specs.declared.refusal.Refusal.{Refusal}
+use Rattle.columns.specs.declared.refusal.Refusal.the-variants.{SubjectLength, EdgeEntries, NumberRange}
+use Rattle.columns_rules.specs.declared.slots.Ruling.{Ruling}
+use Rattle.columns_rules.specs.declared.slots.Ruling.the-variants.{Kept, Broken}
+
+-- the first broken rule, as the code's answer
+unfoldable pub ruling : Option Refusal → Ruling
+ruling none = Kept
+ruling (some r) = Broken r
+
+-- 1 to 5
+unfoldable pub fileRules : List ℕ → ℕ → ℕ → List ℕ → List ℕ → Option Refusal
+fileRules subject first rows offsets targets =
+    firstOf (refuse SubjectLength (not (subjectOk subject))
+    ∷ refuse EdgeEntries (not (offsetsForm rows (length targets) offsets))
+    ∷ refuse NumberRange (not (numbersOk first rows))
+    ∷ slotRules first 0 (cut offsets targets)
+    ∷ [])

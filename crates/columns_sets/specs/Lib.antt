@@ -1,0 +1,4 @@
+pub mod counting
+pub mod gather
+pub mod sets
+pub mod transpose

@@ -1,1 +1,0 @@
-// Laws of the cover's calls: proofs/Calls.antt.

@@ -1,6 +1,0 @@
-pub mod Limited
-pub mod RuleGroups
-pub mod Sets
-pub mod KeptEdges
-pub mod Later
-pub mod Laid

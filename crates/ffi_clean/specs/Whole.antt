@@ -1,0 +1,53 @@
+-- What cleaning and listing an archive, and the words of a refusal, answer by numbers: a refusal is document 01's number and nothing else, an answer 0 and how many bytes were written.
+use mathlib.Core.Bool.{Bool, true, false, cond}
+use mathlib.Core.List.{List, []}
+use mathlib.Core.Path.{_≡_}
+use Prim.Native.Nat.{ℕ, _≤_}
+use lib.Dec.{ltb}
+use lib.ListN.{length, getD, take, drop}
+use Rattle.columns.specs.Refusal.{numberOf}
+use Rattle.columns.specs.declared.refusal.Refusal.the-variants.{SliceShort}
+use Rattle.cleaning.specs.Step as step
+use Rattle.cleaning.specs.Listing.{listing}
+use Rattle.run_text.specs.files.Files.{listingRoom}
+use Rattle.messages.specs.words.Words.{table}
+use Rattle.run_write.specs.declared.Writing.{Writing}
+use Rattle.run_write.specs.declared.Writing.the-variants.{Length, Refused}
+use Rattle.ffi_clean.specs.declared.Answer.{Answer}
+
+-- a length, or a refusal
+unfoldable pub numbered : Writing → Answer
+numbered (Length n) = record { refusal = 0; length = n }
+numbered (Refused x) = record { refusal = numberOf x; length = 0 }
+
+-- the bytes of a step's answer; a step that writes none has none
+unfoldable pub bytesOf : step.Answer → List ℕ
+bytesOf (step.refused x) = []
+bytesOf step.done = []
+bytesOf (step.wrote w) = w
+bytesOf (step.told n) = []
+bytesOf (step.counted n) = []
+
+-- the number of a step's refusal, or 0
+unfoldable pub refusalOf : step.Answer → ℕ
+refusalOf (step.refused x) = numberOf x
+refusalOf step.done = 0
+refusalOf (step.wrote w) = 0
+refusalOf (step.told n) = 0
+refusalOf (step.counted n) = 0
+
+-- the listing into so much room: 41 where there is less than a listing may take
+unfoldable pub listedFrom : List ℕ → ℕ → step.Answer
+listedFrom bytes room = cond (ltb room listingRoom) (step.refused SliceShort) (step.wrote (listing bytes))
+
+-- what a number means into so much room: 41 where there is less than the longest words take
+unfoldable pub wordsFrom : ℕ → ℕ → step.Answer
+wordsFrom n room = cond (ltb room 120) (step.refused SliceShort) (step.wrote (getD table n []))
+
+-- the answer for as much room as was lent: its number, its bytes from the first on, and past them all is as it was
+pub record GivesBy (answer : ℕ → step.Answer) (was is : List ℕ) (r : Answer) : Type 0 where
+  pub refused : r .refusal ≡ refusalOf (answer (length was))
+  pub counted : r .length ≡ length (bytesOf (answer (length was)))
+  pub bytes : take (r .length) is ≡ bytesOf (answer (length was))
+  pub rest : drop (r .length) is ≡ drop (r .length) was
+  pub within : r .length ≤ length was

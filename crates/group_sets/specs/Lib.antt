@@ -1,2 +1,0 @@
-pub mod ByVerdict
-pub mod ColumnGraphs

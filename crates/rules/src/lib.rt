@@ -1,3 +1,0 @@
-// What building refuses of a file and its parents (1 to 5), in document 01's order, and what every rule answers.
-pub mod file;
-pub mod slots;

@@ -1,0 +1,61 @@
+-- `run_compact::following::put_flags` meets its contract. The invariant: the flags that are put, and those of the records that are left.
+use mathlib.Core.Path.{_≡_}
+use mathlib.Core.List.{_++_}
+use Prim.Native.Nat.{_≤_, _-_}
+use lib.ListN.{length, take}
+use lib.Seq.{slice}
+use Rattle.run_compact.specs.Columns.{flagsOf}
+use Rattle.run_compact.proofs.RecordTurns.{flags-put, one-flag}
+use borrow.Author.Needs.{needs}
+use Rattle.run_compact.proofs.following.put_flags.Statement.{statement}
+use Rattle.run_compact.proofs.following.put_flags.Tie as tie
+
+abbrev Inv-loop : tie.InvT-loop
+Inv-loop out₀ rows n flags base i₀ out i =
+    (i ≤ n) × (length out ≡ length out₀) × (flagsOf base flags (take n rows) ≡ take i out ++ flagsOf base flags (slice i n rows))
+
+abbrev μ-loop : tie.MeasureT-loop
+μ-loop out₀ rows n flags base i₀ out i = n - i
+
+loop-holds : tie.Need-loop-holds Inv-loop μ-loop
+loop-holds c = search needs
+
+mul-flag-of : tie.Need-mul-flag-of Inv-loop μ-loop
+mul-flag-of c = search needs
+
+shared-slice-read-flag-of : tie.Need-shared-slice-read-flag-of Inv-loop μ-loop
+shared-slice-read-flag-of c = search needs
+
+flag-of-requires : tie.Need-flag-of-requires Inv-loop μ-loop
+flag-of-requires c κs = search needs
+
+element-write-out : tie.Need-element-write-out Inv-loop μ-loop
+element-write-out c = search needs
+
+add-i : tie.Need-add-i Inv-loop μ-loop
+add-i c = search needs
+
+loop-less : tie.Need-loop-less Inv-loop μ-loop
+loop-less c = search needs
+
+loop-again : tie.Need-loop-again Inv-loop μ-loop
+loop-again c = search (needs, one-flag)
+
+returns : tie.Need-returns Inv-loop μ-loop
+returns c = (search flags-put, search needs)
+
+pub put-flags-spec : {M : Type 1} → statement M
+put-flags-spec =
+    tie.close
+    (tie.spec
+    Inv-loop
+    μ-loop
+    loop-holds
+    mul-flag-of
+    shared-slice-read-flag-of
+    flag-of-requires
+    element-write-out
+    add-i
+    loop-less
+    loop-again
+    returns)

@@ -1,0 +1,54 @@
+-- `run_file::parts::put_edges` meets its contract.
+use Rattle.run_file.proofs.Taken.{taken, table-taken, edges-room, edges-short, edges-end, edges-put}
+use borrow.Author.Needs.{needs}
+use Rattle.run_file.proofs.parts.put_edges.Statement.{statement}
+use Rattle.run_file.proofs.parts.put_edges.Tie as tie
+
+mul-k : tie.Need-mul-k
+mul-k c = search needs
+
+add-k : tie.Need-add-k
+add-k c = search needs
+
+slice-aggregate-record-edges : tie.Need-slice-aggregate-record-edges
+slice-aggregate-record-edges c = search table-taken
+
+slice-aggregate-record-edges-2 : tie.Need-slice-aggregate-record-edges-2
+slice-aggregate-record-edges-2 c = search taken
+
+slice-aggregate-record-edges-3 : tie.Need-slice-aggregate-record-edges-3
+slice-aggregate-record-edges-3 c = search table-taken
+
+slice-aggregate-record-edges-4 : tie.Need-slice-aggregate-record-edges-4
+slice-aggregate-record-edges-4 c = search taken
+
+slice-aggregate-record-edges-5 : tie.Need-slice-aggregate-record-edges-5
+slice-aggregate-record-edges-5 c = search table-taken
+
+slice-aggregate-record-edges-6 : tie.Need-slice-aggregate-record-edges-6
+slice-aggregate-record-edges-6 c = search taken
+
+record-edges-requires : tie.Need-record-edges-requires
+record-edges-requires c κs = (search edges-room, search edges-short)
+
+same-length : tie.Need-same-length
+same-length c = search needs
+
+returns : tie.Need-returns
+returns c = (search edges-put, search edges-end)
+
+pub put-edges-spec : {M : Type 1} → statement M
+put-edges-spec =
+    tie.close
+    (tie.spec
+    mul-k
+    add-k
+    slice-aggregate-record-edges
+    slice-aggregate-record-edges-2
+    slice-aggregate-record-edges-3
+    slice-aggregate-record-edges-4
+    slice-aggregate-record-edges-5
+    slice-aggregate-record-edges-6
+    record-edges-requires
+    same-length
+    returns)

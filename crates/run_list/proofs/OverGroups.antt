@@ -1,0 +1,132 @@
+-- The files of the groups from one on: their lines and what those take. All are those from group 0 on; one turn of each loop goes from g to g + 1.
+use mathlib.Core.Path.{_≡_, refl, sym, ap, _∙_}
+use mathlib.Core.List.{List, [], _∷_, _++_, map}
+use mathlib.Core.Option.{none}
+use Prim.Native.Nat.{ℕ, suc, _+_, _-_, _*_, _≤_, _<_}
+use native.Mathlib.Numerals.{add-one}
+use native.Mathlib.Omega.{arith}
+use lib.ListN.{length}
+use Rattle.lists.specs.Lists.{flat, upFrom, sum}
+use Rattle.lists.proofs.Flat.{length-map-upFrom}
+use Rattle.columns.specs.declared.refusal.Refusal.{Refusal}
+use Rattle.archive.specs.File.{File}
+use Rattle.columns_rules.specs.Ruled.{ruling}
+use Rattle.columns_rules.specs.declared.slots.Ruling.the-variants.{Kept, Broken}
+use Rattle.cleaning.specs.Listing.{fileLines}
+use Rattle.cleaning.specs.Sheet as plain
+use Rattle.cleaning.specs.Sections.{sectionGraph, sectionFile, sectionRules}
+use Rattle.columns.specs.Building.{buildRules}
+use Rattle.run_state.specs.declared.Sheet.{Sheet}
+use Rattle.run_state.specs.View.{factsAt, sheetIn}
+use Rattle.run_state.specs.output.View.{fileIn}
+use Rattle.run_output.specs.by_value.Made.{Made}
+use Rattle.run_output.specs.declared.by_value.GroupFile.{GroupFile}
+use Rattle.run_write.proofs.Rest.{rulesFrom, kept-none, rules-end, rules-first}
+use Rattle.run_text.specs.numbers.Wrote.{Wrote}
+use Rattle.run_text.proofs.lines.Columns.{Going}
+use Rattle.run_list.specs.Need.{fileNeed, filesNeed}
+use Rattle.run_list.specs.Groups.{sectionFiles, NeededBy}
+use Rattle.run_list.proofs.Along.{part-more, parts-end}
+
+-- ── the rest ─────────────────────────────────────────────────────────────────────────────────
+
+-- of the groups from g up to n
+unfoldable pub filesFrom : plain.Sheet → ℕ → ℕ → List File
+filesFrom s g n = map (sectionFile s) (upFrom g (n - g))
+
+unfoldable pub linesFrom : plain.Sheet → ℕ → ℕ → List ℕ
+linesFrom s g n = flat fileLines (filesFrom s g n)
+
+unfoldable pub needFrom : plain.Sheet → ℕ → ℕ → ℕ
+needFrom s g n = filesNeed (filesFrom s g n)
+
+module _ (s : plain.Sheet) (g n : ℕ) where
+  files-end : n ≤ g → filesFrom s g n ≡ []
+  unfolding filesFrom upFrom
+  files-end h = let e : n - g ≡ 0 = omega arith in rw e
+
+  files-next : g < n → filesFrom s g n ≡ sectionFile s g ∷ filesFrom s (suc g) n
+  unfolding filesFrom upFrom
+  files-next h = let e : n - g ≡ suc (n - suc g) = omega arith in rw e
+
+  lines-end : n ≤ g → linesFrom s g n ≡ []
+  unfolding linesFrom
+  lines-end h = rw (files-end h)
+
+  need-end : n ≤ g → needFrom s g n ≡ 0
+  unfolding needFrom filesNeed sum
+  need-end h = rw (files-end h)
+
+  lines-next : g < n → linesFrom s g n ≡ fileLines (sectionFile s g) ++ linesFrom s (g + 1) n
+  unfolding linesFrom
+  lines-next h = rw (files-next h, add-one)
+
+  need-next : g < n → needFrom s g n ≡ fileNeed (sectionFile s g) + needFrom s (g + 1) n
+  unfolding needFrom filesNeed sum
+  need-next h = rw (files-next h, add-one)
+
+module _ (s : Sheet) where
+  all-files : sectionFiles (sheetIn s) ≡ filesFrom (sheetIn s) 0 (s .groups .count)
+  unfolding sectionFiles filesFrom sheetIn
+  all-files =
+      let e : length ((sheetIn s) .groups) ≡ s .groups .count - 0 = length-map-upFrom (factsAt (s .groups)) 0 (s .groups .count) ∙ omega arith in
+      ap (λ k. map (sectionFile (sheetIn s)) (upFrom 0 k)) e
+
+  pub all-need : filesNeed (sectionFiles (sheetIn s)) ≡ 0 + needFrom (sheetIn s) 0 (s .groups .count)
+  unfolding needFrom
+  all-need = rw all-files (omega arith)
+
+  pub all-room : (at : ℕ) → at + needFrom (sheetIn s) 0 (s .groups .count) ≤ at + filesNeed (sectionFiles (sheetIn s))
+  all-room at = omega (arith, all-need)
+
+  pub all-lines : (l : List ℕ) (at : ℕ) → Going (flat fileLines (sectionFiles (sheetIn s))) l at l at (linesFrom (sheetIn s) 0 (s .groups .count))
+  unfolding linesFrom
+  all-lines l at = rw all-files (record { stored = refl; next = refl })
+
+-- ── one turn ─────────────────────────────────────────────────────────────────────────────────
+
+module _ (s : plain.Sheet) (g n : ℕ) {r : GroupFile} (m : Made s g r) (h : g < n) where
+  pub turn-need : r .ruling ≡ Kept → {l q : ℕ} (t : ℕ) → l ≡ t + needFrom s g n → q ≡ fileNeed (fileIn (r .file)) → l ≡ t + q + needFrom s (g + 1) n
+  turn-need k t e f =
+      let z = m .file (kept-none (buildRules (sectionGraph s g)) (sym (m .rules) ∙ k)) in
+      omega (arith, need-next s g n h, ap fileNeed z)
+
+  module _ (k : rulesFrom s g n ≡ none) where
+    same-file : fileIn (r .file) ≡ sectionFile s g
+    same-file = m .file (rules-first s g n h k)
+
+    module _ (p : ℕ) {t : ℕ} (u : p + needFrom s g n ≤ t) where
+      pub lines-room : {j k : ℕ} → t ≤ k → j ≡ k → p + fileNeed (fileIn (r .file)) ≤ j
+      lines-room a b = omega (arith, need-next s g n h, ap fileNeed same-file)
+
+      pub need-left : {was is : List ℕ} {q : ℕ} → Wrote (fileLines (fileIn (r .file))) (fileNeed (fileIn (r .file))) was p is q → q + needFrom s (g + 1) n ≤ t
+      need-left w = omega (arith, need-next s g n h, ap fileNeed same-file, w .next, w .short)
+
+    pub lines-left : {text was is k : List ℕ} {at p q : ℕ} → Going text was at is p (linesFrom s g n)
+        → Wrote (fileLines (fileIn (r .file))) (fileNeed (fileIn (r .file))) is p k q → Going text was at k q (linesFrom s (g + 1) n)
+    lines-left v w = part-more v (lines-next s g n h ∙ rw same-file) w
+
+-- ── where the loops end ──────────────────────────────────────────────────────────────────────
+
+module _ (s : Sheet) (g n : ℕ) where
+  pub need-known : (t : ℕ) → sectionRules (sheetIn s) ≡ rulesFrom (sheetIn s) g n → filesNeed (sectionFiles (sheetIn s)) ≡ t + needFrom (sheetIn s) g n → n ≤ g
+      → g ≤ n → n ≤ 16 → t ≤ g * 387296 → NeededBy (sheetIn s) (record { ruling = Kept; bytes = t })
+  unfolding ruling
+  need-known t e f h a b d = record {
+    rules = rw (e, rules-end (sheetIn s) g n h);
+    bytes-are = λ k. omega (arith, f, need-end (sheetIn s) g n h);
+    few = omega arith;
+  }
+
+  pub lines-done : {was is : List ℕ} {at p : ℕ} → Going (flat fileLines (sectionFiles (sheetIn s))) was at is p (linesFrom (sheetIn s) g n) → n ≤ g
+      → p + needFrom (sheetIn s) g n ≤ at + filesNeed (sectionFiles (sheetIn s))
+      → Wrote (flat fileLines (sectionFiles (sheetIn s))) (filesNeed (sectionFiles (sheetIn s))) was at is p
+  lines-done v h u = parts-end v (lines-end (sheetIn s) g n h) (omega arith)
+
+pub need-refused : (s : Sheet) (x : Refusal) → Broken x ≡ ruling (sectionRules (sheetIn s)) → NeededBy (sheetIn s) (record { ruling = Broken x; bytes = 0 })
+unfolding ruling
+need-refused s x e = record {
+  rules = e;
+  bytes-are = λ k. let f : Broken x ≡ Kept = e ∙ ap ruling k in let z : _≡_ {A = ℕ} 0 1 = cc in absurd (omega arith);
+  few = omega arith;
+}

@@ -1,0 +1,76 @@
+-- `run_list::files::need_of_all` meets its contract.
+use mathlib.Core.Path.{_≡_}
+use Prim.Native.Nat.{_+_, _-_, _*_, _≤_}
+use Rattle.cleaning.specs.Sections.{sectionRules}
+use Rattle.run_state.specs.View.{sheetIn}
+use Rattle.run_write.proofs.Rest.{rulesFrom, turn-counted, turn-rules, turn-broken}
+use Rattle.run_write.proofs.Whole.{groups-few, all-rules}
+use Rattle.run_list.specs.Need.{filesNeed}
+use Rattle.run_list.specs.Groups.{sectionFiles}
+use Rattle.run_list.proofs.OverGroups.{needFrom, all-need, turn-need, need-known, need-refused}
+use borrow.Author.Needs.{needs}
+use Rattle.run_list.proofs.files.need_of_all.Statement.{statement}
+use Rattle.run_list.proofs.files.need_of_all.Tie as tie
+
+abbrev Inv-loop : tie.InvT-loop
+Inv-loop s n bytes₀ g₀ bytes g =
+    (n ≡ s .groups .count) × (n ≤ 16) × (g ≤ n) × (bytes ≤ g * 387296) × (sectionRules (sheetIn s) ≡ rulesFrom (sheetIn s) g n)
+    × (filesNeed (sectionFiles (sheetIn s)) ≡ bytes + needFrom (sheetIn s) g n)
+
+abbrev μ-loop : tie.MeasureT-loop
+μ-loop s n bytes₀ g₀ bytes g = n - g
+
+sheet-long-requires : tie.Need-sheet-long-requires Inv-loop μ-loop
+sheet-long-requires c κs = search needs
+
+loop-holds : tie.Need-loop-holds Inv-loop μ-loop
+loop-holds c = search (needs, groups-few, all-rules, all-need)
+
+group-file-requires : tie.Need-group-file-requires Inv-loop μ-loop
+group-file-requires c κs = search needs
+
+enum-known-v : tie.Need-enum-known-v Inv-loop μ-loop
+enum-known-v c = search needs
+
+returns : tie.Need-returns Inv-loop μ-loop
+returns c = search (needs, need-refused, turn-broken)
+
+enum-told : tie.Need-enum-told Inv-loop μ-loop
+enum-told c = search needs
+
+need-of-requires : tie.Need-need-of-requires Inv-loop μ-loop
+need-of-requires c κs = search (needs, turn-counted)
+
+add-bytes : tie.Need-add-bytes Inv-loop μ-loop
+add-bytes c = search needs
+
+add-g : tie.Need-add-g Inv-loop μ-loop
+add-g c = search needs
+
+loop-less : tie.Need-loop-less Inv-loop μ-loop
+loop-less c = search needs
+
+loop-again : tie.Need-loop-again Inv-loop μ-loop
+loop-again c = search (needs, turn-rules, turn-need)
+
+returns-2 : tie.Need-returns-2 Inv-loop μ-loop
+returns-2 c = search (needs, need-known)
+
+pub need-of-all-spec : {M : Type 1} → statement M
+need-of-all-spec =
+    tie.close
+    (tie.spec
+    Inv-loop
+    μ-loop
+    sheet-long-requires
+    loop-holds
+    group-file-requires
+    enum-known-v
+    returns
+    enum-told
+    need-of-requires
+    add-bytes
+    add-g
+    loop-less
+    loop-again
+    returns-2)

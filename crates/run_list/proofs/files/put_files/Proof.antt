@@ -1,0 +1,69 @@
+-- `run_list::files::put_files` meets its contract.
+use mathlib.Core.Path.{_≡_}
+use mathlib.Core.Option.{none}
+use Prim.Native.Nat.{_+_, _-_, _≤_}
+use lib.ListN.{length}
+use Rattle.lists.specs.Lists.{flat}
+use Rattle.cleaning.specs.Listing.{fileLines}
+use Rattle.run_state.specs.View.{sheetIn}
+use Rattle.run_write.proofs.Rest.{rulesFrom}
+use Rattle.run_write.proofs.Whole.{groups-few, no-rules, file-counted, rest-rules}
+use Rattle.run_text.proofs.lines.Columns.{Going}
+use Rattle.run_list.specs.Need.{filesNeed}
+use Rattle.run_list.specs.Groups.{sectionFiles}
+use Rattle.run_list.proofs.OverGroups.{linesFrom, needFrom, all-room, all-lines, lines-room, need-left, lines-left, lines-done}
+use borrow.Author.Needs.{needs}
+use Rattle.run_list.proofs.files.put_files.Statement.{statement}
+use Rattle.run_list.proofs.files.put_files.Tie as tie
+
+abbrev Inv-loop : tie.InvT-loop
+Inv-loop s out₀ at n p₀ g₀ out p g =
+    (n ≡ s .groups .count) × (n ≤ 16) × (g ≤ n) × (rulesFrom (sheetIn s) g n ≡ none) × (length out ≡ length out₀)
+    × (p + needFrom (sheetIn s) g n ≤ at + filesNeed (sectionFiles (sheetIn s)))
+    × Going (flat fileLines (sectionFiles (sheetIn s))) out₀ at out p (linesFrom (sheetIn s) g n)
+
+abbrev μ-loop : tie.MeasureT-loop
+μ-loop s out₀ at n p₀ g₀ out p g = n - g
+
+sheet-long-requires : tie.Need-sheet-long-requires Inv-loop μ-loop
+sheet-long-requires c κs = search needs
+
+loop-holds : tie.Need-loop-holds Inv-loop μ-loop
+loop-holds c = search (needs, groups-few, no-rules, all-room, all-lines)
+
+group-file-requires : tie.Need-group-file-requires Inv-loop μ-loop
+group-file-requires c κs = search needs
+
+put-lines-requires : tie.Need-put-lines-requires Inv-loop μ-loop
+put-lines-requires c κs = search (needs, file-counted, lines-room)
+
+add-g : tie.Need-add-g Inv-loop μ-loop
+add-g c = search needs
+
+loop-less : tie.Need-loop-less Inv-loop μ-loop
+loop-less c = search needs
+
+loop-again : tie.Need-loop-again Inv-loop μ-loop
+loop-again c = (search needs, search needs, search needs, search (needs, rest-rules), search needs, search (needs, need-left), search (needs, lines-left))
+
+same-length : tie.Need-same-length Inv-loop μ-loop
+same-length c = search needs
+
+returns : tie.Need-returns Inv-loop μ-loop
+returns c = search (needs, lines-done)
+
+pub put-files-spec : {M : Type 1} → statement M
+put-files-spec =
+    tie.close
+    (tie.spec
+    Inv-loop
+    μ-loop
+    sheet-long-requires
+    loop-holds
+    group-file-requires
+    put-lines-requires
+    add-g
+    loop-less
+    loop-again
+    same-length
+    returns)

@@ -1,0 +1,30 @@
+-- `run_output::by_value::span_of` meets its contract.
+use Rattle.run_output.proofs.by_value.Spans.{rows-within, spans}
+use borrow.Author.Needs.{needs}
+use Rattle.run_output.proofs.by_value.span_of.Statement.{statement}
+use Rattle.run_output.proofs.by_value.span_of.Tie as tie
+
+sheet-long-requires : tie.Need-sheet-long-requires
+sheet-long-requires c κs = search needs
+
+group-place-requires : tie.Need-group-place-requires
+group-place-requires c κs = search (needs, rows-within)
+
+add-group-place : tie.Need-add-group-place
+add-group-place c = search needs
+
+group-place-requires-2 : tie.Need-group-place-requires-2
+group-place-requires-2 c κs = search (needs, rows-within)
+
+returns : tie.Need-returns
+returns c = search (needs, spans)
+
+pub span-of-spec : {M : Type 1} → statement M
+span-of-spec =
+    tie.close
+    (tie.spec
+    sheet-long-requires
+    group-place-requires
+    add-group-place
+    group-place-requires-2
+    returns)

@@ -1,0 +1,24 @@
+-- `run_output::by_value::unresolved_of` meets its contract.
+use Rattle.run_output.proofs.by_value.Spans.{start-fits, end-fits, records-within, numbers-rise, unresolved-made}
+use borrow.Author.Needs.{needs}
+use Rattle.run_output.proofs.by_value.unresolved_of.Statement.{statement}
+use Rattle.run_output.proofs.by_value.unresolved_of.Tie as tie
+
+sheet-long-requires : tie.Need-sheet-long-requires
+sheet-long-requires c κs = search needs
+
+add-low : tie.Need-add-low
+add-low c = search (needs, start-fits)
+
+add-high : tie.Need-add-high
+add-high c = search (needs, end-fits)
+
+part-unresolved-requires : tie.Need-part-unresolved-requires
+part-unresolved-requires c κs = search (needs, records-within, numbers-rise)
+
+returns : tie.Need-returns
+returns c = search (needs, unresolved-made)
+
+pub unresolved-of-spec : {M : Type 1} → statement M
+unresolved-of-spec =
+    tie.close (tie.spec sheet-long-requires add-low add-high part-unresolved-requires returns)

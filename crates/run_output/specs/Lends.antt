@@ -1,0 +1,26 @@
+-- Document 01, "Archive records": the columns of a sheet that writing a group's file is lent.
+use mathlib.Core.Path.{_≡_}
+use mathlib.Core.List.{List}
+use Prim.Native.Nat.{ℕ, _+_, _≤_}
+use lib.ListN.{take, replicate}
+use Rattle.cleaning.specs.Sections.{place}
+use Rattle.run_state.specs.declared.Sheet.{Sheet}
+
+-- tags, unresolved records and roots
+pub record LendsRecords (s : Sheet) (tags children kinds handles rows roots : List ℕ) : Type 0 where
+  pub tags-are : tags ≡ s .rows .tags
+  pub children-are : children ≡ s .unresolved .children
+  pub kinds-are : kinds ≡ s .unresolved .kinds
+  pub handles-are : handles ≡ s .unresolved .handles
+  pub rows-are : rows ≡ s .roots .rows
+  pub roots-are : roots ≡ s .roots .handles
+
+-- the unresolved records of the rows from row a up to row b stand from place p up to place e
+pub record RecordsFrom (s : Sheet) (a b p e : ℕ) : Type 0 where
+  pub from : p ≡ place (s .start + a) (take (s .unresolved .count) (s .unresolved .children))
+  pub to : e ≡ place (s .start + b) (take (s .unresolved .count) (s .unresolved .children))
+
+-- the kinds of unresolved records as wider numbers, and their flags
+pub record Widened (s : Sheet) (wide flags : List ℕ) : Type 0 where
+  pub wide-are : take (s .unresolved .count) wide ≡ take (s .unresolved .count) (s .unresolved .kinds)
+  pub flags-are : flags ≡ replicate 1024 0

@@ -1,0 +1,3 @@
+pub mod PutBy
+pub mod Lends
+pub mod by_value

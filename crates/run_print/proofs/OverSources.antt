@@ -1,0 +1,131 @@
+-- What is printed over what a run holds is the listing by its definition, where the room is that of any listing.
+use mathlib.Core.Path.{_≡_, refl, sym, ap, ap₂, subst, _∙_}
+use mathlib.Core.Bool.{Bool, true, false, not}
+use mathlib.Core.List.{List, [], _∷_, map}
+use mathlib.Core.Option.{Option, none, some, Option·none-ne-some}
+use Prim.Native.Nat.{ℕ, _≤_}
+use native.Mathlib.Omega.{arith}
+use lib.Dec.{ltb}
+use lib.ListN.{length}
+use borrow.Author.Tests.{le-ltb, ltb-false, not-false}
+use Rattle.lists.specs.Lists.{isEmpty, last, Each}
+use Rattle.columns.specs.Limits.{maxNumbers}
+use Rattle.columns.specs.Refusal.{unless, refuse, firstOf}
+use Rattle.columns.specs.declared.refusal.Refusal.{Refusal}
+use Rattle.columns.specs.declared.refusal.Refusal.the-variants.{OverRecords, OverNumbers, GroupOrder, NoSurvivor}
+use Rattle.columns.proofs.FirstBroken.{each-none}
+use Rattle.archive.specs.File.{File}
+use Rattle.archive.specs.Fits.{FileFits}
+use Rattle.archive.specs.Reader.{Parsed, broken, got}
+use Rattle.archive.specs.Parse.{parse}
+use Rattle.cleaning.specs.Source.{sourceOf}
+use Rattle.cleaning.specs.Taking.{overRecords, overNumbers, filesRules, takeRules, takenFrom}
+use Rattle.cleaning.specs.Archive.{Taken, Archive, archiveOf}
+use Rattle.cleaning.specs.Memo.{tables}
+use Rattle.cleaning.specs.Resolving.{entries, groupsSurvive, resolveRules}
+use Rattle.cleaning.specs.Summary.{Summary, tabled}
+use Rattle.cleaning.specs.Writing.{outputs, writeRules, bytesOf, written}
+use Rattle.cleaning.specs.Step.{takes, resolves, taking, resolved, fresh, Outcome, takeMore, resolveBy, resolve, step}
+use Rattle.cleaning.specs.Sheet.{summaryOf}
+use Rattle.cleaning.specs.Held.{heldOf, archiveHeld}
+use Rattle.cleaning.specs.Survivors.{survivorSheet}
+use Rattle.cleaning.specs.Runs.{freshRun, slotted, runStep}
+use Rattle.cleaning.specs.Listing.{refusedLine, listingText, afterwards, writing, writingFrom, cleaning}
+use Rattle.cleaning.proofs.Taken.{Followed, taken-followed}
+use Rattle.cleaning.proofs.Invariant.{Inv}
+use Rattle.cleaning.proofs.Holding.{hold, run-step}
+use Rattle.cleaning.proofs.HeldArchive.{archive-held}
+use Rattle.cleaning.proofs.HeldRows.{rows-held}
+use Rattle.cleaning.proofs.HeldColumns.{tables-length}
+use Rattle.cleaning.proofs.SurvivorSheet.{summary-held}
+use Rattle.cleaning.proofs.Fitting.{Fitting, Limited, fitting-taken, limited-taken}
+use Rattle.cleaning.specs.History.{filesIn}
+use Rattle.run_text.specs.files.Files.{listingRoom}
+use Rattle.run_list.specs.Need.{listingNeed}
+use Rattle.run_list.specs.Listed.{listed}
+use Rattle.run.specs.Listed.{listedIn}
+use Rattle.run_print.specs.Prints.{said, listedText, resolvedText}
+use Rattle.run_print.proofs.Room.{room-enough}
+
+not-refused : (x : Refusal) (b : Bool) → refuse x b ≡ none → b ≡ false
+not-refused x true e = absurd (Option·none-ne-some x (sym e))
+not-refused x false e = refl
+
+-- what a write of a resolved run is made into
+abbrev pub lines : Archive → List File → List ℕ → List ℕ
+lines A fs w = listingText A fs
+
+module _ (room : ℕ) where
+  said-listed : (A : Archive) (S : Summary) → listingNeed A (outputs S) ≤ room → said (listed room A S) ≡ writing refusedLine (lines A (outputs S)) (written S)
+  unfolding listed written unless firstOf
+  said-listed A S h = rw (le-ltb room (listingNeed A (outputs S)) h) (go (writeRules S))
+    where
+      go : (x : Option Refusal) → said (unless (firstOf (x ∷ none ∷ [])) (listingText A (outputs S))) ≡ writing refusedLine (lines A (outputs S)) (unless x (bytesOf S))
+      go none = refl
+      go (some x) = refl
+
+  module _ (r : listingRoom ≤ room) (t : Taken) (f : Followed none (t .sources)) (h : Each Fitting (t .sources)) (l : Limited (t .sources)) where
+    summary-says : summaryOf (survivorSheet (heldOf (t .sources)) (slotted (length ((archiveOf t) .events)) (tables (archiveOf t)))) ≡ tabled (archiveOf t) (tables (archiveOf t))
+    summary-says =
+        let held = heldOf (t .sources) in
+        subst (λ A. summaryOf (survivorSheet held (slotted (length (A .events)) (tables A))) ≡ tabled A (tables A)) (archive-held (t .sources) f)
+        (summary-held held (tables (archiveHeld held)) (rows-held (t .sources) f) (tables-length (archiveHeld held)))
+
+    resolved-says : resolveRules t (archiveOf t) (tables (archiveOf t)) ≡ none
+        → listedText room (hold (resolved t (tables (archiveOf t)))) ≡ writingFrom refusedLine lines (resolved t (tables (archiveOf t)))
+    unfolding listedText listedIn hold resolveRules
+    resolved-says e =
+        let A = archiveOf t in
+        let ts = tables A in
+        let rules = each-none (refuse GroupOrder (isEmpty (t .sources)) ∷ refuse OverNumbers (ltb maxNumbers (entries ts)) ∷ refuse NoSurvivor (not (groupsSurvive A)) ∷ []) e in
+        let some-source = not-refused GroupOrder (isEmpty (t .sources)) (rules .0) in
+        let few = ltb-false maxNumbers (entries ts) (not-refused OverNumbers (ltb maxNumbers (entries ts)) (rules .1 .0)) in
+        let survive = not-false (groupsSurvive A) (not-refused NoSurvivor (not (groupsSurvive A)) (rules .1 .1 .0)) in
+        ap₂ (λ B S. said (listed room B S)) (archive-held (t .sources) f) summary-says
+        ∙ said-listed A (tabled A ts) (omega (arith, room-enough t f h l some-source few survive))
+
+    taken-by : (x : Option Refusal) → resolveRules t (archiveOf t) (tables (archiveOf t)) ≡ x
+        → afterwards refusedLine ((resolveBy t (tables (archiveOf t)) x) .answer) (listedText room (hold ((resolveBy t (tables (archiveOf t)) x) .state)))
+        ≡ afterwards refusedLine ((resolveBy t (tables (archiveOf t)) x) .answer) (writingFrom refusedLine lines ((resolveBy t (tables (archiveOf t)) x) .state))
+    taken-by none e = resolved-says e
+    taken-by (some x) e = refl
+
+    pub taken-says : resolvedText room (hold (taking t))
+        ≡ afterwards refusedLine ((step (taking t) resolves) .answer) (writingFrom refusedLine lines ((step (taking t) resolves) .state))
+    unfolding resolvedText Inv step resolve
+    taken-says =
+        ap (λ o. afterwards refusedLine (o .answer) (listedText room (o .state))) (run-step (taking t) resolves (t .sources) (refl, f))
+        ∙ taken-by (resolveRules t (archiveOf t) (tables (archiveOf t))) refl
+
+  -- ── an archive taken alone ───────────────────────────────────────────────────────────────────
+
+  abbrev Says : Outcome → Type 0
+  Says o = afterwards refusedLine (o .answer) (resolvedText room (hold (o .state)))
+      ≡ afterwards refusedLine (o .answer) (afterwards refusedLine ((step (o .state) resolves) .answer) (writingFrom refusedLine lines ((step (o .state) resolves) .state)))
+
+  abbrev noSource : Taken
+  noSource = record { sources = [] }
+
+  module _ (r : listingRoom ≤ room) where
+    rules-say : (fs : List File) → Each FileFits fs → (x : Option Refusal) → takeRules [] fs ≡ x → Says (takeMore noSource (unless x (map sourceOf fs)))
+    unfolding unless takeRules last
+    rules-say fs h (some x) e = refl
+    rules-say fs h none e =
+        let rules = each-none (refuse OverRecords (overRecords [] fs) ∷ refuse OverNumbers (overNumbers [] fs) ∷ filesRules none fs ∷ []) e in
+        let kept : filesRules none fs ≡ none = rules .1 .1 .0 in
+        let few = not-refused OverRecords (overRecords [] fs) (rules .0) in
+        taken-says r (record { sources = map sourceOf fs }) (taken-followed none fs kept) (fitting-taken none fs kept h) (limited-taken fs kept h few)
+
+    parse-says : (x : Parsed (List File)) → Each FileFits (filesIn x) → Says (takeMore noSource (takenFrom [] x))
+    parse-says broken h = refl
+    parse-says (got fs end) h = rules-say fs h (takeRules [] fs) refl
+
+    step-says : (b : List ℕ) → Each FileFits (filesIn (parse b)) → Says (step fresh (takes b))
+    unfolding step
+    step-says b h = parse-says (parse b) h
+
+    pub bytes-say : (b : List ℕ) → Each FileFits (filesIn (parse b))
+        → afterwards refusedLine ((runStep freshRun (takes b)) .answer) (resolvedText room ((runStep freshRun (takes b)) .state)) ≡ cleaning refusedLine lines b
+    unfolding cleaning Inv hold heldOf
+    bytes-say b h =
+        ap (λ o. afterwards refusedLine (o .answer) (resolvedText room (o .state))) (run-step fresh (takes b) [] (refl, tt)) ∙ step-says b h

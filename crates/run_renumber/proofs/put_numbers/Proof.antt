@@ -1,0 +1,75 @@
+-- `run_renumber::put_numbers` meets its contract. The invariant: the numbers still to be stored start at `start + n`, and the survivors still to be counted come on top of n.
+use mathlib.Core.Path.{_≡_}
+use Prim.Native.Nat.{_≤_, _+_, _-_}
+use lib.ListN.{length, drop}
+use lib.Seq.{sets}
+use borrow.Author.Needs.{needs}
+use Rattle.run_renumber.specs.Numbers.{numbersFrom, survivors}
+use Rattle.run_renumber.proofs.Counted.{numbers-begin, numbers-on, numbers-done, count-on, count-done}
+use Rattle.run_renumber.proofs.put_numbers.Statement.{statement}
+use Rattle.run_renumber.proofs.put_numbers.Tie as tie
+
+abbrev Inv-loop : tie.InvT-loop
+Inv-loop numbers₀ flags start n₀ i₀ numbers n i =
+    (i ≤ length flags) × (n ≤ i) × (length numbers ≡ length numbers₀)
+    × (sets numbers₀ 0 (numbersFrom start flags) ≡ sets numbers i (numbersFrom (start + n) (drop i flags)))
+    × (survivors flags ≡ n + survivors (drop i flags))
+
+abbrev μ-loop : tie.MeasureT-loop
+μ-loop numbers₀ flags start n₀ i₀ numbers n i =
+    length flags - i
+
+loop-holds : tie.Need-loop-holds Inv-loop μ-loop
+loop-holds c = (search needs, search needs, search needs, search numbers-begin, search needs)
+
+add-numbers : tie.Need-add-numbers Inv-loop μ-loop
+add-numbers c = search needs
+
+mul-numbers : tie.Need-mul-numbers Inv-loop μ-loop
+mul-numbers c = search needs
+
+slice-write-numbers : tie.Need-slice-write-numbers Inv-loop μ-loop
+slice-write-numbers c = search needs
+
+shared-slice-read-takes-one : tie.Need-shared-slice-read-takes-one Inv-loop μ-loop
+shared-slice-read-takes-one c = search needs
+
+takes-one-requires : tie.Need-takes-one-requires Inv-loop μ-loop
+takes-one-requires c κs = search needs
+
+add-n : tie.Need-add-n Inv-loop μ-loop
+add-n c = search needs
+
+add-i : tie.Need-add-i Inv-loop μ-loop
+add-i c = search needs
+
+loop-less : tie.Need-loop-less Inv-loop μ-loop
+loop-less c = search needs
+
+loop-again : tie.Need-loop-again Inv-loop μ-loop
+loop-again c = (search needs, search needs, search needs, search numbers-on, search count-on)
+
+same-length : tie.Need-same-length Inv-loop μ-loop
+same-length c = search needs
+
+returns : tie.Need-returns Inv-loop μ-loop
+returns c = (search numbers-done, search count-done)
+
+pub put-numbers-spec : {M : Type 1} → statement M
+put-numbers-spec =
+    tie.close
+    (tie.spec
+    Inv-loop
+    μ-loop
+    loop-holds
+    add-numbers
+    mul-numbers
+    slice-write-numbers
+    shared-slice-read-takes-one
+    takes-one-requires
+    add-n
+    add-i
+    loop-less
+    loop-again
+    same-length
+    returns)

@@ -1,0 +1,69 @@
+-- `run_rules::parts::covers::chains_above` meets its contract.
+use mathlib.Core.Path.{_≡_}
+use mathlib.Core.List.{map}
+use Prim.Native.Nat.{_≤_, _+_, _-_, _*_}
+use lib.ListN.{drop}
+use Rattle.archive.specs.Bytes.{several}
+use Rattle.lists.specs.Order.{rising, risesAbove}
+use Rattle.archive.specs.Parse.{rangeAt}
+use Rattle.run_rules.proofs.parts.CoverTurns.{first-chain, chains-done, chain-level, chain-above}
+use borrow.Author.Needs.{needs}
+use Rattle.run_rules.proofs.parts.covers.chains_above.Statement.{statement}
+use Rattle.run_rules.proofs.parts.covers.chains_above.Tie as tie
+use Rattle.run_rules.proofs.parts.covers.chains_above.Reads as reads
+use Rattle.run_rules.proofs.parts.covers.chains_above.Lts as lts
+use Rattle.archive_bytes.proofs.load_u32.Reads as load-u32-reads
+
+abbrev Inv-loop : tie.InvT-loop
+Inv-loop b q n i₀ p₀ last₀ i p last =
+    (1 ≤ i) × (i ≤ n) × (p ≡ q + i * 12) × (rising (map (λ x. x .chain) (several 12 rangeAt n (drop q b))) ≡ risesAbove last (map (λ x. x .chain) (several 12 rangeAt (n - i) (drop p b))))
+
+abbrev μ-loop : tie.MeasureT-loop
+μ-loop b q n i₀ p₀ last₀ i p last = n - i
+
+add-p : tie.Need-add-p Inv-loop μ-loop
+add-p c = search needs
+
+load-u32-requires : tie.Need-load-u32-requires Inv-loop μ-loop
+load-u32-requires c κs = search needs
+
+loop-holds : tie.Need-loop-holds Inv-loop μ-loop
+loop-holds c = (search needs, search needs, search needs, search first-chain)
+
+load-u32-requires-2 : tie.Need-load-u32-requires-2 Inv-loop μ-loop
+load-u32-requires-2 c κs = search needs
+
+returns : tie.Need-returns Inv-loop μ-loop
+returns c = search (needs, chain-level)
+
+add-i : tie.Need-add-i Inv-loop μ-loop
+add-i c = search needs
+
+add-p-2 : tie.Need-add-p-2 Inv-loop μ-loop
+add-p-2 c = search needs
+
+loop-less : tie.Need-loop-less Inv-loop μ-loop
+loop-less c = search needs
+
+loop-again : tie.Need-loop-again Inv-loop μ-loop
+loop-again c = search (needs, chain-above)
+
+returns-2 : tie.Need-returns-2 Inv-loop μ-loop
+returns-2 c = search (needs, chains-done)
+
+pub chains-above-spec : {M : Type 1} → statement M
+chains-above-spec =
+    tie.close
+    (tie.spec
+    Inv-loop
+    μ-loop
+    add-p
+    load-u32-requires
+    loop-holds
+    load-u32-requires-2
+    returns
+    add-i
+    add-p-2
+    loop-less
+    loop-again
+    returns-2)

@@ -1,0 +1,3 @@
+pub mod files
+pub mod limits
+pub mod parts

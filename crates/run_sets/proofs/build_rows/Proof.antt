@@ -1,0 +1,178 @@
+-- `run_sets::build_rows` meets its contract: each column is lent up to its count.
+use Prim.Native.Nat.{_+_, _-_}
+use native.Mathlib.Omega.{arith}
+use Rattle.run_state.proofs.ColumnTurns.{table-count, form-cut}
+use Rattle.run_sets.proofs.LentColumns.{prefix-count, front-count, prefix-few, records-few, part-few, rows-lent}
+use borrow.Author.Needs.{needs}
+use Rattle.run_sets.proofs.build_rows.Statement.{statement}
+use Rattle.run_sets.proofs.build_rows.Tie as tie
+
+mul-k : tie.Need-mul-k
+mul-k c = search needs
+
+add-k : tie.Need-add-k
+add-k c = search needs
+
+add-b : tie.Need-add-b
+add-b c = search needs
+
+add-q : tie.Need-add-q
+add-q c = search needs
+
+slice-aggregate-build-part : tie.Need-slice-aggregate-build-part
+slice-aggregate-build-part c = search prefix-count
+
+slice-aggregate-build-part-2 : tie.Need-slice-aggregate-build-part-2
+slice-aggregate-build-part-2 c = search table-count
+
+slice-aggregate-build-part-3 : tie.Need-slice-aggregate-build-part-3
+slice-aggregate-build-part-3 c = search prefix-count
+
+mul-build-part : tie.Need-mul-build-part
+mul-build-part c = search needs
+
+sub-build-part : tie.Need-sub-build-part
+sub-build-part c = search needs
+
+part-build-part-start : tie.Need-part-build-part-start
+part-build-part-start c = search needs
+
+part-build-part-end : tie.Need-part-build-part-end
+part-build-part-end c = search needs
+
+mul-build-part-2 : tie.Need-mul-build-part-2
+mul-build-part-2 c = search needs
+
+sub-build-part-2 : tie.Need-sub-build-part-2
+sub-build-part-2 c = search needs
+
+part-build-part-start-2 : tie.Need-part-build-part-start-2
+part-build-part-start-2 c = search needs
+
+part-build-part-end-2 : tie.Need-part-build-part-end-2
+part-build-part-end-2 c = search needs
+
+slice-aggregate-build-part-4 : tie.Need-slice-aggregate-build-part-4
+slice-aggregate-build-part-4 c = search front-count
+
+mul-build-part-3 : tie.Need-mul-build-part-3
+mul-build-part-3 c = search needs
+
+sub-build-part-3 : tie.Need-sub-build-part-3
+sub-build-part-3 c = search needs
+
+part-build-part-start-3 : tie.Need-part-build-part-start-3
+part-build-part-start-3 c = search needs
+
+part-build-part-end-3 : tie.Need-part-build-part-end-3
+part-build-part-end-3 c = search needs
+
+mul-build-part-4 : tie.Need-mul-build-part-4
+mul-build-part-4 c = search needs
+
+sub-build-part-4 : tie.Need-sub-build-part-4
+sub-build-part-4 c = search needs
+
+part-build-part-start-4 : tie.Need-part-build-part-start-4
+part-build-part-start-4 c = search needs
+
+part-build-part-end-4 : tie.Need-part-build-part-end-4
+part-build-part-end-4 c = search needs
+
+build-part-requires : tie.Need-build-part-requires
+build-part-requires c κs =
+    let s = c .before .before .before .before .before .before .before .before .before .before .before .before .before .before .before .before .before .before .before .before .before .before .before .before .before .before .before .before .before .before .before .before in
+    let x = s .args in
+    let columns = s .pre .1 .1 .1 .0 in
+    let slices = s .pre .1 .1 .1 .1 in
+    let records = s .pre .1 .1 .0 in (
+      s .pre .0 .1,
+      (
+        (prefix-few _ 4096 _ (s .pre .1 .0 .0), (form-cut _ _ _ _ (s .pre .1 .0 .0) (columns .targets-long) (s .pre .1 .0 .1 .0), s .pre .1 .0 .1 .1)),
+        (
+          record {
+            children-few = records-few (x .p) (x .m) (x .children .now) (records .few);
+            kinds-few = records-few (x .p) (x .m) (x .kinds .now) (records .few);
+            flags-few = prefix-few (x .m) 1024 (x .flags .now) (records .few);
+            chains-few = part-few (x .a) (x .a + x .n - x .a) (x .chains .now) (columns .chains-long);
+            seqs-few = part-few (x .a) (x .a + x .n - x .a) (x .seqs .now) (columns .seqs-long);
+          },
+          record {
+            forward-offsets = omega (arith, slices .forward-offsets);
+            forward-deltas = omega (arith, slices .forward-deltas);
+            reverse-offsets = omega (arith, slices .reverse-offsets);
+            reverse-deltas = omega (arith, slices .reverse-deltas);
+            inbound-offsets = omega (arith, slices .inbound-offsets);
+            inbound-deltas = omega (arith, slices .inbound-deltas);
+          },
+        ),
+      ),
+    )
+
+same-length : tie.Need-same-length
+same-length c = search needs
+
+same-length-2 : tie.Need-same-length-2
+same-length-2 c = search needs
+
+same-length-3 : tie.Need-same-length-3
+same-length-3 c = search needs
+
+same-length-4 : tie.Need-same-length-4
+same-length-4 c = search needs
+
+same-length-5 : tie.Need-same-length-5
+same-length-5 c = search needs
+
+same-length-6 : tie.Need-same-length-6
+same-length-6 c = search needs
+
+returns : tie.Need-returns
+returns c =
+    let s = c .before .before .before .before .before .before .before .before .before .before .before .before .before .before .before .before .before .before .before .before .before .before .before .before .before .before .before .before .before .before .before .before .before .before .before .before .before .before .before .before .before .before in
+    let x = s .args in
+    let within = s .pre .0 .1 .0 in
+    let few = s .pre .0 .1 .1 .0 in
+    let small = s .pre .1 .0 .0 in
+    let form = s .pre .1 .0 .1 .0 in
+    let targets = s .pre .1 .1 .1 .0 .targets-long in
+    let slices = s .pre .1 .1 .1 .1 in
+    rows-lent (x .bytes .now) (x .size) (x .start) (x .total) (x .offsets .now) (x .targets .now) (x .count) (x .children .now) (x .kinds .now) (x .flags .now) (x .p) (x .m) (x .depth) (x .labelled) (x .chains .now) (x .seqs .now) (x .a) (x .n)
+    _ _ _ _ _ _ _ _ _ _ _ _ _ within few small form targets slices (c .before .before .before .before .before .before .before .before .before .build-part .ensures)
+
+pub build-rows-spec : {M : Type 1} → statement M
+build-rows-spec =
+    tie.close
+    (tie.spec
+    mul-k
+    add-k
+    add-b
+    add-q
+    slice-aggregate-build-part
+    slice-aggregate-build-part-2
+    slice-aggregate-build-part-3
+    mul-build-part
+    sub-build-part
+    part-build-part-start
+    part-build-part-end
+    mul-build-part-2
+    sub-build-part-2
+    part-build-part-start-2
+    part-build-part-end-2
+    slice-aggregate-build-part-4
+    mul-build-part-3
+    sub-build-part-3
+    part-build-part-start-3
+    part-build-part-end-3
+    mul-build-part-4
+    sub-build-part-4
+    part-build-part-start-4
+    part-build-part-end-4
+    build-part-requires
+    same-length
+    same-length-2
+    same-length-3
+    same-length-4
+    same-length-5
+    same-length-6
+    returns)

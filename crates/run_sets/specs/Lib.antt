@@ -1,0 +1,3 @@
+pub mod ByVerdict
+pub mod ColumnGraphs
+pub mod section

@@ -1,0 +1,54 @@
+-- `run_state::order::groups_level` meets its contract.
+use mathlib.Core.Path.{_≡_}
+use Prim.Native.Nat.{_-_, _≤_}
+use lib.ListN.{take}
+use lib.Seq.{slice}
+use Rattle.lists.specs.Order.{levelAbove, notFalling}
+use Rattle.run_state.proofs.order.Turns.{level-done, level-falls, level-on, level-start}
+use borrow.Author.Needs.{needs}
+use Rattle.run_state.proofs.order.groups_level.Statement.{statement}
+use Rattle.run_state.proofs.order.groups_level.Tie as tie
+use Rattle.run_state.proofs.order.groups_level.Reads as reads
+use Rattle.run_state.proofs.order.groups_level.Lts as lts
+
+abbrev Inv-loop : tie.InvT-loop
+Inv-loop groups n low₀ i₀ low i =
+    (i ≤ n) × (notFalling (take n groups) ≡ levelAbove low (slice i n groups))
+
+abbrev μ-loop : tie.MeasureT-loop
+μ-loop groups n low₀ i₀ low i = n - i
+
+loop-holds : tie.Need-loop-holds Inv-loop μ-loop
+loop-holds c = search (needs, level-start)
+
+shared-slice-read-g : tie.Need-shared-slice-read-g Inv-loop μ-loop
+shared-slice-read-g c = search needs
+
+returns : tie.Need-returns Inv-loop μ-loop
+returns c = search (needs, level-falls)
+
+add-i : tie.Need-add-i Inv-loop μ-loop
+add-i c = search needs
+
+loop-less : tie.Need-loop-less Inv-loop μ-loop
+loop-less c = search needs
+
+loop-again : tie.Need-loop-again Inv-loop μ-loop
+loop-again c = search (needs, level-on)
+
+returns-2 : tie.Need-returns-2 Inv-loop μ-loop
+returns-2 c = search (needs, level-done)
+
+pub groups-level-spec : {M : Type 1} → statement M
+groups-level-spec =
+    tie.close
+    (tie.spec
+    Inv-loop
+    μ-loop
+    loop-holds
+    shared-slice-read-g
+    returns
+    add-i
+    loop-less
+    loop-again
+    returns-2)

@@ -1,0 +1,58 @@
+-- `run_state::order::is_level` meets its contract.
+use mathlib.Core.Path.{_≡_}
+use Prim.Native.Nat.{_-_, _≤_}
+use lib.ListN.{take}
+use lib.Seq.{slice}
+use Rattle.lists.specs.Order.{levelAbove, notFalling}
+use Rattle.run_state.proofs.order.Turns.{level-done, level-falls, level-on, level-start}
+use borrow.Author.Needs.{needs}
+use Rattle.run_state.proofs.order.is_level.Statement.{statement}
+use Rattle.run_state.proofs.order.is_level.Tie as tie
+use Rattle.run_state.proofs.order.is_level.Reads as reads
+use Rattle.run_state.proofs.order.is_level.Lts as lts
+
+abbrev Inv-loop : tie.InvT-loop
+Inv-loop column n low₀ i₀ low i =
+    (i ≤ n) × (notFalling (take n column) ≡ levelAbove low (slice i n column))
+
+abbrev μ-loop : tie.MeasureT-loop
+μ-loop column n low₀ i₀ low i = n - i
+
+loop-holds : tie.Need-loop-holds Inv-loop μ-loop
+loop-holds c = search (needs, level-start)
+
+mul-x : tie.Need-mul-x Inv-loop μ-loop
+mul-x c = search needs
+
+shared-slice-read-x : tie.Need-shared-slice-read-x Inv-loop μ-loop
+shared-slice-read-x c = search needs
+
+returns : tie.Need-returns Inv-loop μ-loop
+returns c = search (needs, level-falls)
+
+add-i : tie.Need-add-i Inv-loop μ-loop
+add-i c = search needs
+
+loop-less : tie.Need-loop-less Inv-loop μ-loop
+loop-less c = search needs
+
+loop-again : tie.Need-loop-again Inv-loop μ-loop
+loop-again c = search (needs, level-on)
+
+returns-2 : tie.Need-returns-2 Inv-loop μ-loop
+returns-2 c = search (needs, level-done)
+
+pub is-level-spec : {M : Type 1} → statement M
+is-level-spec =
+    tie.close
+    (tie.spec
+    Inv-loop
+    μ-loop
+    loop-holds
+    mul-x
+    shared-slice-read-x
+    returns
+    add-i
+    loop-less
+    loop-again
+    returns-2)

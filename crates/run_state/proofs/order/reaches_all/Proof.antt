@@ -1,0 +1,60 @@
+-- `run_state::order::reaches_all` meets its contract.
+use mathlib.Core.Path.{_≡_}
+use mathlib.Core.Logic.{⊎-elim}
+use Prim.Native.Nat.{_-_, _≤_}
+use lib.ListN.{take}
+use lib.Seq.{slice}
+use Rattle.cleaning.specs.Sections.{reaches}
+use Rattle.run_state.proofs.order.Turns.{reach-done, reach-next, reach-on}
+use borrow.Author.Needs.{needs}
+use Rattle.run_state.proofs.order.reaches_all.Statement.{statement}
+use Rattle.run_state.proofs.order.reaches_all.Tie as tie
+use Rattle.run_state.proofs.order.reaches_all.Reads as reads
+use Rattle.run_state.proofs.order.reaches_all.Lts as lts
+use Rattle.run_state.proofs.order.number.Reads as number-reads
+
+abbrev Inv-loop : tie.InvT-loop
+Inv-loop groups n count seen₀ i₀ seen i =
+    (seen ≤ i) × (i ≤ n) × (reaches count 0 (take n groups) ≡ reaches count seen (slice i n groups))
+
+abbrev μ-loop : tie.MeasureT-loop
+μ-loop groups n count seen₀ i₀ seen i = n - i
+
+loop-holds : tie.Need-loop-holds Inv-loop μ-loop
+loop-holds c = search needs
+
+shared-slice-read-number : tie.Need-shared-slice-read-number Inv-loop μ-loop
+shared-slice-read-number c = search needs
+
+number-requires : tie.Need-number-requires Inv-loop μ-loop
+number-requires c κs = search needs
+
+add-seen : tie.Need-add-seen Inv-loop μ-loop
+add-seen c = search needs
+
+add-i : tie.Need-add-i Inv-loop μ-loop
+add-i c = search needs
+
+loop-less : tie.Need-loop-less Inv-loop μ-loop
+loop-less c = search needs
+
+loop-again : tie.Need-loop-again Inv-loop μ-loop
+loop-again c = ⊎-elim (λ w. search (needs, reach-next)) (λ w. search (needs, reach-on)) (c .if1 .came)
+
+returns : tie.Need-returns Inv-loop μ-loop
+returns c = search (needs, reach-done)
+
+pub reaches-all-spec : {M : Type 1} → statement M
+reaches-all-spec =
+    tie.close
+    (tie.spec
+    Inv-loop
+    μ-loop
+    loop-holds
+    shared-slice-read-number
+    number-requires
+    add-seen
+    add-i
+    loop-less
+    loop-again
+    returns)

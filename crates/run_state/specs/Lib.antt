@@ -1,0 +1,5 @@
+pub mod View
+pub mod Valid
+pub mod Blank
+pub mod order
+pub mod output

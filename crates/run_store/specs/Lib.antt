@@ -1,0 +1,11 @@
+pub mod file
+pub mod fits
+pub mod grow
+pub mod joined
+pub mod links
+pub mod names
+pub mod parts
+pub mod records
+pub mod rows
+pub mod sets
+pub mod turns

@@ -1,0 +1,28 @@
+-- `run_take::hold_rules` meets its contract.
+use Rattle.run_take.proofs.Rulings.{within-both, over-limits, then-files}
+use borrow.Author.Needs.{needs}
+use Rattle.run_take.proofs.hold_rules.Statement.{statement}
+use Rattle.run_take.proofs.hold_rules.Tie as tie
+
+limits-requires : tie.Need-limits-requires
+limits-requires c κs = search needs
+
+enum-known-r : tie.Need-enum-known-r
+enum-known-r c = search needs
+
+enum-told : tie.Need-enum-told
+enum-told c = search needs
+
+known-rules-requires : tie.Need-known-rules-requires
+known-rules-requires c κs = (search needs, search within-both)
+
+returns : tie.Need-returns
+returns c = search over-limits
+
+returns-2 : tie.Need-returns-2
+returns-2 c = search then-files
+
+pub hold-rules-spec : {M : Type 1} → statement M
+hold-rules-spec =
+    tie.close
+    (tie.spec limits-requires enum-known-r enum-told known-rules-requires returns returns-2)

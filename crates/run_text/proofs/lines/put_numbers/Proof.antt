@@ -1,0 +1,60 @@
+-- `run_text::lines::put_numbers` meets its contract.
+use mathlib.Core.Path.{_≡_}
+use mathlib.Core.List.{map}
+use Prim.Native.Nat.{_+_, _-_, _*_, _≤_}
+use lib.ListN.{length, drop}
+use Rattle.cleaning.specs.Listing.{decimal}
+use Rattle.run_text.specs.lines.Parts.{spaced}
+use Rattle.run_text.proofs.lines.Columns.{Going, begin, turn, ended}
+use borrow.Author.Needs.{needs}
+use Rattle.run_text.proofs.lines.put_numbers.Statement.{statement}
+use Rattle.run_text.proofs.lines.put_numbers.Tie as tie
+
+abbrev Inv-loop : tie.InvT-loop
+Inv-loop out₀ at xs i₀ p₀ out i p = (i ≤ length xs) × (p ≤ at + 21 * i) × (length out ≡ length out₀) × Going (spaced (map decimal xs)) out₀ at out p (spaced (map decimal (drop i xs)))
+
+abbrev μ-loop : tie.MeasureT-loop
+μ-loop out₀ at xs i₀ p₀ out i p = length xs - i
+
+loop-holds : tie.Need-loop-holds Inv-loop μ-loop
+loop-holds c = search (needs, begin)
+
+mul-put-number : tie.Need-mul-put-number Inv-loop μ-loop
+mul-put-number c = search needs
+
+shared-slice-read-put-number : tie.Need-shared-slice-read-put-number Inv-loop μ-loop
+shared-slice-read-put-number c = search needs
+
+put-number-requires : tie.Need-put-number-requires Inv-loop μ-loop
+put-number-requires c κs = search needs
+
+add-i : tie.Need-add-i Inv-loop μ-loop
+add-i c = search needs
+
+loop-less : tie.Need-loop-less Inv-loop μ-loop
+loop-less c = search needs
+
+loop-again : tie.Need-loop-again Inv-loop μ-loop
+loop-again c = search (needs, turn)
+
+same-length : tie.Need-same-length Inv-loop μ-loop
+same-length c = search needs
+
+returns : tie.Need-returns Inv-loop μ-loop
+returns c = search (needs, ended)
+
+pub put-numbers-spec : {M : Type 1} → statement M
+put-numbers-spec =
+    tie.close
+    (tie.spec
+    Inv-loop
+    μ-loop
+    loop-holds
+    mul-put-number
+    shared-slice-read-put-number
+    put-number-requires
+    add-i
+    loop-less
+    loop-again
+    same-length
+    returns)

@@ -1,0 +1,3 @@
+pub mod files
+pub mod lines
+pub mod numbers

@@ -1,0 +1,73 @@
+-- Document 01, the worked run: the lines of a file, said of its parts, and the bytes that they take at most.
+use mathlib.Core.List.{List, _++_}
+use Prim.Native.Nat.{ℕ, _+_, _*_, _≤_}
+use lib.IntN.{ℤ}
+use lib.ListN.{length}
+use Rattle.lists.specs.Lists.{sum, Each}
+use Rattle.lists.specs.Text.{text}
+use Rattle.columns.specs.Limits.{maxRecords, maxNumbers, maxGroups}
+use Rattle.columns.specs.EdgeSet.{EdgeSet}
+use Rattle.columns.specs.Building.{Built}
+use Rattle.archive.specs.File.{File}
+use Rattle.archive.specs.Fits.{FileFits}
+use Rattle.cleaning.specs.Listing.{setLines}
+use Rattle.run_state.specs.declared.output.Sets.{Sets}
+use Rattle.run_text.specs.lines.Parts.{headText}
+
+-- ── the text ─────────────────────────────────────────────────────────────────────────────────
+
+-- two columns as a set; its lines do not say its count
+abbrev pub columnsOf : List ℕ → List ℤ → EdgeSet
+columnsOf offsets deltas = record { count = length deltas; offsets = offsets; deltas = deltas }
+
+unfoldable pub setsText : Built → List ℕ
+setsText s = setLines (text "forward") (s .forward) ++ (setLines (text "reverse") (s .reverse) ++ setLines (text "inbound") (s .inbound))
+
+unfoldable pub fileText : ℕ → ℕ → ℕ → Built → List ℕ
+fileText group first rows s = headText group first rows ++ setsText s
+
+-- ── its size ─────────────────────────────────────────────────────────────────────────────────
+
+-- a set of n offsets and m deltas: a number of 64 bits has at most 20 characters, and a space before it
+abbrev pub setSize : ℕ → ℕ → ℕ → ℕ
+setSize name n m = 17 + 2 * name + 21 * (n + m)
+
+-- the three sets of a file, each by a name of 7 letters
+abbrev pub setsSize : ℕ → ℕ → ℕ
+setsSize rows deltas = 156 + 126 * rows + 21 * deltas
+
+abbrev pub fileSize : ℕ → ℕ → ℕ
+fileSize rows deltas = 224 + 126 * rows + 21 * deltas
+
+-- the deltas of a file's three sets
+abbrev pub deltasOf : File → ℕ
+deltasOf f = length (f .forward .deltas) + (length (f .reverse .deltas) + length (f .inbound .deltas))
+
+-- all output files of a run
+abbrev pub filesRoom : ℕ
+filesRoom = 224 * maxGroups + 126 * maxRecords + 21 * (3 * maxNumbers)
+
+-- and with them a line for each event, and the last one: 437,792 bytes
+abbrev pub listingRoom : ℕ
+listingRoom = 46 * maxRecords + (filesRoom + 32)
+
+-- files within the limits of a run, whose numbers fit
+pub record Few (fs : List File) : Type 0 where
+  pub fit : Each (λ f. FileFits f) fs
+  pub groups : length fs ≤ maxGroups
+  pub rows : sum (λ f. length (f .rows)) fs ≤ maxRecords
+  pub forward : sum (λ f. length (f .forward .deltas)) fs ≤ maxNumbers
+  pub reverse : sum (λ f. length (f .reverse .deltas)) fs ≤ maxNumbers
+  pub inbound : sum (λ f. length (f .inbound .deltas)) fs ≤ maxNumbers
+
+-- ── sets by value ────────────────────────────────────────────────────────────────────────────
+
+abbrev pub entries : Sets → ℕ
+entries s = s .forward .count + (s .reverse .count + s .inbound .count)
+
+-- no count is past its column
+pub record Within (rows : ℕ) (s : Sets) : Type 0 where
+  pub few : rows ≤ maxRecords
+  pub forward : s .forward .count ≤ maxNumbers
+  pub reverse : s .reverse .count ≤ maxNumbers
+  pub inbound : s .inbound .count ≤ maxNumbers
