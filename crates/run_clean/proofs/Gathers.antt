@@ -25,9 +25,10 @@ use Rattle.run_state.specs.Valid.{edgesOk, below, sheetOk, countsOk}
 use Rattle.run_compact.specs.Columns.{gone}
 use Rattle.run_state.specs.order.Ordered.{filled}
 use Rattle.run_state.specs.order.Long.{LongLinks, LongSheet}
-use Rattle.run_resolve.specs.sheet.Kept.{rowsOf, RowsKept}
+use Rattle.run_state.specs.ByColumns.{rowsOf, edgesOf}
+use Rattle.run_resolve.specs.sheet.Kept.{RowsKept}
 use Rattle.run_resolve.proofs.sheet.Asking.{few-held, edges-held, flags-held}
-use Rattle.run_resolve.specs.new_lists.Renewal.{Renewal, edgesOf, renewedOf}
+use Rattle.run_resolve.specs.new_lists.Renewal.{Renewal, renewedOf}
 use Rattle.run_resolve.specs.survivors.Survive.{SheetKept}
 use Rattle.run_resolve.proofs.survivors.SheetParts.{part-unresolved, part-roots, part-links, part-groups, flags-few, flags-end, children-here, roots-here, links-level}
 use Rattle.run_resolve.specs.Outcome.{flagsIn, ListsRenewed, SurvivorsIn, ResolvedBy}

@@ -27,9 +27,8 @@ ghost use Rattle.run_state.specs.View.{listed, unresolvedAt, rootAt, linkAt, sl
 ghost use Rattle.run_state.specs.Valid.{edgesOk, below};
 ghost use Rattle.run_compact.specs.Columns.{gone};
 ghost use Rattle.run_state.specs.order.Long.{LongLinks};
-ghost use Rattle.run_resolve.specs.sheet.Kept.{rowsOf, unresolvedOf, rootsOf};
+ghost use Rattle.run_state.specs.ByColumns.{rowsOf, unresolvedOf, rootsOf, linksOf};
 ghost use Rattle.run_resolve.specs.new_lists.Renewal.{Renewal, renewedOf};
-ghost use Rattle.run_resolve.specs.links.Sorted.{linksOf};
 ghost use Rattle.run_store.specs.turns.Parts.{stored};
 ghost use Rattle.run_clean.specs.Survived.{Alone};
 

@@ -2,11 +2,13 @@
 use mathlib.Core.Path.{_≡_}
 use mathlib.Core.List.{List}
 use Prim.Native.Nat.{ℕ, _+_, _≤_}
-use lib.ListN.{take, replicate}
+use lib.ListN.{length, take, replicate}
+use Rattle.columns.specs.Limits.{maxRecords}
 use Rattle.cleaning.specs.Sections.{place}
 use Rattle.run_state.specs.declared.Sheet.{Sheet}
+use Rattle.run_sets.specs.ColumnGraphs.{Lends}
 
--- tags, unresolved records and roots
+-- of its records: tags, unresolved references and roots
 pub record LendsRecords (s : Sheet) (tags children kinds handles rows roots : List ℕ) : Type 0 where
   pub tags-are : tags ≡ s .rows .tags
   pub children-are : children ≡ s .unresolved .children
@@ -24,3 +26,11 @@ pub record RecordsFrom (s : Sheet) (a b p e : ℕ) : Type 0 where
 pub record Widened (s : Sheet) (wide flags : List ℕ) : Type 0 where
   pub wide-are : take (s .unresolved .count) wide ≡ take (s .unresolved .count) (s .unresolved .kinds)
   pub flags-are : flags ≡ replicate 1024 0
+
+-- all columns that are lent for a group: those that building is given, the rows' groups, and those of the records
+pub record LendsColumns (s : Sheet) (name numbered tags chains seqs offsets targets children kinds handles wide flags rows roots : List ℕ) : Type 0 where
+  pub groups-are : numbered ≡ s .rows .groups
+  pub graph : Lends s name (s .subject .length) (s .start) (s .rows .count) offsets targets (s .edges .count) chains seqs (s .groups)
+  pub records : LendsRecords s tags children kinds handles rows roots
+  pub widened : Widened s wide flags
+  pub wide-long : length wide ≡ maxRecords

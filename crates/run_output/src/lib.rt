@@ -18,7 +18,6 @@ ghost use mathlib.Core.Path.{_≡_};
 ghost use mathlib.Core.Bool.{true};
 ghost use mathlib.Core.List.{map};
 ghost use Prim.Native.Nat.{suc, _+_, _-_, _≤_, _<_};
-ghost use lib.ListN.{length};
 ghost use Rattle.lists.specs.Lists.{part};
 ghost use Rattle.columns.specs.Limits.{end64};
 ghost use Rattle.columns.specs.Reading.{labelsOf};
@@ -31,9 +30,9 @@ ghost use Rattle.run_state.specs.order.Long.{LongSheet};
 ghost use Rattle.run_state.specs.output.View.{builtIn, coverIn};
 ghost use Rattle.run_state.specs.output.Lent.{setsOf};
 ghost use Rattle.run_file.specs.Stored.{Stored};
-ghost use Rattle.run_sets.specs.ColumnGraphs.{Lends, LongSlices};
+ghost use Rattle.run_sets.specs.ColumnGraphs.{LongSlices};
 ghost use Rattle.run_output.specs.by_value.Made.{SpanOf, FewEdges};
-ghost use Rattle.run_output.specs.Lends.{LendsRecords, RecordsFrom, Widened};
+ghost use Rattle.run_output.specs.Lends.{LendsRecords, RecordsFrom, LendsColumns};
 ghost use Rattle.run_output.specs.PutBy.{PutBy};
 
 // The broken rule, if one is, and else the bytes of the file.
@@ -193,10 +192,8 @@ pub fn put_group<'a>(
     w: &mut [u64; 4096],
 ) -> Put
     requires { ⌜ (sheetOk s ≡ true) × ((ordered s ≡ true) × (g < s .groups .count)) ⌝ }
-    requires { ⌜ (LongSheet s) × ((now numbered ≡ s .rows .groups) × (at + maxFileSize < end64)) ⌝ }
-    requires { ⌜ Lends s (now name) (s .subject .length) (s .start) (s .rows .count) (now offsets) (now targets) (s .edges .count) (now chains) (now seqs) (s .groups) ⌝ }
-    requires { ⌜ LendsRecords s (now tags) (now children) (now kinds) (now handles) (now rows) (now roots) ⌝ }
-    requires { ⌜ (Widened s (now wide) (now flags)) × (length (now wide) ≡ 1024) ⌝ }
+    requires { ⌜ (LongSheet s) × (at + maxFileSize < end64) ⌝ }
+    requires { ⌜ LendsColumns s (now name) (now numbered) (now tags) (now chains) (now seqs) (now offsets) (now targets) (now children) (now kinds) (now handles) (now wide) (now flags) (now rows) (now roots) ⌝ }
     requires { ⌜ LongSlices (now fo) (now fd) (now ro) (now rd) (now io) (now id) ⌝ }
     ensures { λ r. ⌜ PutBy (sheetIn s) g at (now (out .entry)) (now (out .exit)) r ⌝ }
 {

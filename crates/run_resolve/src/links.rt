@@ -16,7 +16,8 @@ ghost use Rattle.cover.specs.Places.{rowAt};
 ghost use Rattle.cleaning.specs.Survivors.{sortGroups};
 ghost use Rattle.cleaning.proofs.GroupLinks.{inGroup};
 ghost use Rattle.run_state.specs.View.{listed, linkAt};
-ghost use Rattle.run_resolve.specs.links.Sorted.{linksOf, Appended, SortedBehind};
+ghost use Rattle.run_state.specs.ByColumns.{linksOf};
+ghost use Rattle.run_resolve.specs.links.Sorted.{Appended, SortedBehind};
 
 fn byte(g: usize) -> u8
     requires { ⌜ g < 256 ⌝ }

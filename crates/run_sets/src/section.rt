@@ -16,9 +16,9 @@ ghost use Rattle.columns.specs.EdgeSet.{offsetsForm, cut};
 ghost use Rattle.columns.specs.Building.{build};
 ghost use Rattle.columns_rules.specs.records.Recorded.{depthOf, labelsGiven};
 ghost use Rattle.columns_encode.specs.Encoded.{Rooms};
-ghost use Rattle.columns_build.specs.Lent.{graphOf, slicesOf};
+ghost use Rattle.columns_build.specs.Lent.{graphOf, slicesOf, Answers};
 ghost use Rattle.run_group.specs.sections.Laid.{edgesBefore};
-ghost use Rattle.run_sets.specs.section.Parted.{partGraph, Few, judged, Answers};
+ghost use Rattle.run_sets.specs.section.Parted.{partGraph, Few, judged};
 
 // Builds a file of n rows from parts of columns: the first 2 * n + 1 offsets, targets[lo..hi], the first m inbound edges.
 // offs, list and w are work space.

@@ -1,5 +1,6 @@
 pub mod View
 pub mod Valid
 pub mod Blank
+pub mod ByColumns
 pub mod order
 pub mod output

@@ -5,7 +5,6 @@ pub mod joined
 pub mod links
 pub mod names
 pub mod parts
-pub mod records
 pub mod rows
 pub mod sets
 pub mod turns

@@ -22,7 +22,8 @@ ghost use Rattle.archive_read.specs.Layout.{partIn, tailIn, HoldsCover, HoldsTa
 ghost use Rattle.run_store.specs.joined.Joined.{linksMore};
 ghost use Rattle.run_store.specs.file.Fits.{SumsIn};
 ghost use Rattle.run_store.specs.turns.Parts.{stored, Accepted};
-ghost use Rattle.run_store.specs.links.Columns.{linksOf, EndsMore};
+ghost use Rattle.run_state.specs.ByColumns.{linksOf};
+ghost use Rattle.run_store.specs.links.Columns.{EndsMore};
 
 // The ends of n links, after those of c others, by four columns that start at `at`.
 fn put_ends(

@@ -20,7 +20,7 @@ ghost use Rattle.archive_read.specs.Layout.{partIn, Holds};
 ghost use Rattle.run_store.specs.grow.Column.{Small};
 ghost use Rattle.run_store.specs.parts.Grown.{unresolvedWith, rootsWith};
 ghost use Rattle.run_store.specs.turns.Parts.{stored, Accepted};
-ghost use Rattle.run_store.specs.records.Columns.{unresolvedOf, rootsOf};
+ghost use Rattle.run_state.specs.ByColumns.{unresolvedOf, rootsOf};
 
 // n unresolved references, after c others.
 fn put_unresolved(

@@ -21,7 +21,8 @@ ghost use Rattle.archive.specs.Parse.{rowAt};
 ghost use Rattle.archive_read.specs.Layout.{partIn, tailIn, fileIn, Holds, HoldsCover, HoldsTail, HoldsFile};
 ghost use Rattle.run_store.specs.grow.Column.{bit};
 ghost use Rattle.run_store.specs.turns.Parts.{stored, Accepted};
-ghost use Rattle.run_store.specs.rows.Rows.{rowsOf, rowsMore, chainsMore, seqsMore};
+ghost use Rattle.run_state.specs.ByColumns.{rowsOf};
+ghost use Rattle.run_store.specs.rows.Rows.{rowsMore, chainsMore, seqsMore};
 
 // The labels of n rows from a place on.
 fn put_labels(chains: &mut [u32; 1024], seqs: &mut [u32; 1024], at: usize, n: usize, bytes: &[u8])

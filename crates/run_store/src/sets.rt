@@ -27,7 +27,8 @@ ghost use Rattle.archive_read.specs.Layout.{partIn, Holds};
 ghost use Rattle.run_store.specs.parts.Grown.{setAt, edgesWith};
 ghost use Rattle.run_store.specs.file.Fits.{SetRoom};
 ghost use Rattle.run_store.specs.turns.Parts.{partsOf, stored, Accepted};
-ghost use Rattle.run_store.specs.sets.Sides.{placeOf, sideOf, listsOf};
+ghost use Rattle.run_state.specs.ByColumns.{edgesOf};
+ghost use Rattle.run_store.specs.sets.Sides.{placeOf, sideOf};
 
 // One of the three sets of a file.
 pub enum Side {
@@ -146,7 +147,7 @@ fn add_set(
 )
     requires { ⌜ Holds (now bytes) (f .sets) (setEnd (f .head .rows) (s .at) (s .count)) ⌝ }
     requires { ⌜ SetRoom c n (now bytes) f (s .at) (s .count) ⌝ }
-    ensures { λ _. ⌜ listsOf (c + s .count) (now (starts .exit)) (now (targets .exit)) ≡ edgesWith (listsOf c (now (starts .entry)) (now (targets .entry))) n (f .head .first) (setAt (partIn (now (bytes .entry)) (f .sets)) (f .head .rows) (s .at) (s .count)) ⌝ }
+    ensures { λ _. ⌜ edgesOf (c + s .count) (now (starts .exit)) (now (targets .exit)) ≡ edgesWith (edgesOf c (now (starts .entry)) (now (targets .entry))) n (f .head .first) (setAt (partIn (now (bytes .entry)) (f .sets)) (f .head .rows) (s .at) (s .count)) ⌝ }
 {
     let d = f.head;
     let rows = d.rows as usize;
@@ -168,8 +169,8 @@ pub fn grow_set(
     deltas: &mut [i64; 4096],
     bytes: &[u8],
 ) -> usize
-    requires { ⌜ Accepted h (now bytes) × ((listsOf count (now starts) (now targets) ≡ sideOf side (partsOf h)) × (rows ≡ h .sheet .rows .count)) ⌝ }
-    ensures { λ r. ⌜ listsOf r (now (starts .exit)) (now (targets .exit)) ≡ sideOf side (stored h (now (bytes .entry))) ⌝ }
+    requires { ⌜ Accepted h (now bytes) × ((edgesOf count (now starts) (now targets) ≡ sideOf side (partsOf h)) × (rows ≡ h .sheet .rows .count)) ⌝ }
+    ensures { λ r. ⌜ edgesOf r (now (starts .exit)) (now (targets .exit)) ≡ sideOf side (stored h (now (bytes .entry))) ⌝ }
 {
     let mut c = count;
     let mut n = rows;

@@ -14,10 +14,11 @@ use run_state::Sheet;
 use run_state::Subject;
 use run_state::order::long::held_long;
 use run_state::order::long::sheet_long;
+use run_state::order::long::subject_long;
 use run_store::store;
 ghost use mathlib.Core.Path.{_≡_};
 ghost use mathlib.Core.Bool.{true};
-ghost use lib.ListN.{length, take};
+ghost use lib.ListN.{take};
 ghost use Rattle.columns_rules.specs.Ruled.{ruling};
 ghost use Rattle.archive.specs.Parse.{parse};
 ghost use Rattle.archive_read.specs.Sums.{totalsOf};
@@ -88,10 +89,6 @@ pub fn known_of(h: Held) -> Known
     }
 }
 
-fn subject_long(s: Subject)
-    ensures { λ _. ⌜ length (s .bytes) ≡ 255 ⌝ }
-{}
-
 // The rules of an archive's files, the first of which looks back at the rows that are held.
 fn known_rules(h: Held, k: Known, bytes: &[u8]) -> Ruling
     requires { ⌜ (KnownOf h k) × Within (totalsOf (parse (now bytes))) ⌝ }
@@ -140,20 +137,13 @@ pub fn rules_by(h: Held, k: Known, bytes: &[u8]) -> Ruling
     hold_rules(h, k, bytes, t)
 }
 
-// The rules of an archive, in order.
-fn archive_rules(h: Held, bytes: &[u8]) -> Ruling
-    requires { ⌜ heldOk h ≡ true ⌝ }
-    ensures { λ r. ⌜ r ≡ ruling (archiveRules (heldIn h) (parse (now (bytes .entry)))) ⌝ }
-{
-    rules_by(h, known_of(h), bytes)
-}
-
 // What a run holds with an archive more; a refused archive leaves it as it was.
 pub fn take(h: Held, bytes: &[u8]) -> Taken
     requires { ⌜ (heldOk h ≡ true) × (ordered (h .sheet) ≡ true) ⌝ }
     ensures { λ r. ⌜ TookBy (holdMore (heldIn h) (parse (now (bytes .entry)))) h r ⌝ }
 {
-    let r = archive_rules(h, bytes);
+    let k = known_of(h);
+    let r = rules_by(h, k, bytes);
     match r {
         Ruling::Broken(x) => Taken {
             held: h,

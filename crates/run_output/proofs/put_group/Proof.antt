@@ -15,7 +15,7 @@ byte-place-of-requires c κs =
     let k = s .pre .0 .0 in
     let o = s .pre .0 .1 .0 in
     let l = s .pre .1 .0 .0 in
-    rows-count (x .s) l k (s .pre .1 .0 .1 .0)
+    rows-count (x .s) l k (s .pre .1 .1 .0 .groups-are)
 
 add-byte-place-of : tie.Need-add-byte-place-of
 add-byte-place-of c =
@@ -34,7 +34,7 @@ byte-place-of-requires-2 c κs =
     let k = s .pre .0 .0 in
     let o = s .pre .0 .1 .0 in
     let l = s .pre .1 .0 .0 in
-    rows-count (x .s) l k (s .pre .1 .0 .1 .0)
+    rows-count (x .s) l k (s .pre .1 .1 .0 .groups-are)
 
 add-place-of : tie.Need-add-place-of
 add-place-of c =
@@ -43,8 +43,8 @@ add-place-of c =
     let k = s .pre .0 .0 in
     let o = s .pre .0 .1 .0 in
     let l = s .pre .1 .0 .0 in
-    let span = spans-lent (x .s) (x .g) (s .pre .1 .0 .1 .0) (c .before .before .byte-place-of .ensures) (c .before .byte-place-of2 .ensures) in
-    let w = s .pre .1 .1 .1 .0 in
+    let span = spans-lent (x .s) (x .g) (s .pre .1 .1 .0 .groups-are) (c .before .before .byte-place-of .ensures) (c .before .byte-place-of2 .ensures) in
+    let w = s .pre .1 .1 .0 .records in
     start-fits (x .s) (x .g) _ _ span l k o
 
 place-of-requires : tie.Need-place-of-requires
@@ -54,8 +54,8 @@ place-of-requires c κs =
     let k = s .pre .0 .0 in
     let o = s .pre .0 .1 .0 in
     let l = s .pre .1 .0 .0 in
-    let span = spans-lent (x .s) (x .g) (s .pre .1 .0 .1 .0) (c .before .before .byte-place-of .ensures) (c .before .byte-place-of2 .ensures) in
-    let w = s .pre .1 .1 .1 .0 in
+    let span = spans-lent (x .s) (x .g) (s .pre .1 .1 .0 .groups-are) (c .before .before .byte-place-of .ensures) (c .before .byte-place-of2 .ensures) in
+    let w = s .pre .1 .1 .0 .records in
     children-count (x .s) (x .g) _ _ span l k o w
 
 add-place-of-2 : tie.Need-add-place-of-2
@@ -65,8 +65,8 @@ add-place-of-2 c =
     let k = s .pre .0 .0 in
     let o = s .pre .0 .1 .0 in
     let l = s .pre .1 .0 .0 in
-    let span = spans-lent (x .s) (x .g) (s .pre .1 .0 .1 .0) (c .before .before .before .before .byte-place-of .ensures) (c .before .before .before .byte-place-of2 .ensures) in
-    let w = s .pre .1 .1 .1 .0 in
+    let span = spans-lent (x .s) (x .g) (s .pre .1 .1 .0 .groups-are) (c .before .before .before .before .byte-place-of .ensures) (c .before .before .before .byte-place-of2 .ensures) in
+    let w = s .pre .1 .1 .0 .records in
     end-fits (x .s) (x .g) _ _ span l k o
 
 place-of-requires-2 : tie.Need-place-of-requires-2
@@ -76,8 +76,8 @@ place-of-requires-2 c κs =
     let k = s .pre .0 .0 in
     let o = s .pre .0 .1 .0 in
     let l = s .pre .1 .0 .0 in
-    let span = spans-lent (x .s) (x .g) (s .pre .1 .0 .1 .0) (c .before .before .before .before .byte-place-of .ensures) (c .before .before .before .byte-place-of2 .ensures) in
-    let w = s .pre .1 .1 .1 .0 in
+    let span = spans-lent (x .s) (x .g) (s .pre .1 .1 .0 .groups-are) (c .before .before .before .before .byte-place-of .ensures) (c .before .before .before .byte-place-of2 .ensures) in
+    let w = s .pre .1 .1 .0 .records in
     children-count (x .s) (x .g) _ _ span l k o w
 
 sub-lent-sets : tie.Need-sub-lent-sets
@@ -87,8 +87,8 @@ sub-lent-sets c =
     let k = s .pre .0 .0 in
     let o = s .pre .0 .1 .0 in
     let l = s .pre .1 .0 .0 in
-    let span = spans-lent (x .s) (x .g) (s .pre .1 .0 .1 .0) (c .before .before .before .before .before .byte-place-of .ensures) (c .before .before .before .before .byte-place-of2 .ensures) in
-    let w = s .pre .1 .1 .1 .0 in
+    let span = spans-lent (x .s) (x .g) (s .pre .1 .1 .0 .groups-are) (c .before .before .before .before .before .byte-place-of .ensures) (c .before .before .before .before .byte-place-of2 .ensures) in
+    let w = s .pre .1 .1 .0 .records in
     let from = records-from (x .s) (x .g) _ _ span l k o w (c .before .before .place-of .ensures) (c .place-of2 .ensures) in
     records-rise (x .s) (x .g) _ _ span l k o w _ _ from
 
@@ -99,8 +99,8 @@ sub-lent-sets-2 c =
     let k = s .pre .0 .0 in
     let o = s .pre .0 .1 .0 in
     let l = s .pre .1 .0 .0 in
-    let span = spans-lent (x .s) (x .g) (s .pre .1 .0 .1 .0) (c .before .before .before .before .before .byte-place-of .ensures) (c .before .before .before .before .byte-place-of2 .ensures) in
-    let w = s .pre .1 .1 .1 .0 in
+    let span = spans-lent (x .s) (x .g) (s .pre .1 .1 .0 .groups-are) (c .before .before .before .before .before .byte-place-of .ensures) (c .before .before .before .before .byte-place-of2 .ensures) in
+    let w = s .pre .1 .1 .0 .records in
     let from = records-from (x .s) (x .g) _ _ span l k o w (c .before .before .place-of .ensures) (c .place-of2 .ensures) in
     span-rises (x .s) (x .g) _ _ span
 
@@ -111,19 +111,19 @@ lent-sets-requires c κs =
     let k = s .pre .0 .0 in
     let o = s .pre .0 .1 .0 in
     let l = s .pre .1 .0 .0 in
-    let span = spans-lent (x .s) (x .g) (s .pre .1 .0 .1 .0) (c .before .before .before .before .before .before .before .before .before .before .before .before .before .before .before .before .before .before .byte-place-of .ensures) (c .before .before .before .before .before .before .before .before .before .before .before .before .before .before .before .before .before .byte-place-of2 .ensures) in
-    let w = s .pre .1 .1 .1 .0 in
+    let span = spans-lent (x .s) (x .g) (s .pre .1 .1 .0 .groups-are) (c .before .before .before .before .before .before .before .before .before .before .before .before .before .before .before .before .before .before .byte-place-of .ensures) (c .before .before .before .before .before .before .before .before .before .before .before .before .before .before .before .before .before .byte-place-of2 .ensures) in
+    let w = s .pre .1 .1 .0 .records in
     let from = records-from (x .s) (x .g) _ _ span l k o w (c .before .before .before .before .before .before .before .before .before .before .before .before .before .before .before .place-of .ensures) (c .before .before .before .before .before .before .before .before .before .before .before .before .before .place-of2 .ensures) in
-    let wide = s .pre .1 .1 .1 .1 .0 in (
+    let columns = s .pre .1 .1 .0 in (
       (l, s .pre .0),
       (
         (span-from (x .s) (x .g) _ _ span, span-rows (x .s) (x .g) _ _ span),
         (
           (
-            records-there (x .s) (x .g) _ _ span l k o w _ _ from (wide .0) (wide .1),
-            records-given (x .s) (x .g) _ _ span l k o w _ _ from (wide .0),
+            records-there (x .s) (x .g) _ _ span l k o w _ _ from (columns .widened) (columns .wide-long),
+            records-given (x .s) (x .g) _ _ span l k o w _ _ from (columns .widened),
           ),
-          (s .pre .1 .1 .0, s .pre .1 .1 .1 .1 .1),
+          (s .pre .1 .1 .0 .graph, s .pre .1 .1 .1),
         ),
       ),
     )
@@ -141,13 +141,13 @@ put-built-requires c κs =
     let k = s .pre .0 .0 in
     let o = s .pre .0 .1 .0 in
     let l = s .pre .1 .0 .0 in
-    let span = spans-lent (x .s) (x .g) (s .pre .1 .0 .1 .0) (c .before .before .before .before .before .before .before .before .before .before .before .before .before .before .before .before .before .before .before .before .before .before .before .before .before .before .before .before .before .before .before .before .before .before .before .before .before .before .byte-place-of .ensures) (c .before .before .before .before .before .before .before .before .before .before .before .before .before .before .before .before .before .before .before .before .before .before .before .before .before .before .before .before .before .before .before .before .before .before .before .before .before .byte-place-of2 .ensures) in
-    let w = s .pre .1 .1 .1 .0 in
+    let span = spans-lent (x .s) (x .g) (s .pre .1 .1 .0 .groups-are) (c .before .before .before .before .before .before .before .before .before .before .before .before .before .before .before .before .before .before .before .before .before .before .before .before .before .before .before .before .before .before .before .before .before .before .before .before .before .before .byte-place-of .ensures) (c .before .before .before .before .before .before .before .before .before .before .before .before .before .before .before .before .before .before .before .before .before .before .before .before .before .before .before .before .before .before .before .before .before .before .before .before .before .byte-place-of2 .ensures) in
+    let w = s .pre .1 .1 .0 .records in
     let from = records-from (x .s) (x .g) _ _ span l k o w (c .before .before .before .before .before .before .before .before .before .before .before .before .before .before .before .before .before .before .before .before .before .before .before .before .before .before .before .before .before .before .before .before .before .before .before .place-of .ensures) (c .before .before .before .before .before .before .before .before .before .before .before .before .before .before .before .before .before .before .before .before .before .before .before .before .before .before .before .before .before .before .before .before .before .place-of2 .ensures) in
-    let slices = s .pre .1 .1 .1 .1 .1 in (
+    let slices = s .pre .1 .1 .1 in (
       s .pre .0,
       (
-        (span, (from, s .pre .1 .0 .1 .1)),
+        (span, (from, s .pre .1 .0 .1)),
         (
           w,
           (

@@ -20,7 +20,8 @@ use Rattle.cover.specs.Places.{rowAt}
 use Rattle.cleaning.specs.Sheet.{GroupLink}
 use Rattle.cleaning.proofs.GroupLinks.{inGroup}
 use Rattle.run_state.specs.View.{listed, linkAt}
-use Rattle.run_resolve.specs.links.Sorted.{linksOf, Appended, SortedBehind}
+use Rattle.run_state.specs.ByColumns.{linksOf}
+use Rattle.run_resolve.specs.links.Sorted.{Appended, SortedBehind}
 use Rattle.run_resolve.proofs.links.Copying.{behind}
 
 -- ── sorted columns ───────────────────────────────────────────────────────────────────────────

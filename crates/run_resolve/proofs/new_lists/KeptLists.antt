@@ -27,7 +27,8 @@ use Rattle.run_state.specs.Valid.{edgesOk}
 use Rattle.run_compact.specs.Columns.{gone, survive}
 use Rattle.run_resolve.proofs.sheet.KeptColumns.{front-length}
 use Rattle.run_resolve.proofs.sheet.Asking.{form-here, edges-few, edges-table}
-use Rattle.run_resolve.specs.new_lists.Renewal.{EdgesKept, Renewal, edgesOf, renewedOf}
+use Rattle.run_state.specs.ByColumns.{edgesOf}
+use Rattle.run_resolve.specs.new_lists.Renewal.{EdgesKept, Renewal, renewedOf}
 
 -- ── rows under their count ───────────────────────────────────────────────────────────────────
 

@@ -9,7 +9,8 @@ use Rattle.run_state.specs.declared.Rows.{Rows}
 use Rattle.run_state.specs.declared.Unresolved.{Unresolved}
 use Rattle.run_state.specs.declared.Roots.{Roots}
 use Rattle.run_compact.specs.Columns.{survive, keptIn}
-use Rattle.run_resolve.specs.sheet.Kept.{rowsOf, unresolvedOf, rootsOf, RowsKept, UnresolvedKept, RootsKept}
+use Rattle.run_state.specs.ByColumns.{rowsOf, unresolvedOf, rootsOf}
+use Rattle.run_resolve.specs.sheet.Kept.{RowsKept, UnresolvedKept, RootsKept}
 
 pub column-kept : (n r m : ℕ) (fs xs was : List ℕ) → n ≡ survive fs → r ≡ survive fs → length fs ≡ m → take r xs ≡ keptIn fs (take (length fs) was)
     → take n xs ≡ keptIn fs (take m was)

@@ -14,7 +14,7 @@ use Rattle.archive.specs.File
 use Rattle.run_state.specs.View.{listed, unresolvedAt, rootAt}
 use Rattle.cleaning.specs.Survivors.{rankIn}
 use Rattle.run_compact.specs.Columns.{newRows}
-use Rattle.run_resolve.specs.sheet.Kept.{unresolvedOf, rootsOf}
+use Rattle.run_state.specs.ByColumns.{unresolvedOf, rootsOf}
 
 getD-map-in : (f : ℕ → ℕ) (l : List ℕ) (j : ℕ) → j < length l → getD (map f l) j 0 ≡ f (getD l j 0)
 getD-map-in f [] j h = absurd (not-suc-le-zero h)

@@ -5,11 +5,6 @@ use Prim.Native.Nat.{ℕ, _+_}
 use lib.ListN.{length, take}
 use lib.Seq.{slice}
 use Rattle.cover.specs.Chains.{Link, sortLinks}
-use Rattle.run_state.specs.declared.Links.{Links}
-
--- links by their columns
-abbrev pub linksOf : ℕ → List ℕ → List ℕ → List ℕ → List ℕ → List ℕ → Links
-linksOf n groups a b c d = record { count = n; groups = groups; from = record { chains = a; seqs = b }; to = record { chains = c; seqs = d } }
 
 -- a column before and after: the first entries as they were, m entries behind them
 pub record Appended (end m : ℕ) (was is vs : List ℕ) : Type 0 where

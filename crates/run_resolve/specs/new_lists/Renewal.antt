@@ -11,6 +11,7 @@ use Rattle.cleaning.specs.Survivors.{keepSlots}
 use Rattle.run_renumber.specs.declared.Grown.{Grown}
 use Rattle.run_renumber.specs.declared.Grown.the-variants.{Upto, Full}
 use Rattle.run_state.specs.declared.Edges.{Edges}
+use Rattle.run_state.specs.ByColumns.{edgesOf}
 use Rattle.run_state.specs.View.{slotsIn}
 use Rattle.run_state.specs.Valid.{edgesOk}
 use Rattle.run_compact.specs.Columns.{gone, survive}
@@ -25,10 +26,6 @@ pub record EdgesKept (flags : List ℕ) (lists : List (List ℕ)) (q : Edges) : 
 pub record Renewal (flags : List ℕ) (lists : List (List ℕ)) (r : Renewed) : Type 0 where
   pub over : r .over ≡ ltb maxNumbers (length (joined lists))
   pub kept : r .over ≡ false → EdgesKept flags lists (r .edges)
-
--- lists by their columns
-abbrev pub edgesOf : ℕ → List ℕ → List ℕ → Edges
-edgesOf c os ts = record { count = c; offsets = os; targets = ts }
 
 -- the answer over columns: how many numbers the lists hold, or that there is no room
 abbrev pub renewedOf : Grown → List ℕ → List ℕ → Renewed

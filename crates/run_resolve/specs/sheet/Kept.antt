@@ -8,16 +8,6 @@ use Rattle.run_state.specs.declared.Unresolved.{Unresolved}
 use Rattle.run_state.specs.declared.Roots.{Roots}
 use Rattle.run_compact.specs.Columns.{survive, keptIn}
 
--- rows and records by their columns
-abbrev pub rowsOf : ℕ → List ℕ → List ℕ → List ℕ → List ℕ → Rows
-rowsOf c groups tags chains seqs = record { count = c; groups = groups; tags = tags; chains = chains; seqs = seqs }
-
-abbrev pub unresolvedOf : ℕ → List ℕ → List ℕ → List ℕ → Unresolved
-unresolvedOf c children kinds handles = record { count = c; children = children; kinds = kinds; handles = handles }
-
-abbrev pub rootsOf : ℕ → List ℕ → List ℕ → Roots
-rootsOf c rows handles = record { count = c; rows = rows; handles = handles }
-
 -- the rows that survive
 pub record RowsKept (flags : List ℕ) (r q : Rows) : Type 0 where
   pub count : q .count ≡ survive flags

@@ -4,7 +4,8 @@ ghost use mathlib.Core.Path.{_≡_};
 ghost use Prim.Native.Nat.{_≤_};
 ghost use lib.ListN.{length, take};
 ghost use Rattle.run_compact.specs.Columns.{flagsOf};
-ghost use Rattle.run_resolve.specs.sheet.Kept.{rowsOf, unresolvedOf, rootsOf, RowsKept, UnresolvedKept, RootsKept};
+ghost use Rattle.run_state.specs.ByColumns.{rowsOf, unresolvedOf, rootsOf};
+ghost use Rattle.run_resolve.specs.sheet.Kept.{RowsKept, UnresolvedKept, RootsKept};
 
 // The rows whose flags are 0, in place; answers how many they are.
 pub fn keep_rows(

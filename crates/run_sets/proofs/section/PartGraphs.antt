@@ -26,13 +26,13 @@ use Rattle.columns_rules.specs.records.Recorded.{depthOf, labelsGiven}
 use Rattle.columns_rules.specs.declared.records.groups.Depth as given
 use Rattle.columns_encode.specs.Encoded.{Rooms}
 use Rattle.columns_encode.specs.declared.kept.Encoded.{Encoded}
-use Rattle.columns_build.specs.Lent.{graphOf, slicesOf}
+use Rattle.columns_build.specs.Lent.{graphOf, slicesOf, Answers}
 use Rattle.arrays.proofs.sorting.Insert.{slice-rest}
 use Rattle.cleaning.specs.Writing.{Edge, inboundColumns}
 use Rattle.cleaning.proofs.Offsets.{starts-part, joined-part}
 use Rattle.cleaning.proofs.Parts.{length-part}
 use Rattle.run_group.specs.sections.Laid.{edgesOfRow, Laid}
-use Rattle.run_sets.specs.section.Parted.{partGraph, Few, judged, Answers}
+use Rattle.run_sets.specs.section.Parted.{partGraph, Few, judged}
 
 module _ (column : List ℕ) where
   joined-from : (a : ℕ) (bs : List ℕ) → climbsTo (length column) a bs ≡ true → joined (cutFrom a bs column) ≡ drop a column

@@ -14,7 +14,7 @@ ghost use lib.ListN.{length};
 ghost use Rattle.columns.specs.Limits.{maxRecords, maxSubject};
 ghost use Rattle.run_state.specs.order.Long.{LongGroups, LongRows, LongEdges, LongUnresolved, LongRoots, LongEnds, LongLinks, LongSheet, LongHeld};
 
-fn subject_long(s: Subject)
+pub fn subject_long(s: Subject)
     ensures { λ _. ⌜ length (s .bytes) ≡ maxSubject ⌝ }
 {}
 

@@ -30,7 +30,8 @@ use Rattle.run_store.specs.file.Fits.{SumsIn, HeldRoom}
 use Rattle.run_store.specs.file.Steps.{heldNext}
 use Rattle.run_store.specs.turns.Parts.{stored, Accepted}
 use Rattle.run_store.proofs.turns.Turns.{Walk, walk-start, part-done, walk-room, walk-on, no-file}
-use Rattle.run_store.specs.links.Columns.{linksOf, EndsMore}
+use Rattle.run_state.specs.ByColumns.{linksOf}
+use Rattle.run_store.specs.links.Columns.{EndsMore}
 
 -- ── what a file adds ─────────────────────────────────────────────────────────────────────────
 

@@ -26,7 +26,7 @@ use Rattle.run_store.specs.file.Fits.{HeldRoom}
 use Rattle.run_store.specs.file.Steps.{heldNext}
 use Rattle.run_store.specs.turns.Parts.{stored, Accepted}
 use Rattle.run_store.proofs.turns.Turns.{Walk, walk-start, part-done, walk-room, walk-on, no-file, rows-next, two-are}
-use Rattle.run_store.specs.records.Columns.{unresolvedOf, rootsOf}
+use Rattle.run_state.specs.ByColumns.{unresolvedOf, rootsOf}
 
 -- ── what a file adds ─────────────────────────────────────────────────────────────────────────
 

@@ -31,7 +31,8 @@ use Rattle.run_store.specs.joined.Joined.{labelsMore, sheetMore, heldMor
 use Rattle.run_store.specs.file.Steps.{heldNext}
 use Rattle.run_store.specs.turns.Parts.{stored, Accepted}
 use Rattle.run_store.proofs.turns.Turns.{Walk, walk-start, part-done, walk-room, walk-on, no-file, rows-next, two-are}
-use Rattle.run_store.specs.rows.Rows.{rowsOf, rowsMore, chainsMore, seqsMore}
+use Rattle.run_state.specs.ByColumns.{rowsOf}
+use Rattle.run_store.specs.rows.Rows.{rowsMore, chainsMore, seqsMore}
 
 -- ── what a file adds ─────────────────────────────────────────────────────────────────────────
 

@@ -37,7 +37,8 @@ use Rattle.run_store.proofs.turns.Turns.{Walk, walk-start, part-done, w
 use Rattle.run_store.specs.declared.sets.SetPlace.{SetPlace}
 use Rattle.run_store.specs.declared.sets.Side.{Side}
 use Rattle.run_store.specs.declared.sets.Side.the-variants.{Forward, Reverse, Inbound}
-use Rattle.run_store.specs.sets.Sides.{placeOf, sideOf, listsOf}
+use Rattle.run_state.specs.ByColumns.{edgesOf}
+use Rattle.run_store.specs.sets.Sides.{placeOf, sideOf}
 
 -- ── what is read ─────────────────────────────────────────────────────────────────────────────
 
@@ -98,11 +99,11 @@ module _ (c n : ℕ) (l : List ℕ) (f : FrontAt) (s : SetPlace) (r : SetRoom c 
 
   pub set-added : (a b : List ℕ) {a′ b′ : List ℕ} → a′ ≡ sets a (2 * n + 1) (map (λ u. c + u) (drop 1 (take (2 * f .head .rows + 1) o)))
       → b′ ≡ sets b c (joined (slotsOf (f .head .first) (columnsOf (s .count) (take (2 * f .head .rows + 1) o) (take (s .count) y))))
-      → listsOf (c + s .count) a′ b′ ≡ edgesWith (listsOf c a b) n (f .head .first) (setAt (partIn l (f .sets)) (f .head .rows) (s .at) (s .count))
+      → edgesOf (c + s .count) a′ b′ ≡ edgesWith (edgesOf c a b) n (f .head .first) (setAt (partIn l (f .sets)) (f .head .rows) (s .at) (s .count))
   unfolding edgesWith
-  set-added a b {a′} {b′} g t = made ∙ ap (edgesWith (listsOf c a b) n (f .head .first)) v
+  set-added a b {a′} {b′} g t = made ∙ ap (edgesWith (edgesOf c a b) n (f .head .first)) v
     where
-      made : listsOf (c + s .count) a′ b′ ≡ edgesWith (listsOf c a b) n (f .head .first) (columnsOf (s .count) (take (2 * f .head .rows + 1) o) (take (s .count) y))
+      made : edgesOf (c + s .count) a′ b′ ≡ edgesWith (edgesOf c a b) n (f .head .first) (columnsOf (s .count) (take (2 * f .head .rows + 1) o) (take (s .count) y))
       made = rw (g, t)
 
 -- ── a turn ───────────────────────────────────────────────────────────────────────────────────
@@ -137,9 +138,9 @@ pub side-start : (side : Side) (h : Held) (l : List ℕ) {e : Edges} {n : ℕ} �
     → Walk (sideNow side) h (e, n) l 0 0
 side-start side h l a i j = rw (i, j) (walk-start (sideNow side) h l a)
 
-module _ (side : Side) (h : Held) (c : ℕ) (a y : List ℕ) (n : ℕ) (l : List ℕ) (k p : ℕ) (w : Walk (sideNow side) h (listsOf c a y, n) l k p) where
+module _ (side : Side) (h : Held) (c : ℕ) (a y : List ℕ) (n : ℕ) (l : List ℕ) (k p : ℕ) (w : Walk (sideNow side) h (edgesOf c a y, n) l k p) where
   abbrev e : Edges
-  e = listsOf c a y
+  e = edgesOf c a y
 
   pub side-done : length l ≤ p → e ≡ sideOf side (stored h l)
   side-done t = ap (λ v. v .0) (part-done (λ q. (sideOf side q, q .rows .count)) h (e, n) l k p w t)

@@ -5,11 +5,6 @@ use Prim.Native.Nat.{ℕ}
 use lib.Seq.{sets}
 use Rattle.cover.specs.Cover.{sums}
 use Rattle.archive.specs.File.{CoverColumns}
-use Rattle.run_state.specs.declared.Links.{Links}
-
-abbrev pub linksOf : ℕ → List ℕ → List ℕ → List ℕ → List ℕ → List ℕ → Links
-linksOf c groups chains seqs toChains toSeqs =
-    record { count = c; groups = groups; from = record { chains = chains; seqs = seqs }; to = record { chains = toChains; seqs = toSeqs } }
 
 -- four columns with the ends of a cover's links more, after c others
 pub record EndsMore (c : ℕ) (a b x y a′ b′ x′ y′ : List ℕ) (k : CoverColumns) : Type 0 where

@@ -8,9 +8,6 @@ use Rattle.run_state.specs.declared.Rows as columns
 use Rattle.run_store.specs.parts.Grown.{rowsWith}
 use Rattle.run_store.specs.joined.Joined.{labelsMore}
 
-abbrev pub rowsOf : ℕ → List ℕ → List ℕ → List ℕ → List ℕ → columns.Rows
-rowsOf c groups tags chains seqs = record { count = c; groups = groups; tags = tags; chains = chains; seqs = seqs }
-
 abbrev pub rowsMore : columns.Rows → File → columns.Rows
 rowsMore r f = labelsMore (rowsWith r (f .group) (f .rows)) (r .count) (f .cover)
 

@@ -1,6 +1,4 @@
 -- One of a file's three sets: its place in the edges record, and its lists in what is held.
-use mathlib.Core.List.{List}
-use Prim.Native.Nat.{ℕ}
 use Rattle.archive_read.specs.declared.bodies.EdgesAt.{EdgesAt}
 use Rattle.run_state.specs.declared.Edges.{Edges}
 use Rattle.run_store.specs.turns.Parts.{Parts}
@@ -17,6 +15,3 @@ abbrev pub sideOf : Side → Parts → Edges
 sideOf Forward p = p .edges
 sideOf Reverse p = p .reverse
 sideOf Inbound p = p .inbound
-
-abbrev pub listsOf : ℕ → List ℕ → List ℕ → Edges
-listsOf c offsets targets = record { count = c; offsets = offsets; targets = targets }

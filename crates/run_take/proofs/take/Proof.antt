@@ -6,10 +6,12 @@ use Rattle.run_take.proofs.take.Tie as tie
 use Rattle.run_take.proofs.take.Reads as reads
 use Rattle.run_take.proofs.take.Lts as lts
 use Rattle.run_store.proofs.store.Reads as store-reads
-use Rattle.run_take.proofs.archive_rules.Reads as archive-rules-reads
 
-archive-rules-requires : tie.Need-archive-rules-requires
-archive-rules-requires c κs = search needs
+known-of-requires : tie.Need-known-of-requires
+known-of-requires c κs = search needs
+
+rules-by-requires : tie.Need-rules-by-requires
+rules-by-requires c κs = search needs
 
 enum-known-r : tie.Need-enum-known-r
 enum-known-r c = search needs
@@ -29,4 +31,4 @@ returns-2 c = search is-accepted
 pub take-spec : {M : Type 1} → statement M
 take-spec =
     tie.close
-    (tie.spec archive-rules-requires enum-known-r enum-told store-requires returns returns-2)
+    (tie.spec known-of-requires rules-by-requires enum-known-r enum-told store-requires returns returns-2)

@@ -8,7 +8,7 @@ use Rattle.cleaning.specs.Sections.{sectionRules, sectionBytes}
 use Rattle.run_state.specs.View.{sheetIn}
 use Rattle.run_sets.specs.ColumnGraphs.{LongSlices}
 use Rattle.run_output.proofs.by_value.Spans.{records-within}
-use Rattle.run_write.proofs.Columns.{Columns}
+use Rattle.run_output.specs.Lends.{LendsColumns}
 use Rattle.run_write.proofs.Rest.{rulesFrom, bytesFrom, put-few, put-rules, put-length, put-rest, put-broken}
 use Rattle.run_write.proofs.Whole.{groups-few, all-rules, all-length, none-written, laid, laid-broken}
 use borrow.Author.Needs.{needs}
@@ -20,7 +20,7 @@ Inv-loop s out₀ name numbered tags chains seqs offsets targets children kinds 
     (n ≡ s .groups .count) × (n ≤ 16) × (g ≤ n) × (total ≤ g * 223606) × (length out ≡ length out₀) × (LongSlices fo fd ro rd io id) × (sectionRules (sheetIn s) ≡ rulesFrom (sheetIn s) g n)
     × (length (sectionBytes (sheetIn s)) ≡ total + length (bytesFrom (sheetIn s) g n))
     × (length (sectionBytes (sheetIn s)) ≤ length out₀ → sets out₀ 0 (sectionBytes (sheetIn s)) ≡ sets out total (bytesFrom (sheetIn s) g n))
-    × Columns s name numbered tags chains seqs offsets targets children kinds handles wide flags rows roots
+    × LendsColumns s name numbered tags chains seqs offsets targets children kinds handles wide flags rows roots
 
 abbrev μ-loop : tie.MeasureT-loop
 μ-loop s out₀ name numbered tags chains seqs offsets targets children kinds handles wide flags rows roots fo₀ fd₀ ro₀ rd₀ io₀ id₀ cs₀ ps₀ ks₀ base₀ offs₀ list₀ w₀ n total₀ g₀ out fo fd ro rd io id cs ps ks base offs list w total g = n - g
@@ -133,13 +133,9 @@ put-group-requires : tie.Need-put-group-requires Inv-loop μ-loop
 put-group-requires c κs =
     let inv = c .before .before .before .before .before .before .before .before .before .before .before .before .before .before .before .before .before .before .before .before .before .before .before .before .before .before .before .before .before .loop .inv in
     let below = c .before .before .before .before .before .before .before .before .before .before .before .before .before .before .before .before .before .before .before .before .before .before .before .before .before .before .before .before .loop-test .taken in
-    let columns = inv .9 in
     let s = c .before .before .before .before .before .before .before .before .before .before .before .before .before .before .before .before .before .before .before .before .before .before .before .before .before .before .before .before .before .before .before .before .before .before .before .before .before .before .before .before .before .before .before .before .before .before in (
       (s .pre .0, (s .pre .1, omega (arith, below, inv .0))),
-      (
-        (c .before .before .before .before .before .before .before .before .before .before .before .before .before .before .before .before .before .before .before .before .before .before .before .before .before .before .before .before .before .before .before .before .before .before .before .before .before .before .before .before .before .before .before .before .sheet-long .ensures, (columns .groups-are, omega (arith, inv .1, inv .2, inv .3))),
-        (columns .graph, (columns .records, ((columns .widened, columns .wide-long), inv .5))),
-      ),
+      ((c .before .before .before .before .before .before .before .before .before .before .before .before .before .before .before .before .before .before .before .before .before .before .before .before .before .before .before .before .before .before .before .before .before .before .before .before .before .before .before .before .before .before .before .before .sheet-long .ensures, omega (arith, inv .1, inv .2, inv .3)), (inv .9, inv .5)),
     )
 
 enum-known-v : tie.Need-enum-known-v Inv-loop μ-loop

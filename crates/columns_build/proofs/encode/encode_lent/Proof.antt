@@ -24,7 +24,15 @@ encode-kept-requires c κs =
     (early-given _ _ _ _ _ _ _ _ _ _ _ _ _ _ early kept, (rooms-given _ _ _ _ _ _ _ _ _ _ _ _ _ _ early kept _ _ _ _ _ _ tight, c .before .before .before .before .before .before .before .before .before .before .before .before .before .before .before .before .before .before .before .before .before .before .before .before .before .before .before .before .before .before .pre))
 
 returns : tie.Need-returns
-returns c = (search whole-refused, (search whole-offsets-as-were, (search whole-deltas-as-were, (search whole-offsets-as-were, (search whole-deltas-as-were, (search whole-offsets-as-were, search whole-deltas-as-were))))))
+returns c = record {
+  answer = search whole-refused;
+  forwardOffsets = search whole-offsets-as-were;
+  forwardDeltas = search whole-deltas-as-were;
+  reverseOffsets = search whole-offsets-as-were;
+  reverseDeltas = search whole-deltas-as-were;
+  inboundOffsets = search whole-offsets-as-were;
+  inboundDeltas = search whole-deltas-as-were;
+}
 
 same-length : tie.Need-same-length
 same-length c = search needs
@@ -54,7 +62,15 @@ same-length-9 : tie.Need-same-length-9
 same-length-9 c = search needs
 
 returns-2 : tie.Need-returns-2
-returns-2 c = (search whole-answer, (search whole-offsets, (search whole-deltas, (search whole-offsets, (search whole-deltas, (search whole-offsets, search whole-deltas))))))
+returns-2 c = record {
+  answer = search whole-answer;
+  forwardOffsets = search whole-offsets;
+  forwardDeltas = search whole-deltas;
+  reverseOffsets = search whole-offsets;
+  reverseDeltas = search whole-deltas;
+  inboundOffsets = search whole-offsets;
+  inboundDeltas = search whole-deltas;
+}
 
 pub encode-lent-spec : {M : Type 1} → statement M
 encode-lent-spec =

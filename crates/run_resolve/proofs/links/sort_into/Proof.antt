@@ -7,7 +7,7 @@ use lib.Seq.{slice}
 use Rattle.lists.specs.Order.{levelAbove}
 use Rattle.cleaning.specs.Survivors.{sortGroups}
 use Rattle.run_state.specs.View.{listed, linkAt}
-use Rattle.run_resolve.specs.links.Sorted.{linksOf}
+use Rattle.run_state.specs.ByColumns.{linksOf}
 use Rattle.run_resolve.proofs.links.GroupTurns.{groupsLeft, left-start, left-done, left-next, level-start, level-named, level-next}
 use borrow.Author.Needs.{needs}
 use Rattle.run_resolve.proofs.links.sort_into.Statement.{statement}

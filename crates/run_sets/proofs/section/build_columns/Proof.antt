@@ -59,16 +59,7 @@ same-length-6 : tie.Need-same-length-6
 same-length-6 c = search needs
 
 returns : tie.Need-returns
-returns c =
-    record {
-      answer = search needs;
-      forwardOffsets = search needs;
-      forwardDeltas = search needs;
-      reverseOffsets = search needs;
-      reverseDeltas = search needs;
-      inboundOffsets = search needs;
-      inboundDeltas = search needs;
-    }
+returns c = search needs
 
 pub build-columns-spec : {M : Type 1} → statement M
 build-columns-spec =

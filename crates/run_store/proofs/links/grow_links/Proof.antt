@@ -3,7 +3,7 @@ use Prim.Native.Nat.{_≤_, _-_}
 use lib.ListN.{length}
 use Rattle.archive_read.proofs.AtFiles.{file-fits}
 use Rattle.run_store.proofs.turns.Turns.{Walk, fewer-left, count-below, count-on}
-use Rattle.run_store.specs.links.Columns.{linksOf}
+use Rattle.run_state.specs.ByColumns.{linksOf}
 use Rattle.run_store.proofs.links.LinkTurns.{linksNow, links-start, no-links, links-done, links-hold, links-sums, links-uncovers, links-room, links-rows, links-ranges, links-fit, links-on}
 use borrow.Author.Needs.{needs}
 use Rattle.run_store.proofs.links.grow_links.Statement.{statement}

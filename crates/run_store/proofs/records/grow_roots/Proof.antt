@@ -3,7 +3,7 @@ use Prim.Native.Nat.{_≤_, _-_}
 use lib.ListN.{length}
 use Rattle.archive_read.proofs.AtFiles.{file-fits}
 use Rattle.run_store.proofs.turns.Turns.{Walk, fewer-left, count-below, count-on}
-use Rattle.run_store.specs.records.Columns.{rootsOf}
+use Rattle.run_state.specs.ByColumns.{rootsOf}
 use Rattle.run_store.proofs.records.RecordTurns.{rootsNow, roots-start, roots-none, roots-done, roots-hold, roots-room, rows-few, roots-inside, roots-fit, rows-fit, roots-on}
 use borrow.Author.Needs.{needs}
 use Rattle.run_store.proofs.records.grow_roots.Statement.{statement}

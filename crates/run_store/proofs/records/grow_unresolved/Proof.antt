@@ -3,7 +3,7 @@ use Prim.Native.Nat.{_≤_, _-_}
 use lib.ListN.{length}
 use Rattle.archive_read.proofs.AtFiles.{file-fits}
 use Rattle.run_store.proofs.turns.Turns.{Walk, fewer-left, count-below, count-on}
-use Rattle.run_store.specs.records.Columns.{unresolvedOf}
+use Rattle.run_state.specs.ByColumns.{unresolvedOf}
 use Rattle.run_store.proofs.records.RecordTurns.{unresolvedNow, unresolved-start, unresolved-none, unresolved-done, unresolved-holds, unresolved-room, unresolved-fit, unresolved-on}
 use borrow.Author.Needs.{needs}
 use Rattle.run_store.proofs.records.grow_unresolved.Statement.{statement}

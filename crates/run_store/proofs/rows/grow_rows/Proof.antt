@@ -3,7 +3,7 @@ use Prim.Native.Nat.{_≤_, _-_}
 use lib.ListN.{length}
 use Rattle.archive_read.proofs.AtFiles.{file-fits, file-holds}
 use Rattle.run_store.proofs.turns.Turns.{Walk, fewer-left, count-below, count-on}
-use Rattle.run_store.specs.rows.Rows.{rowsOf}
+use Rattle.run_state.specs.ByColumns.{rowsOf}
 use Rattle.run_store.proofs.rows.RowTurns.{rowsNow, rows-start, rows-none, rows-done, rows-room, rows-fit, rows-on}
 use borrow.Author.Needs.{needs}
 use Rattle.run_store.proofs.rows.grow_rows.Statement.{statement}

@@ -3,7 +3,7 @@ use Prim.Native.Nat.{_≤_, _-_}
 use lib.ListN.{length}
 use Rattle.archive_read.proofs.AtFiles.{file-fits}
 use Rattle.run_store.proofs.turns.Turns.{Walk, fewer-left, count-below, count-on}
-use Rattle.run_store.specs.sets.Sides.{listsOf}
+use Rattle.run_state.specs.ByColumns.{edgesOf}
 use Rattle.run_store.proofs.sets.SetTurns.{sideNow, side-start, side-none, side-done, set-holds, set-room, numbers-fit, rows-fit, side-on}
 use borrow.Author.Needs.{needs}
 use Rattle.run_store.proofs.sets.grow_set.Statement.{statement}
@@ -16,7 +16,7 @@ use Rattle.run_store.proofs.sets.set_place.Reads as set-place-reads
 use Rattle.run_store.proofs.turns.next.Reads as next-reads
 
 abbrev Inv-loop : tie.InvT-loop
-Inv-loop h side starts₀ targets₀ count rows offsets₀ deltas₀ bytes c₀ n₀ k₀ p₀ starts targets offsets deltas c n k p = (p ≤ length bytes) × (k ≤ p) × Walk (sideNow side) h (listsOf c starts targets, n) bytes k p
+Inv-loop h side starts₀ targets₀ count rows offsets₀ deltas₀ bytes c₀ n₀ k₀ p₀ starts targets offsets deltas c n k p = (p ≤ length bytes) × (k ≤ p) × Walk (sideNow side) h (edgesOf c starts targets, n) bytes k p
 
 abbrev μ-loop : tie.MeasureT-loop
 μ-loop h side starts₀ targets₀ count rows offsets₀ deltas₀ bytes c₀ n₀ k₀ p₀ starts targets offsets deltas c n k p = length bytes - p
