@@ -28,9 +28,9 @@ use Rattle.run_state.specs.order.Long.{LongLinks, LongSheet}
 use Rattle.run_state.specs.ByColumns.{rowsOf, edgesOf}
 use Rattle.run_resolve.specs.sheet.Kept.{RowsKept}
 use Rattle.run_resolve.proofs.sheet.Asking.{few-held, edges-held, flags-held}
-use Rattle.run_resolve.specs.new_lists.Renewal.{Renewal, renewedOf}
-use Rattle.run_resolve.specs.survivors.Survive.{SheetKept}
-use Rattle.run_resolve.proofs.survivors.SheetParts.{part-unresolved, part-roots, part-links, part-groups, flags-few, flags-end, children-here, roots-here, links-level}
+use Rattle.run_resolve.specs.parents.Renewal.{Renewal, renewedOf}
+use Rattle.run_resolve.specs.survivor_sheet.Survive.{SheetKept}
+use Rattle.run_resolve.proofs.survivor_sheet.SheetParts.{part-unresolved, part-roots, part-links, part-groups, flags-few, flags-end, children-here, roots-here, links-level}
 use Rattle.run_resolve.specs.Outcome.{flagsIn, ListsRenewed, SurvivorsIn, ResolvedBy}
 use Rattle.run_resolve.specs.declared.Resolution.{Resolution}
 use Rattle.run_resolve.proofs.SurvivorColumns.{sheet-ok, flags-count, numbers-end, lists-renewed, survivors-in}

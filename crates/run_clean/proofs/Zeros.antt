@@ -21,8 +21,8 @@ use Rattle.run_state.specs.View.{listed, unresolvedAt, rootAt, linkAt, slotsIn}
 use Rattle.run_state.specs.Valid.{edgesOk}
 use Rattle.run_state.specs.order.Long.{LongLinks}
 use Rattle.run_state.specs.ByColumns.{rowsOf, edgesOf, unresolvedOf, rootsOf, linksOf}
-use Rattle.run_resolve.specs.declared.new_lists.Renewed.{Renewed}
-use Rattle.run_resolve.specs.new_lists.Renewal.{Renewal}
+use Rattle.run_resolve.specs.declared.parents.Renewed.{Renewed}
+use Rattle.run_resolve.specs.parents.Renewal.{Renewal}
 use Rattle.run_store.specs.turns.Parts.{Accepted}
 use Rattle.run_clean.specs.Survived.{Alone}
 

@@ -2,7 +2,7 @@
 // what the contracts speak of: no column of it is read.
 use run_renumber::Grown;
 use run_resolve::links::sort_into;
-use run_resolve::new_lists::renew;
+use run_resolve::parents::renew;
 use run_resolve::records::renew_roots;
 use run_resolve::records::renew_unresolved;
 use run_state::Held;
@@ -28,7 +28,7 @@ ghost use Rattle.run_state.specs.Valid.{edgesOk, below};
 ghost use Rattle.run_compact.specs.Columns.{gone};
 ghost use Rattle.run_state.specs.order.Long.{LongLinks};
 ghost use Rattle.run_state.specs.ByColumns.{rowsOf, unresolvedOf, rootsOf, linksOf};
-ghost use Rattle.run_resolve.specs.new_lists.Renewal.{Renewal, renewedOf};
+ghost use Rattle.run_resolve.specs.parents.Renewal.{Renewal, renewedOf};
 ghost use Rattle.run_store.specs.turns.Parts.{stored};
 ghost use Rattle.run_clean.specs.Survived.{Alone};
 

@@ -19,8 +19,8 @@ use Rattle.run_state.specs.declared.Held.{Held}
 use Rattle.run_state.specs.View.{listed, sheetIn, heldIn}
 use Rattle.run_state.specs.Valid.{countsOk, sheetOk}
 use Rattle.run_state.specs.order.Ordered.{filled}
-use Rattle.run_resolve.specs.declared.new_lists.Renewed.{Renewed}
-use Rattle.run_resolve.specs.new_lists.Renewal.{EdgesKept}
+use Rattle.run_resolve.specs.declared.parents.Renewed.{Renewed}
+use Rattle.run_resolve.specs.parents.Renewal.{EdgesKept}
 use Rattle.run_resolve.specs.declared.Resolution.{Resolution}
 use Rattle.run_resolve.specs.Outcome.{flagsIn, newIn, rulesIn, ListsRenewed, SurvivorsIn, ResolvedBy}
 

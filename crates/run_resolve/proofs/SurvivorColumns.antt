@@ -28,11 +28,11 @@ use Rattle.run_state.specs.order.Ordered.{ordered}
 use Rattle.run_state.specs.order.Long.{LongSheet, LongHeld}
 use Rattle.run_state.proofs.order.Turns.{rows-few}
 use Rattle.run_state.proofs.order.TidySheets.{column-listed, counts, ordered-sheet, filled-sheet, neat-held}
-use Rattle.run_resolve.specs.declared.new_lists.Renewed.{Renewed}
-use Rattle.run_resolve.specs.new_lists.Renewal.{EdgesKept, Renewal}
-use Rattle.run_resolve.specs.survivors.Survive.{SheetKept}
-use Rattle.run_resolve.proofs.survivors.SheetParts.{part-rows, part-unresolved, part-roots, part-groups, flags-end}
-use Rattle.run_resolve.proofs.survivors.SurvivorLaw.{sheet-survives}
+use Rattle.run_resolve.specs.declared.parents.Renewed.{Renewed}
+use Rattle.run_resolve.specs.parents.Renewal.{EdgesKept, Renewal}
+use Rattle.run_resolve.specs.survivor_sheet.Survive.{SheetKept}
+use Rattle.run_resolve.proofs.survivor_sheet.SheetParts.{part-rows, part-unresolved, part-roots, part-groups, flags-end}
+use Rattle.run_resolve.proofs.survivor_sheet.SurvivorLaw.{sheet-survives}
 use Rattle.run_resolve.proofs.records.NewRecords.{filter-few}
 use Rattle.run_resolve.specs.Outcome.{flagsIn, newIn, ListsRenewed, SurvivorsIn}
 use Rattle.run_resolve.proofs.SlotOrder.{survivors-earlier}

@@ -1,7 +1,7 @@
 pub mod Outcome
 pub mod Map
 pub mod links
-pub mod new_lists
+pub mod parents
 pub mod records
 pub mod sheet
-pub mod survivors
+pub mod survivor_sheet

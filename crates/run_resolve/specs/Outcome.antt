@@ -21,8 +21,8 @@ use Rattle.run_state.specs.declared.Held.{Held}
 use Rattle.run_state.specs.View.{sheetIn, heldIn}
 use Rattle.run_state.specs.Valid.{sheetOk}
 use Rattle.run_state.specs.order.Ordered.{ordered, filled}
-use Rattle.run_resolve.specs.declared.new_lists.Renewed.{Renewed}
-use Rattle.run_resolve.specs.new_lists.Renewal.{EdgesKept}
+use Rattle.run_resolve.specs.declared.parents.Renewed.{Renewed}
+use Rattle.run_resolve.specs.parents.Renewal.{EdgesKept}
 use Rattle.run_resolve.specs.declared.Resolution.{Resolution}
 
 -- the archive that columns hold

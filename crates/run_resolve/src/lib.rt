@@ -1,12 +1,12 @@
 // Resolving what a run holds: the sheet of its survivors, or the first refusal; and new numbers.
 pub mod asked;
 pub mod links;
-pub mod new_lists;
+pub mod parents;
 pub mod records;
 pub mod sheet;
-pub mod survivors;
+pub mod survivor_sheet;
 
-use crate::new_lists::Renewed;
+use crate::parents::Renewed;
 use columns::refusal::Refusal;
 use columns_rules::slots::Ruling;
 use run_state::Edges;
@@ -16,7 +16,7 @@ ghost use mathlib.Core.Path.{_≡_};
 ghost use mathlib.Core.Bool.{true};
 ghost use Rattle.run_state.specs.Valid.{heldOk};
 ghost use Rattle.run_state.specs.order.Ordered.{ordered};
-ghost use Rattle.run_resolve.specs.new_lists.Renewal.{EdgesKept};
+ghost use Rattle.run_resolve.specs.parents.Renewal.{EdgesKept};
 ghost use Rattle.run_resolve.specs.Outcome.{flagsIn, newIn, ListsRenewed, SurvivorsIn, ResolvedBy};
 
 // The sheet of the survivors where no rule is broken; otherwise the sheet as it was.
@@ -32,7 +32,7 @@ fn new_lists(h: Held) -> Renewed
 {
     run_state::order::long::held_long(h);
     let f = h.erased;
-    crate::new_lists::new_edges(h.sheet.start, h.sheet.rows.count, &f, h.sheet.edges)
+    crate::parents::new_edges(h.sheet.start, h.sheet.rows.count, &f, h.sheet.edges)
 }
 
 // The sheet of the survivors, with their lists.
@@ -44,7 +44,7 @@ fn survivors(h: Held, e: Edges) -> Sheet
     run_state::order::long::held_long(h);
     let f = h.erased;
     let n = h.sheet.rows.count;
-    let s = crate::survivors::kept_sheet(h.sheet, &f[..n], e);
+    let s = crate::survivor_sheet::kept_sheet(h.sheet, &f[..n], e);
     run_state::order::long::sheet_long(s);
     s
 }

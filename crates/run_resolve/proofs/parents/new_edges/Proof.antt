@@ -1,8 +1,8 @@
--- `run_resolve::new_lists::new_edges` meets its contract: its columns are renewed in place.
-use Rattle.run_resolve.proofs.new_lists.KeptLists.{renewal-upto, renewal-full}
+-- `run_resolve::parents::new_edges` meets its contract: its columns are renewed in place.
+use Rattle.run_resolve.proofs.parents.KeptLists.{renewal-upto, renewal-full}
 use borrow.Author.Needs.{needs}
-use Rattle.run_resolve.proofs.new_lists.new_edges.Statement.{statement}
-use Rattle.run_resolve.proofs.new_lists.new_edges.Tie as tie
+use Rattle.run_resolve.proofs.parents.new_edges.Statement.{statement}
+use Rattle.run_resolve.proofs.parents.new_edges.Tie as tie
 
 renew-requires : tie.Need-renew-requires
 renew-requires c κs = search needs

@@ -2,8 +2,8 @@
 use Rattle.run_resolve.proofs.sheet.Asking.{few-held, edges-held, flags-held}
 use Rattle.run_resolve.proofs.SurvivorColumns.{numbers-end, lists-renewed}
 use borrow.Author.Needs.{needs}
-use Rattle.run_resolve.proofs.new_lists.Statement.{statement}
-use Rattle.run_resolve.proofs.new_lists.Tie as tie
+use Rattle.run_resolve.proofs.parents.Statement.{statement}
+use Rattle.run_resolve.proofs.parents.Tie as tie
 
 held-long-requires : tie.Need-held-long-requires
 held-long-requires c κs = search needs

@@ -1,8 +1,8 @@
--- `run_resolve::new_lists::renew` meets its contract: there is room for all lists, or for none.
-use Rattle.run_resolve.proofs.new_lists.KeptLists.{columns-few, columns-table, built-few, built-table, edges-kept, edges-over}
+-- `run_resolve::parents::renew` meets its contract: there is room for all lists, or for none.
+use Rattle.run_resolve.proofs.parents.KeptLists.{columns-few, columns-table, built-few, built-table, edges-kept, edges-over}
 use borrow.Author.Needs.{needs}
-use Rattle.run_resolve.proofs.new_lists.renew.Statement.{statement}
-use Rattle.run_resolve.proofs.new_lists.renew.Tie as tie
+use Rattle.run_resolve.proofs.parents.renew.Statement.{statement}
+use Rattle.run_resolve.proofs.parents.renew.Tie as tie
 
 put-all-requires : tie.Need-put-all-requires
 put-all-requires c κs = ((search needs, (search needs, search needs)), ((search columns-few, (search needs, search needs)), search columns-table))

@@ -1,11 +1,11 @@
--- `run_resolve::new_lists::put_all` meets its contract: the parts are in form.
+-- `run_resolve::parents::put_all` meets its contract: the parts are in form.
 use Rattle.run_state.proofs.ColumnTurns.{table-count, numbers-count}
 use Rattle.run_resolve.proofs.sheet.KeptColumns.{front-count, front-few}
 use Rattle.run_resolve.proofs.sheet.Asking.{form-here}
-use Rattle.run_resolve.proofs.new_lists.KeptLists.{numbers-fit, table-room, numbers-room, lists-counted}
+use Rattle.run_resolve.proofs.parents.KeptLists.{numbers-fit, table-room, numbers-room, lists-counted}
 use borrow.Author.Needs.{needs}
-use Rattle.run_resolve.proofs.new_lists.put_all.Statement.{statement}
-use Rattle.run_resolve.proofs.new_lists.put_all.Tie as tie
+use Rattle.run_resolve.proofs.parents.put_all.Statement.{statement}
+use Rattle.run_resolve.proofs.parents.put_all.Tie as tie
 
 mul-k : tie.Need-mul-k
 mul-k c = search needs

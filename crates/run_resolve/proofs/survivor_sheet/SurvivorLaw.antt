@@ -11,8 +11,8 @@ use Rattle.run_state.specs.declared.Held.{Held}
 use Rattle.run_state.specs.View.{factsAt, sheetIn, heldIn}
 use Rattle.run_compact.specs.Columns.{gone}
 use Rattle.run_resolve.proofs.sheet.KeptViews.{labels-kept}
-use Rattle.run_resolve.specs.new_lists.Renewal.{EdgesKept}
-use Rattle.run_resolve.specs.survivors.Survive.{SheetKept}
+use Rattle.run_resolve.specs.parents.Renewal.{EdgesKept}
+use Rattle.run_resolve.specs.survivor_sheet.Survive.{SheetKept}
 
 pub sheet-survives : (h : Held) (lists : List (List ℕ)) (e : Edges) (r : Sheet) → length (take (h .sheet .rows .count) (h .erased)) ≡ h .sheet .rows .count
     → EdgesKept (take (h .sheet .rows .count) (h .erased)) lists e → SheetKept (take (h .sheet .rows .count) (h .erased)) e (h .sheet) r

@@ -1,14 +1,14 @@
--- `run_resolve::new_lists::keep_all` meets its contract: the table of the kept lists is in form.
+-- `run_resolve::parents::keep_all` meets its contract: the table of the kept lists is in form.
 use mathlib.Core.Path.{_≡_}
 use native.Mathlib.Omega.{arith}
 use lib.ListN.{length}
 use Rattle.run_state.proofs.ColumnTurns.{table-count, numbers-count}
 use Rattle.run_resolve.proofs.sheet.KeptColumns.{front-count}
 use Rattle.run_resolve.proofs.sheet.Asking.{form-here}
-use Rattle.run_resolve.proofs.new_lists.KeptLists.{table-room, numbers-held, kept-edges}
+use Rattle.run_resolve.proofs.parents.KeptLists.{table-room, numbers-held, kept-edges}
 use borrow.Author.Needs.{needs}
-use Rattle.run_resolve.proofs.new_lists.keep_all.Statement.{statement}
-use Rattle.run_resolve.proofs.new_lists.keep_all.Tie as tie
+use Rattle.run_resolve.proofs.parents.keep_all.Statement.{statement}
+use Rattle.run_resolve.proofs.parents.keep_all.Tie as tie
 
 mul-k : tie.Need-mul-k
 mul-k c = search needs

@@ -15,7 +15,7 @@ use Rattle.run_state.specs.ByColumns.{edgesOf}
 use Rattle.run_state.specs.View.{slotsIn}
 use Rattle.run_state.specs.Valid.{edgesOk}
 use Rattle.run_compact.specs.Columns.{gone, survive}
-use Rattle.run_resolve.specs.declared.new_lists.Renewed.{Renewed}
+use Rattle.run_resolve.specs.declared.parents.Renewed.{Renewed}
 
 -- the lists of the rows that survive, by the flags of all rows and their lists
 pub record EdgesKept (flags : List ℕ) (lists : List (List ℕ)) (q : Edges) : Type 0 where

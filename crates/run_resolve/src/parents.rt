@@ -11,7 +11,7 @@ ghost use Rattle.run_renumber.specs.Answers.{Result};
 ghost use Rattle.run_state.specs.View.{slotsIn};
 ghost use Rattle.run_state.specs.Valid.{edgesOk};
 ghost use Rattle.run_state.specs.ByColumns.{edgesOf};
-ghost use Rattle.run_resolve.specs.new_lists.Renewal.{EdgesKept, Renewal, renewedOf};
+ghost use Rattle.run_resolve.specs.parents.Renewal.{EdgesKept, Renewal, renewedOf};
 
 // Lists, or that they hold more numbers than there is room for: then there are none.
 pub struct Renewed {

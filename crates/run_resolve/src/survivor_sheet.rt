@@ -6,7 +6,7 @@ ghost use mathlib.Core.Bool.{true};
 ghost use lib.ListN.{length};
 ghost use Rattle.run_state.specs.Valid.{sheetOk};
 ghost use Rattle.run_state.specs.order.Ordered.{ordered};
-ghost use Rattle.run_resolve.specs.survivors.Survive.{SheetKept};
+ghost use Rattle.run_resolve.specs.survivor_sheet.Survive.{SheetKept};
 
 // Every column of the survivors.
 pub fn kept_sheet(s: Sheet, flags: &[u8], e: Edges) -> Sheet

@@ -1,8 +1,8 @@
 -- `run_resolve::survivors` meets its contract: what the columns of the survivors stand for.
 use Rattle.run_resolve.proofs.SurvivorColumns.{sheet-ok, flags-room, flags-count, count-flags, survivors-in}
 use borrow.Author.Needs.{needs}
-use Rattle.run_resolve.proofs.survivors.Statement.{statement}
-use Rattle.run_resolve.proofs.survivors.Tie as tie
+use Rattle.run_resolve.proofs.survivor_sheet.Statement.{statement}
+use Rattle.run_resolve.proofs.survivor_sheet.Tie as tie
 
 held-long-requires : tie.Need-held-long-requires
 held-long-requires c κs = search needs
