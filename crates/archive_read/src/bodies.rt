@@ -1,4 +1,5 @@
 // The body of each of a file's records, lent by itself: whether it is one, and where its columns lie in it.
+use arrays::index;
 ghost use mathlib.Core.Path.{_≡_};
 ghost use mathlib.Core.List.{map};
 ghost use Prim.Native.Nat.{_+_, _*_, _≤_, _<_, _^_};
@@ -67,12 +68,6 @@ pub struct CoverAt {
 pub enum CoverRead {
     CoverIs(CoverAt),
     NoCover,
-}
-
-fn index(x: u64) -> usize
-    ensures { λ r. ⌜ r ≡ x ⌝ }
-{
-    x as usize
 }
 
 fn size(x: u8) -> usize

@@ -2,3 +2,12 @@
 pub mod searching;
 pub mod sorting;
 pub mod table;
+
+ghost use mathlib.Core.Path.{_≡_};
+
+// A number of 64 bits as an index; nothing of it is lost.
+pub fn index(x: u64) -> usize
+    ensures { λ r. ⌜ r ≡ x ⌝ }
+{
+    x as usize
+}

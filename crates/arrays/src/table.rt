@@ -1,4 +1,5 @@
 // A set of numbers in three lent slices: keys in the order of arrival, a link for each key, the newest key of each bucket.
+use crate::index;
 ghost use mathlib.Core.Path.{_≡_};
 ghost use mathlib.Core.List.{[], _∷_};
 ghost use Prim.Native.Nat.{_+_, _-_, _≤_, _<_, _%_};
@@ -6,12 +7,6 @@ ghost use lib.ListN.{length, take, set, getD, replicate};
 ghost use lib.Seq.{slice};
 ghost use Rattle.lists.specs.Lists.{mem};
 ghost use Rattle.arrays.specs.table.Table.{chain, Down, Table, addCap, Keys};
-
-fn index(x: u64) -> usize
-    ensures { λ r. ⌜ r ≡ x ⌝ }
-{
-    x as usize
-}
 
 fn wide(x: usize) -> u64
     ensures { λ r. ⌜ r ≡ x ⌝ }

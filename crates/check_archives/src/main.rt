@@ -4,7 +4,7 @@ use archive_read::files::Summed;
 use archive_read::files::sum_up;
 use columns::refusal::Refusal;
 use libc::STDOUT_FILENO;
-use run_write::Writing;
+use run_state::Writing;
 
 enum Outcome {
     Accepted,

@@ -4,7 +4,7 @@ use columns::refusal::Refusal;
 use libc::STDERR_FILENO;
 use libc::STDIN_FILENO;
 use libc::STDOUT_FILENO;
-use run_write::Writing;
+use run_state::Writing;
 
 // Cleans bytes, and writes what they are cleaned to.
 fn clean(bytes: &[u8]) {

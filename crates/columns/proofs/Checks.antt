@@ -15,10 +15,10 @@ use Rattle.columns.specs.Limits.{maxNumbers}
 use Rattle.columns.specs.Refusal.{unless, firstOf, Lent, short, limits}
 use Rattle.columns.specs.EdgeSet.{EdgeSet, cut, fromTo, offsetsForm}
 use Rattle.columns.specs.Reading.{soundFrom, slotsOf, setRules, setLengths, decodeSet}
-use Rattle.columns.specs.Answers.{columnsOf, room, limitsOf, lentRules, bothRules, checkedOf, inOne, countedOf, writtenOver}
+use Rattle.columns.specs.Answers.{columnsOf, room, limitsOf, lentRules, bothRules, ruling, inOne, countedOf, writtenOver}
 use Rattle.columns.specs.Readable.{Readable, Edged}
-use Rattle.columns.specs.declared.reading.Checked.{Checked}
-use Rattle.columns.specs.declared.reading.Checked.the-variants.{Kept, Broken}
+use Rattle.columns.specs.declared.refusal.Ruling.{Ruling}
+use Rattle.columns.specs.declared.refusal.Ruling.the-variants.{Kept, Broken}
 use Rattle.columns.specs.declared.reading.Counted.the-variants.{Entries, Refused}
 use Rattle.columns.specs.declared.refusal.Refusal.{Refusal}
 use Rattle.columns.specs.declared.refusal.Refusal.the-variants.{OffsetsForm, DeltaCount, TargetSide, OverRecords, OverNumbers, SliceShort}
@@ -27,11 +27,11 @@ use Rattle.columns.proofs.Offsets.{form-climbs}
 
 -- ── rules in order ───────────────────────────────────────────────────────────────────────────
 
-pub is-kept : (k : Checked) (o : Option Refusal) → k ≡ checkedOf o → k ≡ Kept → o ≡ none
+pub is-kept : (k : Ruling) (o : Option Refusal) → k ≡ ruling o → k ≡ Kept → o ≡ none
 is-kept k none e h = refl
 is-kept k (some r) e h = let z : _≡_ {A = ℕ} 0 1 = cc in absurd (omega arith)
 
-pub is-broken : (k : Checked) (o : Option Refusal) (why : Refusal) → k ≡ checkedOf o → k ≡ Broken why → o ≡ some why
+pub is-broken : (k : Ruling) (o : Option Refusal) (why : Refusal) → k ≡ ruling o → k ≡ Broken why → o ≡ some why
 is-broken k none why e h = let z : _≡_ {A = ℕ} 0 1 = cc in absurd (omega arith)
 is-broken k (some r) why e h = cc
 
@@ -61,12 +61,12 @@ any-append p [] ys = refl
 any-append p (x ∷ xs) ys = rw (any-append p xs ys) (sym (or-assoc (p x) (any p xs) (any p ys)))
 
 -- rules in two parts: those of the second count where the first are kept
-module _ (k : Checked) (o : Option Refusal) (os : List (Option Refusal)) (e : k ≡ checkedOf o) where
-  pub then-rest : k ≡ Kept → (q : Checked) → q ≡ checkedOf (firstOf os) → q ≡ checkedOf (firstOf (o ∷ os))
+module _ (k : Ruling) (o : Option Refusal) (os : List (Option Refusal)) (e : k ≡ ruling o) where
+  pub then-rest : k ≡ Kept → (q : Ruling) → q ≡ ruling (firstOf os) → q ≡ ruling (firstOf (o ∷ os))
   unfolding firstOf
   then-rest h q g = rw (is-kept k o e h) g
 
-  pub then-broken : (why : Refusal) → k ≡ Broken why → Broken why ≡ checkedOf (firstOf (o ∷ os))
+  pub then-broken : (why : Refusal) → k ≡ Broken why → Broken why ≡ ruling (firstOf (o ∷ os))
   unfolding firstOf
   then-broken why h = rw (is-broken k o why e h)
 
@@ -89,49 +89,49 @@ module _ (a b c d : ℕ) (r : Bool) (e : r ≡ any (ltb maxNumbers) (a ∷ b ∷
   over-back h q f = rw (any-append (ltb maxNumbers) (a ∷ b ∷ []) (c ∷ d ∷ []), sym e ∙ h) f
 
 module _ (rows : ℕ) (over short : Bool) where
-  pub many-rows : 1024 < rows → Broken OverRecords ≡ checkedOf (limitsOf rows over short)
+  pub many-rows : 1024 < rows → Broken OverRecords ≡ ruling (limitsOf rows over short)
   unfolding limitsOf firstOf any
   many-rows h = rw (lt-ltb 1024 rows h)
 
   module _ (h : rows ≤ 1024) where
-    pub long-column : over ≡ true → Broken OverNumbers ≡ checkedOf (limitsOf rows over short)
+    pub long-column : over ≡ true → Broken OverNumbers ≡ ruling (limitsOf rows over short)
     unfolding limitsOf firstOf any
     long-column f = rw (le-ltb 1024 rows h, f)
 
     module _ (f : over ≡ false) where
-      pub short-slice : short ≡ true → Broken SliceShort ≡ checkedOf (limitsOf rows over short)
+      pub short-slice : short ≡ true → Broken SliceShort ≡ ruling (limitsOf rows over short)
       unfolding limitsOf firstOf any
       short-slice g = rw (le-ltb 1024 rows h, f, g)
 
-      pub in-limits : short ≡ false → Kept ≡ checkedOf (limitsOf rows over short)
+      pub in-limits : short ≡ false → Kept ≡ ruling (limitsOf rows over short)
       unfolding limitsOf firstOf any
       in-limits g = rw (le-ltb 1024 rows h, f, g)
 
 -- one set that is lent by itself
 module _ (set first rows end count : ℕ) (offsets : List ℕ) (deltas : List ℤ) (out : ℕ) where
-  module _ (over : Bool) (k : Checked) (f : over ≡ any (ltb maxNumbers) (length offsets ∷ length deltas ∷ []))
-      (e : k ≡ checkedOf (limitsOf rows over (ltb out 4096))) where
+  module _ (over : Bool) (k : Ruling) (f : over ≡ any (ltb maxNumbers) (length offsets ∷ length deltas ∷ []))
+      (e : k ≡ ruling (limitsOf rows over (ltb out 4096))) where
     limits-are : limits (rows ∷ []) (setLengths (columnsOf count offsets deltas)) (room out) ≡ limitsOf rows over (ltb out 4096)
     unfolding limits limitsOf setLengths short any
     limits-are = rw (f, or-false (ltb out 4096))
 
-    pub lent-kept : k ≡ Kept → (q : Checked) → q ≡ checkedOf (setRules set first rows end (columnsOf count offsets deltas))
-        → q ≡ checkedOf (lentRules set first rows end (columnsOf count offsets deltas) (room out))
+    pub lent-kept : k ≡ Kept → (q : Ruling) → q ≡ ruling (setRules set first rows end (columnsOf count offsets deltas))
+        → q ≡ ruling (lentRules set first rows end (columnsOf count offsets deltas) (room out))
     unfolding lentRules
-    lent-kept h q g = then-rest k _ _ (e ∙ ap checkedOf (sym limits-are)) h q (g ∙ ap checkedOf (sym (first-alone (setRules set first rows end (columnsOf count offsets deltas)))))
+    lent-kept h q g = then-rest k _ _ (e ∙ ap ruling (sym limits-are)) h q (g ∙ ap ruling (sym (first-alone (setRules set first rows end (columnsOf count offsets deltas)))))
 
-    pub lent-broken : (why : Refusal) → k ≡ Broken why → Broken why ≡ checkedOf (lentRules set first rows end (columnsOf count offsets deltas) (room out))
+    pub lent-broken : (why : Refusal) → k ≡ Broken why → Broken why ≡ ruling (lentRules set first rows end (columnsOf count offsets deltas) (room out))
     unfolding lentRules
-    lent-broken why h = then-broken k _ _ (e ∙ ap checkedOf (sym limits-are)) why h
+    lent-broken why h = then-broken k _ _ (e ∙ ap ruling (sym limits-are)) why h
 
 -- a reverse set and an inbound set
 module _ (first rows end rc : ℕ) (ro : List ℕ) (rd : List ℤ) (ic : ℕ) (io : List ℕ) (id : List ℤ) where
-  module _ (k : Checked) (e : k ≡ checkedOf (setRules 1 first rows end (columnsOf rc ro rd))) where
-    pub both-kept : k ≡ Kept → (q : Checked) → q ≡ checkedOf (setRules 2 first rows end (columnsOf ic io id)) → q ≡ checkedOf (bothRules first rows end (columnsOf rc ro rd) (columnsOf ic io id))
+  module _ (k : Ruling) (e : k ≡ ruling (setRules 1 first rows end (columnsOf rc ro rd))) where
+    pub both-kept : k ≡ Kept → (q : Ruling) → q ≡ ruling (setRules 2 first rows end (columnsOf ic io id)) → q ≡ ruling (bothRules first rows end (columnsOf rc ro rd) (columnsOf ic io id))
     unfolding bothRules
-    both-kept h q g = then-rest k _ _ e h q (g ∙ ap checkedOf (sym (first-alone (setRules 2 first rows end (columnsOf ic io id)))))
+    both-kept h q g = then-rest k _ _ e h q (g ∙ ap ruling (sym (first-alone (setRules 2 first rows end (columnsOf ic io id)))))
 
-    pub both-broken : (why : Refusal) → k ≡ Broken why → Broken why ≡ checkedOf (bothRules first rows end (columnsOf rc ro rd) (columnsOf ic io id))
+    pub both-broken : (why : Refusal) → k ≡ Broken why → Broken why ≡ ruling (bothRules first rows end (columnsOf rc ro rd) (columnsOf ic io id))
     unfolding bothRules
     both-broken why h = then-broken k _ _ e why h
 
@@ -182,7 +182,7 @@ edged first count offsets deltas r h =
       few = r .few;
     }
 
-module _ (set first rows end : ℕ) (s : EdgeSet) (lent : List Lent) (k : Checked) (e : k ≡ checkedOf (lentRules set first rows end s lent)) where
+module _ (set first rows end : ℕ) (s : EdgeSet) (lent : List Lent) (k : Ruling) (e : k ≡ ruling (lentRules set first rows end s lent)) where
   pub readable : k ≡ Kept → Readable first s
   unfolding lentRules
   readable h =
@@ -198,7 +198,7 @@ module _ (set first rows end : ℕ) (s : EdgeSet) (lent : List Lent) (k : Checke
 -- ── answers ──────────────────────────────────────────────────────────────────────────────────
 
 -- a list as the answer, and in the slice that is lent for it
-module _ (k : Checked) (o : Option Refusal) (l old : List ℕ) (e : k ≡ checkedOf o) where
+module _ (k : Ruling) (o : Option Refusal) (l old : List ℕ) (e : k ≡ ruling o) where
   pub list-counted : k ≡ Kept → (n : ℕ) → n ≡ length l → Entries n ≡ countedOf (unless o l)
   unfolding unless countedOf
   list-counted h n f = rw (is-kept k o e h, f)
@@ -220,7 +220,7 @@ unfolding inOne unless
 in-one none lists = refl
 in-one (some r) lists = refl
 
-module _ (set first rows end : ℕ) (s : EdgeSet) (old : List ℕ) (k : Checked) (e : k ≡ checkedOf (lentRules set first rows end s (room (length old)))) where
+module _ (set first rows end : ℕ) (s : EdgeSet) (old : List ℕ) (k : Ruling) (e : k ≡ ruling (lentRules set first rows end s (room (length old)))) where
   decoded : inOne (decodeSet set first rows end s (room (length old))) ≡ unless (lentRules set first rows end s (room (length old))) (joined (slotsOf first s))
   unfolding decodeSet lentRules
   decoded = in-one _ _

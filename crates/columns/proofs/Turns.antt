@@ -19,8 +19,8 @@ use Rattle.columns.specs.Limits.{end64, end32}
 use Rattle.columns.specs.Refusal.{firstOf}
 use Rattle.columns.specs.EdgeSet.{cut, eventOf, fromTo, offsetsForm, sound}
 use Rattle.columns.specs.Reading.{soundFrom, setRules, labelRules}
-use Rattle.columns.specs.Answers.{short32, columnsOf, labelColumns, checkedOf}
-use Rattle.columns.specs.declared.reading.Checked.the-variants.{Kept, Broken}
+use Rattle.columns.specs.Answers.{short32, columnsOf, labelColumns, ruling}
+use Rattle.columns.specs.declared.refusal.Ruling.the-variants.{Kept, Broken}
 use Rattle.columns.specs.declared.refusal.Refusal.the-variants.{OffsetsForm, DeltaCount, TargetSide, LabelColumns, LabelRange}
 use Rattle.columns.proofs.Offsets.{slice-none, cut-length, form-climbs}
 use Rattle.columns.proofs.Signs.{same-test}
@@ -128,17 +128,17 @@ module _ {t : Bool} (set first end slot : ℕ) (offsets : List ℕ) (deltas : Li
 -- ── the rules of one set ─────────────────────────────────────────────────────────────────────
 
 module _ (set first rows end count : ℕ) (offsets : List ℕ) (deltas : List ℤ) (b : Bool) (e : b ≡ offsetsForm rows count offsets) where
-  pub bad-form : not b ≡ true → Broken OffsetsForm ≡ checkedOf (setRules set first rows end (columnsOf count offsets deltas))
+  pub bad-form : not b ≡ true → Broken OffsetsForm ≡ ruling (setRules set first rows end (columnsOf count offsets deltas))
   unfolding setRules firstOf
   bad-form h = rw (sym e ∙ not-true b h)
 
   module _ (h : not b ≡ false) where
-    pub no-edges : count ≡ 0 → Kept ≡ checkedOf (setRules set first rows end (columnsOf count offsets deltas))
+    pub no-edges : count ≡ 0 → Kept ≡ ruling (setRules set first rows end (columnsOf count offsets deltas))
     unfolding setRules firstOf
     no-edges k = rw (sym e ∙ not-false b h, le-ltb 0 count (omega arith))
 
     module _ (k : count ≡ 0 → ⊥) where
-      pub bad-count : (length deltas ≡ count → ⊥) → Broken DeltaCount ≡ checkedOf (setRules set first rows end (columnsOf count offsets deltas))
+      pub bad-count : (length deltas ≡ count → ⊥) → Broken DeltaCount ≡ ruling (setRules set first rows end (columnsOf count offsets deltas))
       unfolding setRules firstOf
       bad-count f = rw (sym e ∙ not-false b h, lt-ltb 0 count (omega arith), ne-eqb (length deltas) count f)
 
@@ -147,11 +147,11 @@ module _ (set first rows end count : ℕ) (offsets : List ℕ) (deltas : List �
         deltas-climb = rw f (form-climbs rows count offsets (sym e ∙ not-false b h))
 
         module _ (r : Bool) (g : r ≡ soundFrom set first end 0 (cut offsets deltas)) where
-          pub bad-side : not r ≡ true → Broken TargetSide ≡ checkedOf (setRules set first rows end (columnsOf count offsets deltas))
+          pub bad-side : not r ≡ true → Broken TargetSide ≡ ruling (setRules set first rows end (columnsOf count offsets deltas))
           unfolding setRules firstOf
           bad-side q = rw (sym e ∙ not-false b h, lt-ltb 0 count (omega arith), eq-eqb (length deltas) count f, sym g ∙ not-true r q)
 
-          pub all-kept : not r ≡ false → Kept ≡ checkedOf (setRules set first rows end (columnsOf count offsets deltas))
+          pub all-kept : not r ≡ false → Kept ≡ ruling (setRules set first rows end (columnsOf count offsets deltas))
           unfolding setRules firstOf
           all-kept q = rw (sym e ∙ not-false b h, lt-ltb 0 count (omega arith), eq-eqb (length deltas) count f, sym g ∙ not-false r q)
 
@@ -171,25 +171,25 @@ module _ {t : Bool} (i : ℕ) (l : List ℕ) (e : t ≡ all short32 (drop i l)) 
   short-on h k = rw (e, drop-cons l i 0, lt-ltb (getD l i 0) end32 (omega arith), add-one)
 
 module _ (rows : ℕ) (chains seqs : List ℕ) where
-  pub bad-chains : (length chains ≡ rows → ⊥) → Broken LabelColumns ≡ checkedOf (labelRules rows (labelColumns chains seqs))
+  pub bad-chains : (length chains ≡ rows → ⊥) → Broken LabelColumns ≡ ruling (labelRules rows (labelColumns chains seqs))
   unfolding labelRules firstOf
   bad-chains h = rw (ne-eqb (length chains) rows h)
 
   module _ (h : length chains ≡ rows) where
-    pub bad-seqs : (length seqs ≡ rows → ⊥) → Broken LabelColumns ≡ checkedOf (labelRules rows (labelColumns chains seqs))
+    pub bad-seqs : (length seqs ≡ rows → ⊥) → Broken LabelColumns ≡ ruling (labelRules rows (labelColumns chains seqs))
     unfolding labelRules firstOf
     bad-seqs k = rw (eq-eqb (length chains) rows h, ne-eqb (length seqs) rows k)
 
     module _ (k : length seqs ≡ rows) (b : Bool) (e : b ≡ all short32 chains) where
-      pub long-chain : not b ≡ true → Broken LabelRange ≡ checkedOf (labelRules rows (labelColumns chains seqs))
+      pub long-chain : not b ≡ true → Broken LabelRange ≡ ruling (labelRules rows (labelColumns chains seqs))
       unfolding labelRules firstOf
       long-chain f = rw (eq-eqb (length chains) rows h, eq-eqb (length seqs) rows k, sym e ∙ not-true b f)
 
       module _ (f : not b ≡ false) (c : Bool) (g : c ≡ all short32 seqs) where
-        pub long-seq : not c ≡ true → Broken LabelRange ≡ checkedOf (labelRules rows (labelColumns chains seqs))
+        pub long-seq : not c ≡ true → Broken LabelRange ≡ ruling (labelRules rows (labelColumns chains seqs))
         unfolding labelRules firstOf
         long-seq q = rw (eq-eqb (length chains) rows h, eq-eqb (length seqs) rows k, sym e ∙ not-false b f, sym g ∙ not-true c q)
 
-        pub labels-kept : not c ≡ false → Kept ≡ checkedOf (labelRules rows (labelColumns chains seqs))
+        pub labels-kept : not c ≡ false → Kept ≡ ruling (labelRules rows (labelColumns chains seqs))
         unfolding labelRules firstOf
         labels-kept q = rw (eq-eqb (length chains) rows h, eq-eqb (length seqs) rows k, sym e ∙ not-false b f, sym g ∙ not-false c q)

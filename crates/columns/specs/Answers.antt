@@ -16,8 +16,8 @@ use Rattle.columns.specs.declared.kind.Kind.{Kind}
 use Rattle.columns.specs.declared.kind.Kind.the-variants.{Prev, Auth}
 use Rattle.columns.specs.declared.refusal.Refusal.{Refusal}
 use Rattle.columns.specs.declared.refusal.Refusal.the-variants.{SliceShort, OverRecords, OverNumbers}
-use Rattle.columns.specs.declared.reading.Checked.{Checked}
-use Rattle.columns.specs.declared.reading.Checked.the-variants.{Kept, Broken}
+use Rattle.columns.specs.declared.refusal.Ruling.{Ruling}
+use Rattle.columns.specs.declared.refusal.Ruling.the-variants.{Kept, Broken}
 use Rattle.columns.specs.declared.reading.Counted.{Counted}
 use Rattle.columns.specs.declared.reading.Counted.the-variants.{Entries, Refused}
 
@@ -64,9 +64,9 @@ unfoldable pub bothRules : ℕ → ℕ → ℕ → EdgeSet → EdgeSet → Optio
 bothRules first rows end r i = firstOf (setRules reverse first rows end r ∷ setRules inbound first rows end i ∷ [])
 
 -- what is answered of rules: the first that is broken, if one is
-abbrev pub checkedOf : Option Refusal → Checked
-checkedOf none = Kept
-checkedOf (some r) = Broken r
+abbrev pub ruling : Option Refusal → Ruling
+ruling none = Kept
+ruling (some r) = Broken r
 
 -- ── lists of numbers as answers ──────────────────────────────────────────────────────────────
 

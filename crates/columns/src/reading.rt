@@ -1,6 +1,8 @@
 // Reading the columns of a set of edges: what is refused (17, 18, 19), and the targets that its deltas name.
 use super::delta;
 use super::refusal::Refusal;
+use super::refusal::Ruling;
+use arrays::index;
 ghost use mathlib.Core.Path.{_≡_};
 ghost use mathlib.Core.Bool.{true, _&&_};
 ghost use mathlib.Core.List.{[], _∷_, _++_, map};
@@ -13,7 +15,7 @@ ghost use Rattle.lists.specs.Order.{climbsTo};
 ghost use Rattle.columns.specs.Limits.{end64, maxNumbers};
 ghost use Rattle.columns.specs.EdgeSet.{cut, eventOf, fromTo, offsetsForm, targetOf, sound};
 ghost use Rattle.columns.specs.Reading.{soundFrom, targetsFrom, slotsOf, setRules, decodeSet, labelRules};
-ghost use Rattle.columns.specs.Answers.{named, short32, columnsOf, labelColumns, room, limitsOf, lentRules, bothRules, checkedOf, inOne, countedOf, writtenOver};
+ghost use Rattle.columns.specs.Answers.{named, short32, columnsOf, labelColumns, room, limitsOf, lentRules, bothRules, ruling, inOne, countedOf, writtenOver};
 ghost use Rattle.columns.specs.Readable.{Readable, Edged};
 
 // How many numbers an answer has, or why there is no answer.
@@ -22,19 +24,7 @@ pub enum Counted {
     Refused(Refusal),
 }
 
-// What the rules say: all are kept, or the first that is broken.
-pub enum Checked {
-    Kept,
-    Broken(Refusal),
-}
-
 // ── offsets: 17 ──
-
-fn index(x: u64) -> usize
-    ensures { λ r. ⌜ r ≡ x ⌝ }
-{
-    x as usize
-}
 
 // Whether the offsets after the first rise or stay level from 0, and end at `high`.
 fn climbs(high: u64, offsets: &[u64]) -> bool
@@ -172,22 +162,22 @@ pub fn set_rules(
     count: u64,
     offsets: &[u64],
     deltas: &[i64],
-) -> Checked
-    ensures { λ r. ⌜ r ≡ checkedOf (setRules set first rows end (columnsOf count (now (offsets .entry)) (now (deltas .entry)))) ⌝ }
+) -> Ruling
+    ensures { λ r. ⌜ r ≡ ruling (setRules set first rows end (columnsOf count (now (offsets .entry)) (now (deltas .entry)))) ⌝ }
 {
     if !is_form(rows, count, offsets) {
-        return Checked::Broken(Refusal::OffsetsForm);
+        return Ruling::Broken(Refusal::OffsetsForm);
     }
     if count == 0 {
-        return Checked::Kept;
+        return Ruling::Kept;
     }
     if deltas.len() as u64 != count {
-        return Checked::Broken(Refusal::DeltaCount);
+        return Ruling::Broken(Refusal::DeltaCount);
     }
     if !are_sound(set, first, end, offsets, deltas) {
-        return Checked::Broken(Refusal::TargetSide);
+        return Ruling::Broken(Refusal::TargetSide);
     }
-    Checked::Kept
+    Ruling::Kept
 }
 
 // ── limits: 42, 43, 41 ──
@@ -213,19 +203,19 @@ pub fn is_any_over(a: usize, b: usize, c: usize, d: usize) -> bool
 }
 
 // The limits, by whether a column is too long and whether a lent slice is too short.
-pub fn limit_rules(rows: usize, over: bool, short: bool) -> Checked
-    ensures { λ r. ⌜ r ≡ checkedOf (limitsOf rows over short) ⌝ }
+pub fn limit_rules(rows: usize, over: bool, short: bool) -> Ruling
+    ensures { λ r. ⌜ r ≡ ruling (limitsOf rows over short) ⌝ }
 {
     if 1024 < rows {
-        return Checked::Broken(Refusal::OverRecords);
+        return Ruling::Broken(Refusal::OverRecords);
     }
     if over {
-        return Checked::Broken(Refusal::OverNumbers);
+        return Ruling::Broken(Refusal::OverNumbers);
     }
     if short {
-        return Checked::Broken(Refusal::SliceShort);
+        return Ruling::Broken(Refusal::SliceShort);
     }
-    Checked::Kept
+    Ruling::Kept
 }
 
 // The limits and the rules of one set that is lent by itself, with a slice of length `out` for its answer.
@@ -238,14 +228,14 @@ pub fn csr_rules(
     offsets: &[u64],
     deltas: &[i64],
     out: usize,
-) -> Checked
-    ensures { λ r. ⌜ r ≡ checkedOf (lentRules set first rows end (columnsOf count (now (offsets .entry)) (now (deltas .entry))) (room out)) ⌝ }
+) -> Ruling
+    ensures { λ r. ⌜ r ≡ ruling (lentRules set first rows end (columnsOf count (now (offsets .entry)) (now (deltas .entry))) (room out)) ⌝ }
 {
     let over = is_over(offsets.len(), deltas.len());
     let limit = limit_rules(rows, over, out < 4096);
     match limit {
-        Checked::Kept => set_rules(set, first, rows, end, count, offsets, deltas),
-        Checked::Broken(why) => Checked::Broken(why),
+        Ruling::Kept => set_rules(set, first, rows, end, count, offsets, deltas),
+        Ruling::Broken(why) => Ruling::Broken(why),
     }
 }
 
@@ -260,13 +250,13 @@ pub fn both_rules(
     icount: u64,
     ioffsets: &[u64],
     ideltas: &[i64],
-) -> Checked
-    ensures { λ r. ⌜ r ≡ checkedOf (bothRules first rows end (columnsOf rcount (now (roffsets .entry)) (now (rdeltas .entry))) (columnsOf icount (now (ioffsets .entry)) (now (ideltas .entry)))) ⌝ }
+) -> Ruling
+    ensures { λ r. ⌜ r ≡ ruling (bothRules first rows end (columnsOf rcount (now (roffsets .entry)) (now (rdeltas .entry))) (columnsOf icount (now (ioffsets .entry)) (now (ideltas .entry)))) ⌝ }
 {
     let rules = set_rules(1, first, rows, end, rcount, roffsets, rdeltas);
     match rules {
-        Checked::Kept => set_rules(2, first, rows, end, icount, ioffsets, ideltas),
-        Checked::Broken(why) => Checked::Broken(why),
+        Ruling::Kept => set_rules(2, first, rows, end, icount, ioffsets, ideltas),
+        Ruling::Broken(why) => Ruling::Broken(why),
     }
 }
 
@@ -287,22 +277,22 @@ fn all_short(column: &[u64]) -> bool
 }
 
 // A label for each row, in numbers of 32 bits.
-pub fn label_rules(rows: usize, chains: &[u64], seqs: &[u64]) -> Checked
-    ensures { λ r. ⌜ r ≡ checkedOf (labelRules rows (labelColumns (now (chains .entry)) (now (seqs .entry)))) ⌝ }
+pub fn label_rules(rows: usize, chains: &[u64], seqs: &[u64]) -> Ruling
+    ensures { λ r. ⌜ r ≡ ruling (labelRules rows (labelColumns (now (chains .entry)) (now (seqs .entry)))) ⌝ }
 {
     if chains.len() != rows {
-        return Checked::Broken(Refusal::LabelColumns);
+        return Ruling::Broken(Refusal::LabelColumns);
     }
     if seqs.len() != rows {
-        return Checked::Broken(Refusal::LabelColumns);
+        return Ruling::Broken(Refusal::LabelColumns);
     }
     if !all_short(chains) {
-        return Checked::Broken(Refusal::LabelRange);
+        return Ruling::Broken(Refusal::LabelRange);
     }
     if !all_short(seqs) {
-        return Checked::Broken(Refusal::LabelRange);
+        return Ruling::Broken(Refusal::LabelRange);
     }
-    Checked::Kept
+    Ruling::Kept
 }
 
 // ── writing targets ──
@@ -452,7 +442,7 @@ pub fn decode_csr(
 {
     let rules = csr_rules(set, first, rows, end, count, offsets, deltas, targets.len());
     match rules {
-        Checked::Kept => Counted::Entries(write_csr(first, count, offsets, deltas, targets)),
-        Checked::Broken(why) => Counted::Refused(why),
+        Ruling::Kept => Counted::Entries(write_csr(first, count, offsets, deltas, targets)),
+        Ruling::Broken(why) => Counted::Refused(why),
     }
 }

@@ -36,6 +36,12 @@ pub enum Refusal {
     OverNumbers,
 }
 
+// What rules say: all are kept, or the first that is broken.
+pub enum Ruling {
+    Kept,
+    Broken(Refusal),
+}
+
 // Document 01's number of a refusal.
 pub fn number(refusal: Refusal) -> u64
     ensures { λ r. ⌜ r ≡ numberOf refusal ⌝ }

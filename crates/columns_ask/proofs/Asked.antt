@@ -13,12 +13,12 @@ use Rattle.columns.specs.Refusal.{unless, refuse, firstOf, Lent, limits}
 use Rattle.columns.specs.EdgeSet.{EdgeSet, reverse, inbound}
 use Rattle.columns.specs.Reading.{slotsOf, setRules, setLengths}
 use Rattle.columns.specs.Questions.{listOf, parents, children, childrenOf}
-use Rattle.columns.specs.Answers.{kindOf, room, lentRules, checkedOf, countedOf, writtenOver}
+use Rattle.columns.specs.Answers.{kindOf, room, lentRules, ruling, countedOf, writtenOver}
 use Rattle.columns.specs.Readable.{Readable}
 use Rattle.columns_ask.specs.Views.{childrenRules, askedRules}
 use Rattle.columns.specs.declared.kind.Kind.{Kind}
-use Rattle.columns.specs.declared.reading.Checked.{Checked}
-use Rattle.columns.specs.declared.reading.Checked.the-variants.{Kept, Broken}
+use Rattle.columns.specs.declared.refusal.Ruling.{Ruling}
+use Rattle.columns.specs.declared.refusal.Ruling.the-variants.{Kept, Broken}
 use Rattle.columns.specs.declared.reading.Counted.the-variants.{Entries, Refused}
 use Rattle.columns.specs.declared.refusal.Refusal.{Refusal}
 use Rattle.columns.proofs.Checks.{is-kept, list-counted, list-written, list-refused, list-as-was, then-rest, then-broken, first-append}
@@ -29,8 +29,8 @@ use Rattle.columns_ask.proofs.Limited.{readable-reverse, readable-inbou
 
 -- ── parents ──────────────────────────────────────────────────────────────────────────────────
 
-module _ (first rows end : ℕ) (s : EdgeSet) (kind : Kind) (slot number : ℕ) (old : List ℕ) (k : Checked)
-    (e : k ≡ checkedOf (lentRules 0 first rows end s (room (length old)))) where
+module _ (first rows end : ℕ) (s : EdgeSet) (kind : Kind) (slot number : ℕ) (old : List ℕ) (k : Ruling)
+    (e : k ≡ ruling (lentRules 0 first rows end s (room (length old)))) where
   asked : parents first rows end s (kindOf kind) number (room (length old)) ≡ unless (lentRules 0 first rows end s (room (length old))) (listOf first (slotsOf first s) (kindOf kind) number)
   unfolding parents lentRules
   asked = refl
@@ -70,22 +70,22 @@ module _ (first : ℕ) (r i : EdgeSet) (kind number n : ℕ) (e : n ≡ 0 + leng
   both-written old mid out g p = p ∙ rw (e, g, sets-append old 0 (listOf first (slotsOf first r) kind number) (listOf first (slotsOf first i) kind number))
 
 -- the rules of the two sets, then that of the answer
-module _ (first rows end : ℕ) (r i : EdgeSet) (kind number : ℕ) (lent : List Lent) (k : Checked) (e : k ≡ checkedOf (childrenRules first rows end r i lent)) where
+module _ (first rows end : ℕ) (r i : EdgeSet) (kind number : ℕ) (lent : List Lent) (k : Ruling) (e : k ≡ ruling (childrenRules first rows end r i lent)) where
   module _ (h : k ≡ Kept) (over : Bool) (f : over ≡ ltb maxNumbers (length (childrenOf first r i kind number))) where
-    pub over-children : over ≡ true → Broken OverNumbers ≡ checkedOf (askedRules first rows end r i kind number lent)
+    pub over-children : over ≡ true → Broken OverNumbers ≡ ruling (askedRules first rows end r i kind number lent)
     unfolding askedRules firstOf
     over-children g = then-rest k (childrenRules first rows end r i lent) (refuse OverNumbers (ltb maxNumbers (length (childrenOf first r i kind number))) ∷ []) e h (Broken OverNumbers) (rw (← f, g))
 
-    pub few-children : over ≡ false → Kept ≡ checkedOf (askedRules first rows end r i kind number lent)
+    pub few-children : over ≡ false → Kept ≡ ruling (askedRules first rows end r i kind number lent)
     unfolding askedRules firstOf
     few-children g = then-rest k (childrenRules first rows end r i lent) (refuse OverNumbers (ltb maxNumbers (length (childrenOf first r i kind number))) ∷ []) e h Kept (rw (← f, g))
 
-  pub sets-refused : (why : Refusal) → k ≡ Broken why → Broken why ≡ checkedOf (askedRules first rows end r i kind number lent)
+  pub sets-refused : (why : Refusal) → k ≡ Broken why → Broken why ≡ ruling (askedRules first rows end r i kind number lent)
   unfolding askedRules
   sets-refused why h = then-broken k _ _ e why h
 
-module _ (first rows end : ℕ) (r i : EdgeSet) (kind : Kind) (slot number : ℕ) (j : slot ≡ kindOf kind) (old : List ℕ) (k : Checked)
-    (e : k ≡ checkedOf (askedRules first rows end r i slot number (room (length old)))) where
+module _ (first rows end : ℕ) (r i : EdgeSet) (kind : Kind) (slot number : ℕ) (j : slot ≡ kindOf kind) (old : List ℕ) (k : Ruling)
+    (e : k ≡ ruling (askedRules first rows end r i slot number (room (length old)))) where
   asked-both : children first rows end r i (kindOf kind) number (room (length old)) ≡ unless (askedRules first rows end r i slot number (room (length old))) (childrenOf first r i slot number)
   unfolding children askedRules childrenRules
   asked-both = rw j (ap (λ o. unless o (childrenOf first r i (kindOf kind) number))
@@ -98,10 +98,10 @@ module _ (first rows end : ℕ) (r i : EdgeSet) (kind : Kind) (slot number : ℕ
     kept-both = each-none _ (is-kept k _ e h) .0
 
     pub reverse-readable : Readable first r
-    reverse-readable = readable-reverse first rows end r i (room (length old)) Kept (ap checkedOf (sym kept-both)) refl
+    reverse-readable = readable-reverse first rows end r i (room (length old)) Kept (ap ruling (sym kept-both)) refl
 
     pub inbound-readable : Readable first i
-    inbound-readable = readable-inbound first rows end r i (room (length old)) Kept (ap checkedOf (sym kept-both)) refl
+    inbound-readable = readable-inbound first rows end r i (room (length old)) Kept (ap ruling (sym kept-both)) refl
 
     pub children-counted : (n : ℕ) → n ≡ length (childrenOf first r i slot number) → Entries n ≡ countedOf (children first rows end r i (kindOf kind) number (room (length old)))
     children-counted n f = rw asked-both (list-counted k _ _ old e h n f)

@@ -13,10 +13,10 @@ use Rattle.columns.specs.Limits.{end32}
 use Rattle.columns.specs.Refusal.{accepted, unless}
 use Rattle.columns.specs.Reading.{labelsOf}
 use Rattle.columns.specs.Questions.{labelAt, label}
-use Rattle.columns.specs.Answers.{short32, labelColumns, checkedOf}
+use Rattle.columns.specs.Answers.{short32, labelColumns, ruling}
 use Rattle.columns_ask.specs.Views.{lentLabelRules, labelledOf}
-use Rattle.columns.specs.declared.reading.Checked.{Checked}
-use Rattle.columns.specs.declared.reading.Checked.the-variants.{Kept, Broken}
+use Rattle.columns.specs.declared.refusal.Ruling.{Ruling}
+use Rattle.columns.specs.declared.refusal.Ruling.the-variants.{Kept, Broken}
 use Rattle.columns.specs.declared.reading.Counted.the-variants.{Refused}
 use Rattle.columns_ask.specs.declared.Labelled.{Labelled}
 use Rattle.columns_ask.specs.declared.Labelled.the-variants as labelled
@@ -62,7 +62,7 @@ module _ (first : ℕ) (chains seqs : List ℕ) (number : ℕ) where
     unfolding labelAt
     label-told c s k i f g = rw (le-ltb number first h, a-label chains seqs (number - first) k i, f, g)
 
-  module _ (rows : ℕ) (k : Checked) (e : k ≡ checkedOf (lentLabelRules rows (labelColumns chains seqs))) where
+  module _ (rows : ℕ) (k : Ruling) (e : k ≡ ruling (lentLabelRules rows (labelColumns chains seqs))) where
     pub label-kept : k ≡ Kept → (r : Labelled) → r ≡ labelledOf (accepted (labelAt first (labelsOf chains seqs) number)) → r ≡ labelledOf (label first rows (labelColumns chains seqs) number)
     unfolding label lentLabelRules unless
     label-kept h r f = rw (is-kept k (lentLabelRules rows (labelColumns chains seqs)) e h) f

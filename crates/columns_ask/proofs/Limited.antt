@@ -15,10 +15,10 @@ use Rattle.columns.specs.Limits.{maxNumbers}
 use Rattle.columns.specs.Refusal.{Lent, short, limits}
 use Rattle.columns.specs.EdgeSet.{EdgeSet, reverse, inbound}
 use Rattle.columns.specs.Reading.{setRules, setLengths, labelRules}
-use Rattle.columns.specs.Answers.{short32, columnsOf, labelColumns, room, limitsOf, bothRules, checkedOf}
+use Rattle.columns.specs.Answers.{short32, columnsOf, labelColumns, room, limitsOf, bothRules, ruling}
 use Rattle.columns.specs.Readable.{Readable}
-use Rattle.columns.specs.declared.reading.Checked.{Checked}
-use Rattle.columns.specs.declared.reading.Checked.the-variants.{Kept, Broken}
+use Rattle.columns.specs.declared.refusal.Ruling.{Ruling}
+use Rattle.columns.specs.declared.refusal.Ruling.the-variants.{Kept, Broken}
 use Rattle.columns.specs.declared.refusal.Refusal.{Refusal}
 use Rattle.columns.specs.declared.refusal.Refusal.the-variants.{LabelColumns, LabelRange}
 use Rattle.columns.proofs.FirstBroken.{each-none, passed}
@@ -28,38 +28,38 @@ use Rattle.columns_ask.specs.Views.{childrenRules, lentLabelRules}
 -- ── limits ───────────────────────────────────────────────────────────────────────────────────
 
 -- a reverse set and an inbound set
-module _ (first rows end rc : ℕ) (ro : List ℕ) (rd : List ℤ) (ic : ℕ) (io : List ℕ) (id : List ℤ) (out : ℕ) (over : Bool) (k : Checked) (f : over ≡ any (ltb maxNumbers) (length ro ∷ length rd ∷ length io ∷ length id ∷ []))
-    (e : k ≡ checkedOf (limitsOf rows over (ltb out 4096))) where
+module _ (first rows end rc : ℕ) (ro : List ℕ) (rd : List ℤ) (ic : ℕ) (io : List ℕ) (id : List ℤ) (out : ℕ) (over : Bool) (k : Ruling) (f : over ≡ any (ltb maxNumbers) (length ro ∷ length rd ∷ length io ∷ length id ∷ []))
+    (e : k ≡ ruling (limitsOf rows over (ltb out 4096))) where
   both-limits : limits (rows ∷ []) (setLengths (columnsOf rc ro rd) ++ setLengths (columnsOf ic io id)) (room out) ≡ limitsOf rows over (ltb out 4096)
   unfolding limits limitsOf setLengths short any
   both-limits = rw (f, or-false (ltb out 4096))
 
-  pub children-kept : k ≡ Kept → (q : Checked) → q ≡ checkedOf (bothRules first rows end (columnsOf rc ro rd) (columnsOf ic io id)) → q ≡ checkedOf (childrenRules first rows end (columnsOf rc ro rd) (columnsOf ic io id) (room out))
+  pub children-kept : k ≡ Kept → (q : Ruling) → q ≡ ruling (bothRules first rows end (columnsOf rc ro rd) (columnsOf ic io id)) → q ≡ ruling (childrenRules first rows end (columnsOf rc ro rd) (columnsOf ic io id) (room out))
   unfolding childrenRules bothRules
-  children-kept h q g = then-rest k _ _ (e ∙ ap checkedOf (sym both-limits)) h q g
+  children-kept h q g = then-rest k _ _ (e ∙ ap ruling (sym both-limits)) h q g
 
-  pub children-broken : (why : Refusal) → k ≡ Broken why → Broken why ≡ checkedOf (childrenRules first rows end (columnsOf rc ro rd) (columnsOf ic io id) (room out))
+  pub children-broken : (why : Refusal) → k ≡ Broken why → Broken why ≡ ruling (childrenRules first rows end (columnsOf rc ro rd) (columnsOf ic io id) (room out))
   unfolding childrenRules
-  children-broken why h = then-broken k _ _ (e ∙ ap checkedOf (sym both-limits)) why h
+  children-broken why h = then-broken k _ _ (e ∙ ap ruling (sym both-limits)) why h
 
 -- label columns
-module _ (rows : ℕ) (chains seqs : List ℕ) (over : Bool) (k : Checked) (f : over ≡ any (ltb maxNumbers) (length chains ∷ length seqs ∷ []))
-    (e : k ≡ checkedOf (limitsOf rows over false)) where
+module _ (rows : ℕ) (chains seqs : List ℕ) (over : Bool) (k : Ruling) (f : over ≡ any (ltb maxNumbers) (length chains ∷ length seqs ∷ []))
+    (e : k ≡ ruling (limitsOf rows over false)) where
   label-limits : limits (rows ∷ []) (length chains ∷ length seqs ∷ []) [] ≡ limitsOf rows over false
   unfolding limits limitsOf any
   label-limits = rw f
 
-  pub labels-in : k ≡ Kept → (q : Checked) → q ≡ checkedOf (labelRules rows (labelColumns chains seqs)) → q ≡ checkedOf (lentLabelRules rows (labelColumns chains seqs))
+  pub labels-in : k ≡ Kept → (q : Ruling) → q ≡ ruling (labelRules rows (labelColumns chains seqs)) → q ≡ ruling (lentLabelRules rows (labelColumns chains seqs))
   unfolding lentLabelRules
-  labels-in h q g = then-rest k _ _ (e ∙ ap checkedOf (sym label-limits)) h q (g ∙ ap checkedOf (sym (first-alone (labelRules rows (labelColumns chains seqs)))))
+  labels-in h q g = then-rest k _ _ (e ∙ ap ruling (sym label-limits)) h q (g ∙ ap ruling (sym (first-alone (labelRules rows (labelColumns chains seqs)))))
 
-  pub labels-out : (why : Refusal) → k ≡ Broken why → Broken why ≡ checkedOf (lentLabelRules rows (labelColumns chains seqs))
+  pub labels-out : (why : Refusal) → k ≡ Broken why → Broken why ≡ ruling (lentLabelRules rows (labelColumns chains seqs))
   unfolding lentLabelRules
-  labels-out why h = then-broken k _ _ (e ∙ ap checkedOf (sym label-limits)) why h
+  labels-out why h = then-broken k _ _ (e ∙ ap ruling (sym label-limits)) why h
 
 -- ── columns whose rules are kept ─────────────────────────────────────────────────────────────
 
-module _ (first rows end : ℕ) (r i : EdgeSet) (lent : List Lent) (k : Checked) (e : k ≡ checkedOf (childrenRules first rows end r i lent)) (h : k ≡ Kept) where
+module _ (first rows end : ℕ) (r i : EdgeSet) (lent : List Lent) (k : Ruling) (e : k ≡ ruling (childrenRules first rows end r i lent)) (h : k ≡ Kept) where
   apart : (any (ltb maxNumbers) (setLengths r) ≡ false) × (any (ltb maxNumbers) (setLengths i) ≡ false)
   unfolding childrenRules
   apart = or-kept _ _ (sym (any-append (ltb maxNumbers) (setLengths r) (setLengths i)) ∙ few-numbers _ _ lent (each-none _ (is-kept k _ e h) .0))
@@ -77,7 +77,7 @@ module _ (first rows end : ℕ) (r i : EdgeSet) (lent : List Lent) (k : Checked)
   readable-inbound = record { set = inbound; rows = rows; end = end; kept = rules .1; few = few-deltas i (apart .1) }
 
 -- label columns
-module _ (rows : ℕ) (chains seqs : List ℕ) (k : Checked) (e : k ≡ checkedOf (lentLabelRules rows (labelColumns chains seqs))) (h : k ≡ Kept) where
+module _ (rows : ℕ) (chains seqs : List ℕ) (k : Ruling) (e : k ≡ ruling (lentLabelRules rows (labelColumns chains seqs))) (h : k ≡ Kept) where
   lent-labels : labelRules rows (labelColumns chains seqs) ≡ none
   unfolding lentLabelRules
   lent-labels = each-none _ (is-kept k _ e h) .1 .0

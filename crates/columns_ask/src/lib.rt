@@ -2,9 +2,9 @@
 use columns::kind;
 use columns::kind::Kind;
 use columns::reading;
-use columns::reading::Checked;
 use columns::reading::Counted;
 use columns::refusal::Refusal;
+use columns::refusal::Ruling;
 ghost use mathlib.Core.Path.{_≡_};
 ghost use mathlib.Core.Bool.{true};
 ghost use Prim.Native.Nat.{_+_, _<_, _≤_};
@@ -16,7 +16,7 @@ ghost use Rattle.columns.specs.Limits.{kinds, maxNumbers, end32};
 ghost use Rattle.columns.specs.Refusal.{accepted};
 ghost use Rattle.columns.specs.Reading.{slotsOf, labelsOf};
 ghost use Rattle.columns.specs.Questions as asked;
-ghost use Rattle.columns.specs.Answers.{kindOf, short32, columnsOf, labelColumns, room, checkedOf, countedOf, writtenOver};
+ghost use Rattle.columns.specs.Answers.{kindOf, short32, columnsOf, labelColumns, room, ruling, countedOf, writtenOver};
 ghost use Rattle.columns.specs.Readable.{Readable};
 ghost use Rattle.columns_ask.specs.Views.{childrenRules, askedRules, lentLabelRules, labelledOf};
 
@@ -102,7 +102,7 @@ pub fn parents(
 {
     let rules = reading::csr_rules(0, first, rows, end, count, offsets, deltas, out.len());
     match rules {
-        Checked::Kept => Counted::Entries(write_list(
+        Ruling::Kept => Counted::Entries(write_list(
             first,
             count,
             offsets,
@@ -112,7 +112,7 @@ pub fn parents(
             out,
             0,
         )),
-        Checked::Broken(why) => Counted::Refused(why),
+        Ruling::Broken(why) => Counted::Refused(why),
     }
 }
 
@@ -128,13 +128,13 @@ fn children_rules(
     ioffsets: &[u64],
     ideltas: &[i64],
     out: usize,
-) -> Checked
-    ensures { λ r. ⌜ r ≡ checkedOf (childrenRules first rows end (columnsOf rcount (now (roffsets .entry)) (now (rdeltas .entry))) (columnsOf icount (now (ioffsets .entry)) (now (ideltas .entry))) (room out)) ⌝ }
+) -> Ruling
+    ensures { λ r. ⌜ r ≡ ruling (childrenRules first rows end (columnsOf rcount (now (roffsets .entry)) (now (rdeltas .entry))) (columnsOf icount (now (ioffsets .entry)) (now (ideltas .entry))) (room out)) ⌝ }
 {
     let over = reading::is_any_over(roffsets.len(), rdeltas.len(), ioffsets.len(), ideltas.len());
     let limit = reading::limit_rules(rows, over, out < 4096);
     match limit {
-        Checked::Kept => reading::both_rules(
+        Ruling::Kept => reading::both_rules(
             first,
             rows,
             end,
@@ -145,7 +145,7 @@ fn children_rules(
             ioffsets,
             ideltas,
         ),
-        Checked::Broken(why) => Checked::Broken(why),
+        Ruling::Broken(why) => Ruling::Broken(why),
     }
 }
 
@@ -208,9 +208,9 @@ fn asked_rules(
     kind: usize,
     number: u64,
     out: usize,
-) -> Checked
+) -> Ruling
     requires { ⌜ kind < kinds ⌝ }
-    ensures { λ r. ⌜ r ≡ checkedOf (askedRules first rows end (columnsOf rcount (now (roffsets .entry)) (now (rdeltas .entry))) (columnsOf icount (now (ioffsets .entry)) (now (ideltas .entry))) kind number (room out)) ⌝ }
+    ensures { λ r. ⌜ r ≡ ruling (askedRules first rows end (columnsOf rcount (now (roffsets .entry)) (now (rdeltas .entry))) (columnsOf icount (now (ioffsets .entry)) (now (ideltas .entry))) kind number (room out)) ⌝ }
 {
     let rules = children_rules(
         first,
@@ -225,7 +225,7 @@ fn asked_rules(
         out,
     );
     match rules {
-        Checked::Kept => {
+        Ruling::Kept => {
             if are_children_over(
                 first,
                 rcount,
@@ -237,11 +237,11 @@ fn asked_rules(
                 kind,
                 number,
             ) {
-                return Checked::Broken(Refusal::OverNumbers);
+                return Ruling::Broken(Refusal::OverNumbers);
             }
-            Checked::Kept
+            Ruling::Kept
         }
-        Checked::Broken(why) => Checked::Broken(why),
+        Ruling::Broken(why) => Ruling::Broken(why),
     }
 }
 
@@ -279,7 +279,7 @@ pub fn children(
         out.len(),
     );
     match rules {
-        Checked::Kept => Counted::Entries(write_children(
+        Ruling::Kept => Counted::Entries(write_children(
             first,
             rcount,
             roffsets,
@@ -291,20 +291,20 @@ pub fn children(
             number,
             out,
         )),
-        Checked::Broken(why) => Counted::Refused(why),
+        Ruling::Broken(why) => Counted::Refused(why),
     }
 }
 
 // ── labels ──
 
 // The limits and the rules of label columns that are lent by themselves.
-fn lent_label_rules(rows: usize, chains: &[u64], seqs: &[u64]) -> Checked
-    ensures { λ r. ⌜ r ≡ checkedOf (lentLabelRules rows (labelColumns (now (chains .entry)) (now (seqs .entry)))) ⌝ }
+fn lent_label_rules(rows: usize, chains: &[u64], seqs: &[u64]) -> Ruling
+    ensures { λ r. ⌜ r ≡ ruling (lentLabelRules rows (labelColumns (now (chains .entry)) (now (seqs .entry)))) ⌝ }
 {
     let limit = reading::limit_rules(rows, reading::is_over(chains.len(), seqs.len()), false);
     match limit {
-        Checked::Kept => reading::label_rules(rows, chains, seqs),
-        Checked::Broken(why) => Checked::Broken(why),
+        Ruling::Kept => reading::label_rules(rows, chains, seqs),
+        Ruling::Broken(why) => Ruling::Broken(why),
     }
 }
 
@@ -342,7 +342,7 @@ pub fn label(first: u64, rows: usize, chains: &[u64], seqs: &[u64], number: u64)
 {
     let rules = lent_label_rules(rows, chains, seqs);
     match rules {
-        Checked::Kept => label_at(first, chains, seqs, number),
-        Checked::Broken(why) => Labelled::Refused(why),
+        Ruling::Kept => label_at(first, chains, seqs, number),
+        Ruling::Broken(why) => Labelled::Refused(why),
     }
 }

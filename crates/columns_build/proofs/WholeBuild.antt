@@ -18,12 +18,13 @@ use Rattle.columns.specs.declared.refusal.Refusal.{Refusal}
 use Rattle.columns.specs.declared.refusal.Refusal.the-variants.{EdgeEntries, NumberRange, SliceShort, OverRecords, OverNumbers}
 use Rattle.columns.proofs.FirstBroken.{each-none, not-refused, passed}
 use Rattle.columns.proofs.Checks.{or-kept}
-use Rattle.columns_rules.specs.Ruled.{ruling, fileRules}
-use Rattle.columns_rules.specs.declared.slots.Ruling.{Ruling}
-use Rattle.columns_rules.specs.declared.slots.Ruling.the-variants.{Kept, Broken}
+use Rattle.columns.specs.Answers.{ruling}
+use Rattle.columns_rules.specs.Ruled.{fileRules}
+use Rattle.columns.specs.declared.refusal.Ruling.{Ruling}
+use Rattle.columns.specs.declared.refusal.Ruling.the-variants.{Kept, Broken}
 use Rattle.columns_rules.proofs.Told.{told, told-kept, last-rule}
 use Rattle.columns_rules.specs.records.Recorded.{depthOf, labelsGiven, inboundOf}
-use Rattle.columns_rules.specs.declared.records.groups.Depth as given
+use Rattle.columns.specs.declared.depth.Depth as given
 use Rattle.columns_encode.specs.Grouped.{lateRules}
 use Rattle.columns_encode.specs.Encoded.{rooms, Rooms, Early, limitRules, inputRules, earlyRules}
 use Rattle.columns_encode.specs.Answered.{lateVerdict, encodedOf, offsetsLaid, deltasLaid}

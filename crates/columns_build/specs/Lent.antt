@@ -7,7 +7,7 @@ use lib.IntN.{ℤ}
 use Rattle.columns.specs.Refusal.{Verdict, Lent}
 use Rattle.columns.specs.Building.{Graph, Built}
 use Rattle.columns_rules.specs.records.Recorded.{depthOf, labelsGiven, inboundOf}
-use Rattle.columns_rules.specs.declared.records.groups.Depth as given
+use Rattle.columns.specs.declared.depth.Depth as given
 use Rattle.columns_encode.specs.Encoded.{rooms}
 use Rattle.columns_encode.specs.Answered.{encodedOf, offsetsLaid, deltasLaid}
 use Rattle.columns_encode.specs.declared.kept.Encoded.{Encoded}

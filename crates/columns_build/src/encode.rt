@@ -1,10 +1,10 @@
 // `encode_graph_blocks`: the three sets of one granule of a file.
+use columns::depth::Depth;
+use columns::refusal::Ruling;
 use columns_encode::early::are_sets_short;
 use columns_encode::early::early_rules;
 use columns_encode::kept::Encoded;
 use columns_encode::kept::encode_kept;
-use columns_rules::records::groups::Depth;
-use columns_rules::slots::Ruling;
 ghost use Prim.Native.Nat.{_≤_};
 ghost use lib.ListN.{length};
 ghost use Rattle.columns.specs.Building.{build};

@@ -18,9 +18,9 @@ use Rattle.columns.specs.declared.refusal.Refusal.{Refusal}
 use Rattle.columns.specs.declared.refusal.Refusal.the-variants.{GranuleRows, DeltaRange}
 use Rattle.columns.proofs.FirstBroken.{each-none, not-refused, passed}
 use Rattle.columns.proofs.ReadBack.{cut-joined, starts-form}
-use Rattle.columns_rules.specs.Ruled.{ruling}
-use Rattle.columns_rules.specs.declared.slots.Ruling.{Ruling}
-use Rattle.columns_rules.specs.declared.slots.Ruling.the-variants.{Kept, Broken}
+use Rattle.columns.specs.Answers.{ruling}
+use Rattle.columns.specs.declared.refusal.Ruling.{Ruling}
+use Rattle.columns.specs.declared.refusal.Ruling.the-variants.{Kept, Broken}
 use Rattle.columns_rules.proofs.Told.{told, told-kept}
 use Rattle.columns_rules.specs.records.Recorded.{inboundOf}
 use Rattle.columns_rules.specs.spans.Spanned.{spanRules}

@@ -16,9 +16,9 @@ use Rattle.columns.specs.EdgeSet.{offsetsForm, cut}
 use Rattle.columns.specs.Building.{recordCount, inboundLists}
 use Rattle.columns.specs.declared.refusal.Refusal.{Refusal}
 use Rattle.columns.specs.declared.refusal.Refusal.the-variants.{InboundTwice}
-use Rattle.columns_rules.specs.Ruled.{ruling}
-use Rattle.columns_rules.specs.declared.slots.Ruling.{Ruling}
-use Rattle.columns_rules.specs.declared.slots.Ruling.the-variants.{Kept, Broken}
+use Rattle.columns.specs.Answers.{ruling}
+use Rattle.columns.specs.declared.refusal.Ruling.{Ruling}
+use Rattle.columns.specs.declared.refusal.Ruling.the-variants.{Kept, Broken}
 use Rattle.columns_rules.proofs.Told.{told-kept, last-rule, stops-here, goes-on}
 use Rattle.columns_rules.specs.records.Recorded.{inboundOf, inboundFrom}
 use Rattle.columns_encode.proofs.KeptEdges.{edges-given}
@@ -32,7 +32,7 @@ use Rattle.columns_encode.specs.Encoded.{Early, Arranged}
 
 module _ (first rows : ℕ) (lists inbound : List (List ℕ)) (from n : ℕ) {a : Bool} (e : a ≡ all distinct inbound) where
   pub given-twice : not a ≡ true → Broken InboundTwice ≡ ruling (tableRules first rows lists inbound from n)
-  unfolding tableRules firstOf ruling
+  unfolding tableRules firstOf
   given-twice p = rw (← e, not-true a p)
 
   pub then-spans : not a ≡ false → {s : Ruling} → s ≡ ruling (spanRules first rows lists inbound from n) → s ≡ ruling (tableRules first rows lists inbound from n)

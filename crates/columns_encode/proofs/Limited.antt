@@ -16,9 +16,10 @@ use Rattle.columns.specs.declared.refusal.Refusal.{Refusal}
 use Rattle.columns.specs.declared.refusal.Refusal.the-variants.{SliceShort, OverRecords, OverNumbers}
 use Rattle.columns.proofs.FirstBroken.{each-none, not-refused}
 use Rattle.columns.proofs.Checks.{or-kept}
-use Rattle.columns_rules.specs.Ruled.{ruling, fileRules}
-use Rattle.columns_rules.specs.declared.slots.Ruling.{Ruling}
-use Rattle.columns_rules.specs.declared.slots.Ruling.the-variants.{Kept, Broken}
+use Rattle.columns.specs.Answers.{ruling}
+use Rattle.columns_rules.specs.Ruled.{fileRules}
+use Rattle.columns.specs.declared.refusal.Ruling.{Ruling}
+use Rattle.columns.specs.declared.refusal.Ruling.the-variants.{Kept, Broken}
 use Rattle.columns_rules.proofs.Told.{told-kept, stops-here, goes-on}
 use Rattle.columns_rules.specs.records.Recorded.{labelsGiven, recordRules}
 use Rattle.columns_encode.specs.Encoded.{labelCounts, rooms, limitRules, inputRules, earlyRules}
@@ -84,26 +85,26 @@ module _ (fo fd ro rd io id : ℕ) (a : Bool) (e : a ≡ any short (rooms fo fd)
 
 module _ (rows records : ℕ) (over tight : Bool) where
   pub many-rows : 1024 < rows → Broken OverRecords ≡ ruling (limitRules rows records over tight)
-  unfolding limitRules firstOf any ruling
+  unfolding limitRules firstOf any
   many-rows h = rw (lt-ltb 1024 rows h)
 
   module _ (h : rows ≤ 1024) where
     pub many-records : 1024 < records → Broken OverRecords ≡ ruling (limitRules rows records over tight)
-    unfolding limitRules firstOf any ruling
+    unfolding limitRules firstOf any
     many-records g = rw (le-ltb 1024 rows h, lt-ltb 1024 records g)
 
     module _ (g : records ≤ 1024) where
       pub long-column : over ≡ true → Broken OverNumbers ≡ ruling (limitRules rows records over tight)
-      unfolding limitRules firstOf any ruling
+      unfolding limitRules firstOf any
       long-column f = rw (le-ltb 1024 rows h, le-ltb 1024 records g, f)
 
       module _ (f : over ≡ false) where
         pub short-slice : tight ≡ true → Broken SliceShort ≡ ruling (limitRules rows records over tight)
-        unfolding limitRules firstOf any ruling
+        unfolding limitRules firstOf any
         short-slice t = rw (le-ltb 1024 rows h, le-ltb 1024 records g, f, t)
 
         pub in-limits : tight ≡ false → Kept ≡ ruling (limitRules rows records over tight)
-        unfolding limitRules firstOf any ruling
+        unfolding limitRules firstOf any
         in-limits t = rw (le-ltb 1024 rows h, le-ltb 1024 records g, f, t)
 
 pub few-rows : (rows records : ℕ) (over tight : Bool) (r : Ruling) → r ≡ ruling (limitRules rows records over tight) → r ≡ Kept → rows ≤ 1024

@@ -1,12 +1,12 @@
 // The limits of building (42, 43, 41), then its rules on the file and its records (1 to 10), in order.
+use columns::depth::Depth;
 use columns::reading::is_any_over;
 use columns::reading::is_over;
 use columns::refusal::Refusal;
+use columns::refusal::Ruling;
 use columns_rules::file::file_rules;
-use columns_rules::records::groups::Depth;
 use columns_rules::records::groups::record_rules;
 use columns_rules::records::parts::longest;
-use columns_rules::slots::Ruling;
 ghost use mathlib.Core.Path.{_≡_};
 ghost use mathlib.Core.List.{_∷_, _++_};
 ghost use Prim.Native.Nat.{_≤_};
@@ -14,7 +14,7 @@ ghost use lib.Dec.{ltb};
 ghost use Rattle.lists.specs.Lists.{any};
 ghost use Rattle.columns.specs.Limits.{maxNumbers};
 ghost use Rattle.columns.specs.Refusal.{short};
-ghost use Rattle.columns_rules.specs.Ruled.{ruling};
+ghost use Rattle.columns.specs.Answers.{ruling};
 ghost use Rattle.columns_rules.specs.records.Recorded.{labelsGiven, depthOf};
 ghost use Rattle.columns_encode.specs.Encoded.{labelCounts, rooms, limitRules, inputRules, earlyRules};
 

@@ -2,9 +2,9 @@
 use crate::late::late_rules;
 use crate::writing::Counts;
 use crate::writing::write_sets;
+use arrays::index;
 use columns::refusal::Refusal;
-use columns_rules::slots::Ruling;
-use columns_rules::slots::index;
+use columns::refusal::Ruling;
 ghost use mathlib.Core.Path.{_≡_};
 ghost use Prim.Native.Nat.{_≤_};
 ghost use lib.ListN.{length};

@@ -1,8 +1,8 @@
 // Inbound edges, the granule's rows and its spans (11 to 15), in order. The inbound edges are put in order before 13, so that it looks at
 // neighbours alone.
 use columns::refusal::Refusal;
+use columns::refusal::Ruling;
 use columns_rules::records::parts::inbound_rules;
-use columns_rules::slots::Ruling;
 use columns_rules::spans::groups::span_rules;
 use columns_sets::inbound::arrange;
 use columns_sets::inbound::no_repeats;
@@ -15,8 +15,8 @@ ghost use Rattle.lists.specs.Order.{notFalling};
 ghost use Rattle.columns.specs.Limits.{end64};
 ghost use Rattle.columns.specs.EdgeSet.{offsetsForm, cut};
 ghost use Rattle.columns.specs.Building.{inboundLists};
-ghost use Rattle.columns_rules.specs.Ruled.{ruling};
-ghost use Rattle.columns_rules.specs.declared.slots.Ruling.the-variants.{Kept};
+ghost use Rattle.columns.specs.Answers.{ruling};
+ghost use Rattle.columns.specs.declared.refusal.Ruling.the-variants.{Kept};
 ghost use Rattle.columns_rules.specs.records.Recorded.{inboundOf};
 ghost use Rattle.columns_sets.specs.counting.GivenEdges.{Edges};
 ghost use Rattle.columns_encode.specs.Grouped.{tableRules, lateRules};

@@ -1,4 +1,5 @@
 // One level of a walk over stored targets: the parents of a frontier that were not visited, in order, cut to what is left of a limit.
+use arrays::index;
 ghost use mathlib.Core.Path.{_≡_};
 ghost use Prim.Native.Nat.{_+_, _-_, _≤_, _<_, min};
 ghost use lib.ListN.{length, take};
@@ -8,12 +9,6 @@ ghost use Rattle.lists.specs.Order.{sort};
 ghost use Rattle.columns.specs.Walk.{level};
 ghost use Rattle.arrays.specs.table.Table.{Table, Keys};
 ghost use Rattle.columns_levels.specs.frontier.Frontier.{parentsIn, copied, Laid, Seen};
-
-fn index(x: u64) -> usize
-    ensures { λ r. ⌜ r ≡ x ⌝ }
-{
-    x as usize
-}
 
 fn wide(x: usize) -> u64
     ensures { λ r. ⌜ r ≡ x ⌝ }

@@ -14,14 +14,14 @@ use Rattle.columns.specs.Limits.{maxNumbers}
 use Rattle.columns.specs.Refusal.{accepted, refused, unless, firstOf, short, limits}
 use Rattle.columns.specs.EdgeSet.{forward, reverse, inbound}
 use Rattle.columns.specs.Reading.{slotsOf, setRules, setLengths, labelRules, coverRules, labelLengths, columnLengths, granuleRules, granuleOf, readGranule}
-use Rattle.columns.specs.Answers.{columnsOf, labelColumns, limitsOf, bothRules, checkedOf, writtenOver}
+use Rattle.columns.specs.Answers.{columnsOf, labelColumns, limitsOf, bothRules, ruling, writtenOver}
 use Rattle.columns_read.specs.Granules.{coverOf, coverLengths, lentGranule, rooms, setsRules, lentGranuleRules, countsOf, decodedOf, setIn}
 use Rattle.columns.specs.Readable.{Readable}
 use Rattle.columns_read.specs.declared.Head.{Head}
 use Rattle.columns_read.specs.declared.Counts.{Counts}
 use Rattle.columns_read.specs.declared.Decoded.the-variants.{Edges, Refused}
-use Rattle.columns.specs.declared.reading.Checked.{Checked}
-use Rattle.columns.specs.declared.reading.Checked.the-variants.{Kept, Broken}
+use Rattle.columns.specs.declared.refusal.Ruling.{Ruling}
+use Rattle.columns.specs.declared.refusal.Ruling.the-variants.{Kept, Broken}
 use Rattle.columns.specs.declared.refusal.Refusal.{Refusal}
 use Rattle.columns.proofs.FirstBroken.{each-none}
 use Rattle.columns.proofs.Checks.{is-kept, is-broken, first-alone, first-append, then-rest, then-broken, any-append, or-kept, over-none, few-deltas}
@@ -67,20 +67,20 @@ module _ (f r i : ℕ) where
 -- ── rules ────────────────────────────────────────────────────────────────────────────────────
 
 module _ (rows : ℕ) (cover : Bool) (chains seqs : List ℕ) where
-  pub covered : cover ≡ true → (q : Checked) → q ≡ checkedOf (labelRules rows (labelColumns chains seqs)) → q ≡ checkedOf (coverRules rows (coverOf cover chains seqs))
+  pub covered : cover ≡ true → (q : Ruling) → q ≡ ruling (labelRules rows (labelColumns chains seqs)) → q ≡ ruling (coverRules rows (coverOf cover chains seqs))
   covered c q e = rw c e
 
-  pub uncovered : cover ≡ false → Kept ≡ checkedOf (coverRules rows (coverOf cover chains seqs))
+  pub uncovered : cover ≡ false → Kept ≡ ruling (coverRules rows (coverOf cover chains seqs))
   uncovered c = rw c
 
 module _ (h : Head) (fo : List ℕ) (fd : List ℤ) (ro : List ℕ) (rd : List ℤ) (io : List ℕ) (id : List ℤ) where
-  module _ (k : Checked) (e : k ≡ checkedOf (setRules 0 (h .first) (h .rows) (h .end) (columnsOf (h .forward) fo fd))) where
-    pub sets-kept : k ≡ Kept → (q : Checked) → q ≡ checkedOf (bothRules (h .first) (h .rows) (h .end) (columnsOf (h .reverse) ro rd) (columnsOf (h .inbound) io id))
-        → q ≡ checkedOf (setsRules h fo fd ro rd io id)
+  module _ (k : Ruling) (e : k ≡ ruling (setRules 0 (h .first) (h .rows) (h .end) (columnsOf (h .forward) fo fd))) where
+    pub sets-kept : k ≡ Kept → (q : Ruling) → q ≡ ruling (bothRules (h .first) (h .rows) (h .end) (columnsOf (h .reverse) ro rd) (columnsOf (h .inbound) io id))
+        → q ≡ ruling (setsRules h fo fd ro rd io id)
     unfolding setsRules bothRules
     sets-kept g q f = then-rest k _ _ e g q f
 
-    pub sets-broken : (why : Refusal) → k ≡ Broken why → Broken why ≡ checkedOf (setsRules h fo fd ro rd io id)
+    pub sets-broken : (why : Refusal) → k ≡ Broken why → Broken why ≡ ruling (setsRules h fo fd ro rd io id)
     unfolding setsRules
     sets-broken why g = then-broken k _ _ e why g
 
@@ -94,12 +94,12 @@ module _ (h : Head) (fo : List ℕ) (fd : List ℤ) (ro : List ℕ) (rd : List �
         ∷ setRules inbound (h .first) (h .rows) (h .end) (columnsOf (h .inbound) io id)
         ∷ []) (coverRules (h .rows) (coverOf (h .cover) chains seqs) ∷ [])
 
-    module _ (k : Checked) (e : k ≡ checkedOf (setsRules h fo fd ro rd io id)) where
-      pub edges-kept : k ≡ Kept → (q : Checked) → q ≡ checkedOf (coverRules (h .rows) (coverOf (h .cover) chains seqs))
-          → q ≡ checkedOf (granuleRules (h .first) (h .rows) (h .end) (lentGranule h fo fd ro rd io id chains seqs))
-      edges-kept g q f = rw edges-are (then-rest k _ _ e g q (f ∙ ap checkedOf (sym (first-alone (coverRules (h .rows) (coverOf (h .cover) chains seqs))))))
+    module _ (k : Ruling) (e : k ≡ ruling (setsRules h fo fd ro rd io id)) where
+      pub edges-kept : k ≡ Kept → (q : Ruling) → q ≡ ruling (coverRules (h .rows) (coverOf (h .cover) chains seqs))
+          → q ≡ ruling (granuleRules (h .first) (h .rows) (h .end) (lentGranule h fo fd ro rd io id chains seqs))
+      edges-kept g q f = rw edges-are (then-rest k _ _ e g q (f ∙ ap ruling (sym (first-alone (coverRules (h .rows) (coverOf (h .cover) chains seqs))))))
 
-      pub edges-broken : (why : Refusal) → k ≡ Broken why → Broken why ≡ checkedOf (granuleRules (h .first) (h .rows) (h .end) (lentGranule h fo fd ro rd io id chains seqs))
+      pub edges-broken : (why : Refusal) → k ≡ Broken why → Broken why ≡ ruling (granuleRules (h .first) (h .rows) (h .end) (lentGranule h fo fd ro rd io id chains seqs))
       edges-broken why g = rw edges-are (then-broken k _ _ e why g)
 
     lengths-are : columnLengths (lentGranule h fo fd ro rd io id chains seqs)
@@ -112,24 +112,24 @@ module _ (h : Head) (fo : List ℕ) (fd : List ℤ) (ro : List ℕ) (rd : List �
         go true = refl
         go false = refl
 
-    module _ (tight over : Bool) (k : Checked)
+    module _ (tight over : Bool) (k : Ruling)
         (f : over ≡ any (ltb maxNumbers) (length fo ∷ length fd ∷ length ro ∷ length rd ∷ length io ∷ length id ∷ coverLengths (h .cover) (length chains) (length seqs)))
-        (e : k ≡ checkedOf (limitsOf (h .rows) over tight)) where
-      in-limits : k ≡ checkedOf (limitsOf (h .rows) (any (ltb maxNumbers) (columnLengths (lentGranule h fo fd ro rd io id chains seqs))) tight)
+        (e : k ≡ ruling (limitsOf (h .rows) over tight)) where
+      in-limits : k ≡ ruling (limitsOf (h .rows) (any (ltb maxNumbers) (columnLengths (lentGranule h fo fd ro rd io id chains seqs))) tight)
       in-limits = rw (lengths-are, ← f) e
 
-      pub granule-kept : k ≡ Kept → (q : Checked) → q ≡ checkedOf (granuleRules (h .first) (h .rows) (h .end) (lentGranule h fo fd ro rd io id chains seqs))
-          → q ≡ checkedOf (lentGranuleRules h fo fd ro rd io id chains seqs tight)
+      pub granule-kept : k ≡ Kept → (q : Ruling) → q ≡ ruling (granuleRules (h .first) (h .rows) (h .end) (lentGranule h fo fd ro rd io id chains seqs))
+          → q ≡ ruling (lentGranuleRules h fo fd ro rd io id chains seqs tight)
       unfolding lentGranuleRules
-      granule-kept g q p = then-rest k _ _ in-limits g q (p ∙ ap checkedOf (sym (first-alone (granuleRules (h .first) (h .rows) (h .end) (lentGranule h fo fd ro rd io id chains seqs)))))
+      granule-kept g q p = then-rest k _ _ in-limits g q (p ∙ ap ruling (sym (first-alone (granuleRules (h .first) (h .rows) (h .end) (lentGranule h fo fd ro rd io id chains seqs)))))
 
-      pub granule-broken : (why : Refusal) → k ≡ Broken why → Broken why ≡ checkedOf (lentGranuleRules h fo fd ro rd io id chains seqs tight)
+      pub granule-broken : (why : Refusal) → k ≡ Broken why → Broken why ≡ ruling (lentGranuleRules h fo fd ro rd io id chains seqs tight)
       unfolding lentGranuleRules
       granule-broken why g = then-broken k _ _ in-limits why g
 
     -- ── a granule whose rules are kept ─────────────────────────────────────────────────────────
 
-    module _ (tight : Bool) (k : Checked) (e : k ≡ checkedOf (lentGranuleRules h fo fd ro rd io id chains seqs tight)) where
+    module _ (tight : Bool) (k : Ruling) (e : k ≡ ruling (lentGranuleRules h fo fd ro rd io id chains seqs tight)) where
       module _ (g : k ≡ Kept) where
         parts : (limitsOf (h .rows) (any (ltb maxNumbers) (columnLengths (lentGranule h fo fd ro rd io id chains seqs))) tight ≡ none)
             × (granuleRules (h .first) (h .rows) (h .end) (lentGranule h fo fd ro rd io id chains seqs) ≡ none)

@@ -1,7 +1,7 @@
 // Reading a granule: its three sets of edges and, where there is a cover, its label columns, in one call.
 use columns::reading;
-use columns::reading::Checked;
 use columns::refusal::Refusal;
+use columns::refusal::Ruling;
 ghost use mathlib.Core.Path.{_≡_};
 ghost use mathlib.Core.List.{_∷_};
 ghost use lib.Dec.{ltb};
@@ -11,7 +11,7 @@ ghost use Rattle.lists.specs.Lists.{any, joined};
 ghost use Rattle.columns.specs.Limits.{maxNumbers};
 ghost use Rattle.columns.specs.Refusal.{short};
 ghost use Rattle.columns.specs.Reading.{slotsOf, coverRules, granuleRules, readGranule};
-ghost use Rattle.columns.specs.Answers.{columnsOf, checkedOf, writtenOver};
+ghost use Rattle.columns.specs.Answers.{columnsOf, ruling, writtenOver};
 ghost use Rattle.columns_read.specs.Granules.{coverOf, coverLengths, lentGranule, rooms, setsRules, lentGranuleRules, countsOf, decodedOf, setIn};
 ghost use Rattle.columns.specs.Readable.{Readable};
 
@@ -85,13 +85,13 @@ fn is_any_short(f: usize, r: usize, i: usize) -> bool
 // ── rules ──
 
 // The rules of the label columns, where there is a cover.
-fn cover_rules(rows: usize, cover: bool, chains: &[u64], seqs: &[u64]) -> Checked
-    ensures { λ r. ⌜ r ≡ checkedOf (coverRules rows (coverOf cover (now (chains .entry)) (now (seqs .entry)))) ⌝ }
+fn cover_rules(rows: usize, cover: bool, chains: &[u64], seqs: &[u64]) -> Ruling
+    ensures { λ r. ⌜ r ≡ ruling (coverRules rows (coverOf cover (now (chains .entry)) (now (seqs .entry)))) ⌝ }
 {
     if cover {
         return reading::label_rules(rows, chains, seqs);
     }
-    Checked::Kept
+    Ruling::Kept
 }
 
 // The rules of the three sets.
@@ -103,15 +103,15 @@ fn sets_rules(
     rd: &[i64],
     io: &[u64],
     id: &[i64],
-) -> Checked
-    ensures { λ r. ⌜ r ≡ checkedOf (setsRules head (now (fo .entry)) (now (fd .entry)) (now (ro .entry)) (now (rd .entry)) (now (io .entry)) (now (id .entry))) ⌝ }
+) -> Ruling
+    ensures { λ r. ⌜ r ≡ ruling (setsRules head (now (fo .entry)) (now (fd .entry)) (now (ro .entry)) (now (rd .entry)) (now (io .entry)) (now (id .entry))) ⌝ }
 {
     let first = head.first;
     let rows = head.rows;
     let end = head.end;
     let rules = reading::set_rules(0, first, rows, end, head.forward, fo, fd);
     match rules {
-        Checked::Kept => reading::both_rules(
+        Ruling::Kept => reading::both_rules(
             first,
             rows,
             end,
@@ -122,7 +122,7 @@ fn sets_rules(
             io,
             id,
         ),
-        Checked::Broken(why) => Checked::Broken(why),
+        Ruling::Broken(why) => Ruling::Broken(why),
     }
 }
 
@@ -137,13 +137,13 @@ fn edge_rules(
     id: &[i64],
     chains: &[u64],
     seqs: &[u64],
-) -> Checked
-    ensures { λ r. ⌜ r ≡ checkedOf (granuleRules (head .first) (head .rows) (head .end) (lentGranule head (now (fo .entry)) (now (fd .entry)) (now (ro .entry)) (now (rd .entry)) (now (io .entry)) (now (id .entry)) (now (chains .entry)) (now (seqs .entry)))) ⌝ }
+) -> Ruling
+    ensures { λ r. ⌜ r ≡ ruling (granuleRules (head .first) (head .rows) (head .end) (lentGranule head (now (fo .entry)) (now (fd .entry)) (now (ro .entry)) (now (rd .entry)) (now (io .entry)) (now (id .entry)) (now (chains .entry)) (now (seqs .entry)))) ⌝ }
 {
     let rules = sets_rules(head, fo, fd, ro, rd, io, id);
     match rules {
-        Checked::Kept => cover_rules(head.rows, head.cover, chains, seqs),
-        Checked::Broken(why) => Checked::Broken(why),
+        Ruling::Kept => cover_rules(head.rows, head.cover, chains, seqs),
+        Ruling::Broken(why) => Ruling::Broken(why),
     }
 }
 
@@ -159,8 +159,8 @@ fn granule_rules(
     chains: &[u64],
     seqs: &[u64],
     tight: bool,
-) -> Checked
-    ensures { λ r. ⌜ r ≡ checkedOf (lentGranuleRules head (now (fo .entry)) (now (fd .entry)) (now (ro .entry)) (now (rd .entry)) (now (io .entry)) (now (id .entry)) (now (chains .entry)) (now (seqs .entry)) tight) ⌝ }
+) -> Ruling
+    ensures { λ r. ⌜ r ≡ ruling (lentGranuleRules head (now (fo .entry)) (now (fd .entry)) (now (ro .entry)) (now (rd .entry)) (now (io .entry)) (now (id .entry)) (now (chains .entry)) (now (seqs .entry)) tight) ⌝ }
 {
     let c = chains.len();
     let s = seqs.len();
@@ -177,8 +177,8 @@ fn granule_rules(
     );
     let limit = reading::limit_rules(head.rows, over, tight);
     match limit {
-        Checked::Kept => edge_rules(head, fo, fd, ro, rd, io, id, chains, seqs),
-        Checked::Broken(why) => Checked::Broken(why),
+        Ruling::Kept => edge_rules(head, fo, fd, ro, rd, io, id, chains, seqs),
+        Ruling::Broken(why) => Ruling::Broken(why),
     }
 }
 
@@ -239,7 +239,7 @@ pub fn decode_granule_edges(
     let tight = is_any_short(forward.len(), reverse.len(), inbound.len());
     let rules = granule_rules(head, fo, fd, ro, rd, io, id, chains, seqs, tight);
     match rules {
-        Checked::Kept => Decoded::Edges(write_granule(
+        Ruling::Kept => Decoded::Edges(write_granule(
             head,
             fo,
             fd,
@@ -251,6 +251,6 @@ pub fn decode_granule_edges(
             reverse,
             inbound,
         )),
-        Checked::Broken(why) => Decoded::Refused(why),
+        Ruling::Broken(why) => Decoded::Refused(why),
     }
 }

@@ -7,9 +7,10 @@ use Rattle.columns.specs.Refusal.{firstOf}
 use Rattle.columns.specs.declared.refusal.Refusal.the-variants.{SubjectLength, EdgeEntries, NumberRange}
 use Rattle.lists.proofs.Tests.{tested}
 use Rattle.columns_rules.proofs.Told.{last-rule}
-use Rattle.columns_rules.specs.Ruled.{ruling, fileRules}
-use Rattle.columns_rules.specs.declared.slots.Ruling.the-variants.{Broken}
-use Rattle.columns_rules.specs.declared.slots.Ruling.{Ruling}
+use Rattle.columns.specs.Answers.{ruling}
+use Rattle.columns_rules.specs.Ruled.{fileRules}
+use Rattle.columns.specs.declared.refusal.Ruling.the-variants.{Broken}
+use Rattle.columns.specs.declared.refusal.Ruling.{Ruling}
 use borrow.Author.Tests.{lt-ltb, le-ltb, leb-true, leb-false, not-true, not-false, ltb-true}
 use lib.Dec.{leb}
 use lib.ListN.{length}
@@ -44,17 +45,17 @@ numbers-are first rows f = elim (tested (leb first (18446744073709551615 - rows)
 
 module _ (subject : List ℕ) (first rows : ℕ) (offsets targets : List ℕ) {a : Bool} (e : a ≡ subjectOk subject) where
   pub subject-bad : not a ≡ true → Broken SubjectLength ≡ ruling (fileRules subject first rows offsets targets)
-  unfolding fileRules firstOf ruling
+  unfolding fileRules firstOf
   subject-bad p = rw (← e, not-true a p)
 
   module _ (p : not a ≡ false) {b : Bool} (f : b ≡ offsetsForm rows (length targets) offsets) where
     pub entries-bad : not b ≡ true → Broken EdgeEntries ≡ ruling (fileRules subject first rows offsets targets)
-    unfolding fileRules firstOf ruling
+    unfolding fileRules firstOf
     entries-bad q = rw (← e, not-false a p, ← f, not-true b q)
 
     module _ (q : not b ≡ false) {d : Bool} (g : d ≡ numbersOk first rows) where
       pub numbers-bad : not d ≡ true → Broken NumberRange ≡ ruling (fileRules subject first rows offsets targets)
-      unfolding fileRules firstOf ruling
+      unfolding fileRules firstOf
       numbers-bad r = rw (← e, not-false a p, ← f, not-false b q, ← g, not-true d r)
 
       pub then-parents : not d ≡ false → {s : Ruling} → s ≡ ruling (slotRules first 0 (cut offsets targets)) → s ≡ ruling (fileRules subject first rows offsets targets)

@@ -13,11 +13,11 @@ use Rattle.lists.specs.Lists.{mem}
 use Rattle.columns.specs.Refusal.{firstOf}
 use Rattle.columns.specs.EdgeSet.{offsetsForm, cut, eventOf}
 use Rattle.columns.specs.Building.{parentRules, slotRules}
-use Rattle.columns_rules.specs.Ruled.{ruling}
+use Rattle.columns.specs.Answers.{ruling}
 use Rattle.columns.specs.declared.refusal.Refusal.{Refusal}
 use Rattle.columns.specs.declared.refusal.Refusal.the-variants.{ParentNotEarlier, ParentTwice}
-use Rattle.columns_rules.specs.declared.slots.Ruling.{Ruling}
-use Rattle.columns_rules.specs.declared.slots.Ruling.the-variants.{Kept, Broken}
+use Rattle.columns.specs.declared.refusal.Ruling.{Ruling}
+use Rattle.columns.specs.declared.refusal.Ruling.the-variants.{Kept, Broken}
 use Rattle.columns_rules.proofs.Told.{told, told-kept, last-rule}
 use Rattle.columns_rules.proofs.SlotTables.{table-of, length-cut, getD-cut}
 
@@ -63,17 +63,17 @@ slice-snoc from j l h k = rw (take-suc l j 0 k) (drop-append-le from (take j l) 
 
 module _ {t : Ruling} (event from to j : ℕ) (l : List ℕ) (e : t ≡ ruling (parentRules event (slice from j l) (slice j to l))) where
   pub parents-done : to ≤ j → Kept ≡ t
-  unfolding parentRules ruling
+  unfolding parentRules
   parents-done h = rw (e, slice-none j to l h)
 
   module _ (h : j < to) (k : to ≤ length l) where
     pub parent-late : event ≤ getD l j 0 → Broken ParentNotEarlier ≡ t
-    unfolding parentRules ruling firstOf
+    unfolding parentRules firstOf
     parent-late f = rw (e, slice-cons j to l 0, le-leb event (getD l j 0) f)
 
     module _ (f : getD l j 0 < event) {r : Bool} (g : r ≡ mem (getD l j 0) (slice from j l)) where
       pub parent-again : r ≡ true → Broken ParentTwice ≡ t
-      unfolding parentRules ruling firstOf
+      unfolding parentRules firstOf
       parent-again q = rw (e, slice-cons j to l 0, lt-leb event (getD l j 0) f, ← g, q)
 
       pub parents-on : from ≤ j → r ≡ false → t ≡ ruling (parentRules event (slice from (j + 1) l) (slice (j + 1) to l))
@@ -114,7 +114,7 @@ module _ {t : Ruling} (first rows s : ℕ) (offsets targets : List ℕ) (ok : of
   long = length-cut (2 * rows) 0 offsets targets (table-of rows (length targets) offsets ok .long)
 
   pub slots-done : 2 * rows ≤ s → Kept ≡ t
-  unfolding slotRules ruling
+  unfolding slotRules
   slots-done h = rw (e, drop-of-length-le (cut offsets targets) {i = s} (omega (arith, long)))
 
   module _ (h : s < 2 * rows) {r : Ruling} (k : r ≡ ruling (parentRules (eventOf first s) [] (getD (cut offsets targets) s []))) where
@@ -122,7 +122,7 @@ module _ {t : Ruling} (first rows s : ℕ) (offsets targets : List ℕ) (ok : of
     here = drop-cons (cut offsets targets) s [] (omega (arith, long))
 
     pub slots-stop : {x : Refusal} → r ≡ Broken x → Broken x ≡ t
-    unfolding slotRules firstOf ruling
+    unfolding slotRules firstOf
     slots-stop g = rw (e, here, told (parentRules (eventOf first s) [] (getD (cut offsets targets) s [])) k g)
 
     pub slots-on : r ≡ Kept → t ≡ ruling (slotRules first (s + 1) (drop (s + 1) (cut offsets targets)))

@@ -3,9 +3,9 @@ use Prim.Native.Nat.{ℕ, _-_}
 use Rattle.columns.specs.Refusal.{firstOf}
 use Rattle.columns.specs.declared.refusal.Refusal.{Refusal}
 use Rattle.lists.proofs.Tests.{tested}
-use Rattle.columns_rules.specs.Ruled.{ruling}
-use Rattle.columns_rules.specs.declared.slots.Ruling.the-variants.{Kept, Broken}
-use Rattle.columns_rules.specs.declared.slots.Ruling.{Ruling}
+use Rattle.columns.specs.Answers.{ruling}
+use Rattle.columns.specs.declared.refusal.Ruling.the-variants.{Kept, Broken}
+use Rattle.columns.specs.declared.refusal.Ruling.{Ruling}
 use borrow.Author.Tests.{eq-eqb, ne-eqb, eqb-true, eqb-false}
 use lib.Dec.{eqb}
 use mathlib.Core.List.{[], _∷_}
@@ -16,12 +16,10 @@ use native.Mathlib.Omega.{arith}
 
 -- a ruling tells the broken rule
 pub told : (o : Option Refusal) → {r : Ruling} → r ≡ ruling o → {x : Refusal} → r ≡ Broken x → o ≡ some x
-unfolding ruling
 told none e f = absurd (let z : _≡_ {A = ℕ} 0 1 = cc in omega arith)
 told (some y) e {x} f = let z : y ≡ x = cc in ap some z
 
 pub told-kept : (o : Option Refusal) → {r : Ruling} → r ≡ ruling o → r ≡ Kept → o ≡ none
-unfolding ruling
 told-kept none e f = refl
 told-kept (some y) e f = absurd (let z : _≡_ {A = ℕ} 0 1 = cc in omega arith)
 
@@ -38,7 +36,7 @@ last-rule (some x) = refl
 
 module _ (a b : Option Refusal) {r : Ruling} (e : r ≡ ruling a) where
   pub stops-here : (x : Refusal) → r ≡ Broken x → Broken x ≡ ruling (firstOf (a ∷ b ∷ []))
-  unfolding firstOf ruling
+  unfolding firstOf
   stops-here x f = rw (told a e f)
 
   pub goes-on : r ≡ Kept → {s : Ruling} → s ≡ ruling b → s ≡ ruling (firstOf (a ∷ b ∷ []))

@@ -9,13 +9,6 @@ use Rattle.columns.specs.Building.{subjectOk, numbersOk, slotRules}
 use Rattle.columns.specs.EdgeSet.{offsetsForm, cut}
 use Rattle.columns.specs.declared.refusal.Refusal.{Refusal}
 use Rattle.columns.specs.declared.refusal.Refusal.the-variants.{SubjectLength, EdgeEntries, NumberRange}
-use Rattle.columns_rules.specs.declared.slots.Ruling.{Ruling}
-use Rattle.columns_rules.specs.declared.slots.Ruling.the-variants.{Kept, Broken}
-
--- the first broken rule, as the code's answer
-unfoldable pub ruling : Option Refusal → Ruling
-ruling none = Kept
-ruling (some r) = Broken r
 
 -- 1 to 5
 unfoldable pub fileRules : List ℕ → ℕ → ℕ → List ℕ → List ℕ → Option Refusal

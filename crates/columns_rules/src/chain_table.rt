@@ -1,5 +1,6 @@
 // Building's rule on seqs (10): in row order every seq is above the last one of its chain. Rows stand in buckets by chain: the newest
 // row of each bucket, and for each row the last one before it of its bucket. Rows are counted from 1, and 0 is none.
+use arrays::index;
 ghost use mathlib.Core.Path.{_≡_};
 ghost use mathlib.Core.List.{[]};
 ghost use Prim.Native.Nat.{_+_, _≤_, _<_, _%_};
@@ -7,12 +8,6 @@ ghost use lib.ListN.{length, getD};
 ghost use Rattle.columns.specs.Reading.{labelsOf};
 ghost use Rattle.columns.specs.Building.{follows, lastSeq, seqsRise};
 ghost use Rattle.columns_rules.specs.chain_table.Buckets.{earlierLabels, lastRow, newest, Down, Linked};
-
-fn index(x: u64) -> usize
-    ensures { λ r. ⌜ r ≡ x ⌝ }
-{
-    x as usize
-}
 
 fn wide(x: usize) -> u64
     ensures { λ r. ⌜ r ≡ x ⌝ }

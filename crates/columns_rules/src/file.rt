@@ -1,12 +1,13 @@
 // The rules of a file: its subject, its slot offsets, its numbers and its parents (1 to 5), in order.
-use crate::slots::Ruling;
 use crate::slots::entries_form;
 use crate::slots::slot_rules;
 use columns::refusal::Refusal;
+use columns::refusal::Ruling;
 ghost use mathlib.Core.Path.{_≡_};
 ghost use Prim.Native.Nat.{_≤_};
 ghost use Rattle.columns.specs.Building.{subjectOk, numbersOk};
-ghost use Rattle.columns_rules.specs.Ruled.{ruling, fileRules};
+ghost use Rattle.columns.specs.Answers.{ruling};
+ghost use Rattle.columns_rules.specs.Ruled.{fileRules};
 
 fn subject_fits(subject: &[u8]) -> bool
     ensures { λ r. ⌜ r ≡ subjectOk (now (subject .entry)) ⌝ }

@@ -1,5 +1,7 @@
 // Building's rules on a file's parents: the form of the slot offsets (2), and each parent in turn (4, 5).
+use arrays::index;
 use columns::refusal::Refusal;
+use columns::refusal::Ruling;
 ghost use mathlib.Core.Path.{_≡_};
 ghost use mathlib.Core.Bool.{true};
 ghost use mathlib.Core.List.{[]};
@@ -11,19 +13,7 @@ ghost use Rattle.lists.specs.Order.{climbsTo};
 ghost use Rattle.columns.specs.Limits.{end64};
 ghost use Rattle.columns.specs.EdgeSet.{offsetsForm, cut, eventOf};
 ghost use Rattle.columns.specs.Building.{parentRules, slotRules};
-ghost use Rattle.columns_rules.specs.Ruled.{ruling};
-
-// The first broken rule, if one is.
-pub enum Ruling {
-    Kept,
-    Broken(Refusal),
-}
-
-pub fn index(x: u64) -> usize
-    ensures { λ r. ⌜ r ≡ x ⌝ }
-{
-    x as usize
-}
+ghost use Rattle.columns.specs.Answers.{ruling};
 
 // Whether the numbers after the first never fall and end at `high`.
 fn climbs_to(high: usize, offsets: &[u64]) -> bool

@@ -1,6 +1,6 @@
 // A set's columns written: for each slot of a granule's rows where it starts, and the deltas of its targets.
 use crate::transpose::turn;
-use columns_rules::slots::index;
+use arrays::index;
 ghost use mathlib.Core.Path.{_≡_};
 ghost use mathlib.Core.Bool.{true};
 ghost use mathlib.Core.List.{[], map};

@@ -12,9 +12,9 @@ use Rattle.lists.specs.Lists.{any}
 use Rattle.lists.proofs.Tests.{both}
 use Rattle.columns.specs.Limits.{maxRecords}
 use Rattle.columns.specs.Refusal.{refuse, firstOf, Lent, short, limits}
-use Rattle.columns.specs.Answers.{labelColumns, checkedOf}
-use Rattle.columns.specs.declared.reading.Checked.{Checked}
-use Rattle.columns.specs.declared.reading.Checked.the-variants.{Kept, Broken}
+use Rattle.columns.specs.Answers.{labelColumns, ruling}
+use Rattle.columns.specs.declared.refusal.Ruling.{Ruling}
+use Rattle.columns.specs.declared.refusal.Ruling.the-variants.{Kept, Broken}
 use Rattle.columns.specs.declared.refusal.Refusal.the-variants.{OverRecords, SliceShort, CoverForm}
 use Rattle.columns.proofs.FirstBroken.{each-none, not-refused, passed}
 use Rattle.columns.proofs.Checks.{is-kept}
@@ -31,12 +31,12 @@ module _ (chains seqs s b c d : List ℕ) (lent : List Lent) where
   -- ── return by return ───────────────────────────────────────────────────────────────────────
 
   module _ {t : Bool} (e : t ≡ any (ltb maxRecords) (length chains ∷ length seqs ∷ length s ∷ length b ∷ length c ∷ length d ∷ [])) where
-    pub over-told : t ≡ true → Broken OverRecords ≡ checkedOf (buildRules (labelColumns chains seqs) (linkColumns s b c d) lent)
+    pub over-told : t ≡ true → Broken OverRecords ≡ ruling (buildRules (labelColumns chains seqs) (linkColumns s b c d) lent)
     unfolding buildRules firstOf
     over-told h = rw (limits-records lengths [] lent (sym e ∙ h))
 
     module _ (h : t ≡ false) {u : Bool} (f : u ≡ any short lent) where
-      pub short-told : u ≡ true → Broken SliceShort ≡ checkedOf (buildRules (labelColumns chains seqs) (linkColumns s b c d) lent)
+      pub short-told : u ≡ true → Broken SliceShort ≡ ruling (buildRules (labelColumns chains seqs) (linkColumns s b c d) lent)
       unfolding buildRules firstOf
       short-told m = rw (limits-short lengths [] lent (sym e ∙ h) (any-nil _) (sym f ∙ m))
 
@@ -44,17 +44,17 @@ module _ (chains seqs s b c d : List ℕ) (lent : List Lent) where
         within : limits lengths [] lent ≡ none
         within = limits-none lengths [] lent (sym e ∙ h) (any-nil _) (sym f ∙ m)
 
-        pub uneven-told : not v ≡ true → Broken CoverForm ≡ checkedOf (buildRules (labelColumns chains seqs) (linkColumns s b c d) lent)
+        pub uneven-told : not v ≡ true → Broken CoverForm ≡ ruling (buildRules (labelColumns chains seqs) (linkColumns s b c d) lent)
         unfolding buildRules firstOf
         uneven-told p = rw (within, sym g ∙ not-true v p)
 
-        pub kept-told : not v ≡ false → Kept ≡ checkedOf (buildRules (labelColumns chains seqs) (linkColumns s b c d) lent)
+        pub kept-told : not v ≡ false → Kept ≡ ruling (buildRules (labelColumns chains seqs) (linkColumns s b c d) lent)
         unfolding buildRules firstOf
         kept-told p = rw (within, sym g ∙ not-false v p)
 
   -- ── where all are kept ─────────────────────────────────────────────────────────────────────
 
-  module _ (k : Checked) (e : k ≡ checkedOf (buildRules (labelColumns chains seqs) (linkColumns s b c d) lent)) (h : k ≡ Kept) where
+  module _ (k : Ruling) (e : k ≡ ruling (buildRules (labelColumns chains seqs) (linkColumns s b c d) lent)) (h : k ≡ Kept) where
     none-broken : (limits lengths [] lent ≡ none) × (refuse CoverForm (not (evenColumns (linkColumns s b c d))) ≡ none)
     unfolding buildRules
     none-broken = let o = each-none (limits lengths [] lent ∷ refuse CoverForm (not (evenColumns (linkColumns s b c d))) ∷ []) (is-kept k _ e h) in (o .0, o .1 .0)
@@ -81,7 +81,7 @@ module _ (chains seqs s b c d : List ℕ) (lent : List Lent) where
 
 -- ── the lent slices ──────────────────────────────────────────────────────────────────────────
 
-module _ (chains seqs s b c d : List ℕ) (i m x p q r o : ℕ) (k : Checked) (e : k ≡ checkedOf (buildRules (labelColumns chains seqs) (linkColumns s b c d) (forRecords (i ∷ m ∷ x ∷ p ∷ q ∷ r ∷ o ∷ [])))) (h : k ≡ Kept) where
+module _ (chains seqs s b c d : List ℕ) (i m x p q r o : ℕ) (k : Ruling) (e : k ≡ ruling (buildRules (labelColumns chains seqs) (linkColumns s b c d) (forRecords (i ∷ m ∷ x ∷ p ∷ q ∷ r ∷ o ∷ [])))) (h : k ≡ Kept) where
   ranges-lent : (1024 ≤ i) × ((1024 ≤ m) × ((1024 ≤ x) × (any short (forRecords (p ∷ q ∷ r ∷ o ∷ [])) ≡ false)))
   ranges-lent =
       let f = long-first i _ (no-limit chains seqs s b c d _ k e h .1) in

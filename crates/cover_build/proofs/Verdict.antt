@@ -6,9 +6,9 @@ use Prim.Native.Nat.{ℕ}
 use lib.ListN.{length}
 use Rattle.columns.specs.Refusal.{Verdict, refused, accepted, unless, Lent}
 use Rattle.columns.specs.Reading.{labelsOf}
-use Rattle.columns.specs.Answers.{labelColumns, checkedOf}
-use Rattle.columns.specs.declared.reading.Checked.{Checked}
-use Rattle.columns.specs.declared.reading.Checked.the-variants.{Kept, Broken}
+use Rattle.columns.specs.Answers.{labelColumns, ruling}
+use Rattle.columns.specs.declared.refusal.Ruling.{Ruling}
+use Rattle.columns.specs.declared.refusal.Ruling.the-variants.{Kept, Broken}
 use Rattle.columns.specs.declared.refusal.Refusal.{Refusal}
 use Rattle.columns.proofs.Checks.{is-kept, is-broken}
 use Rattle.cover.specs.Chains.{rangesOf, sortLinks}
@@ -36,7 +36,7 @@ module _ (v : Verdict Cover) where
   unfolding rangesAfter
   ranges-written c o o′ e f = rw e f
 
-module _ (chains seqs s b c d : List ℕ) (lent : List Lent) (k : Checked) (e : k ≡ checkedOf (buildRules (labelColumns chains seqs) (linkColumns s b c d) lent)) where
+module _ (chains seqs s b c d : List ℕ) (lent : List Lent) (k : Ruling) (e : k ≡ ruling (buildRules (labelColumns chains seqs) (linkColumns s b c d) lent)) where
   abbrev rules : Option Refusal
   rules = buildRules (labelColumns chains seqs) (linkColumns s b c d) lent
 

@@ -1,8 +1,8 @@
 // Building a cover: the ranges of labels and the sorted links, from columns in any order.
 pub mod encode;
 
-use columns::reading::Checked;
 use columns::refusal::Refusal;
+use columns::refusal::Ruling;
 ghost use mathlib.Core.Path.{_≡_};
 ghost use mathlib.Core.List.{[], _∷_};
 ghost use Prim.Native.Nat.{_≤_};
@@ -12,7 +12,7 @@ ghost use Rattle.lists.specs.Lists.{any};
 ghost use Rattle.columns.specs.Limits.{maxRecords};
 ghost use Rattle.columns.specs.Refusal.{short};
 ghost use Rattle.columns.specs.Reading.{labelsOf};
-ghost use Rattle.columns.specs.Answers.{labelColumns, checkedOf};
+ghost use Rattle.columns.specs.Answers.{labelColumns, ruling};
 ghost use Rattle.cover.specs.Chains.{rangesOf};
 ghost use Rattle.cover.specs.Cover.{evenColumns, buildCover};
 ghost use Rattle.cover.specs.Answers.{rangeColumns, linkColumns, linksAfter, forRecords};
@@ -83,8 +83,8 @@ fn build_rules(
     b: usize,
     c: usize,
     d: usize,
-) -> Checked
-    ensures { λ r. ⌜ r ≡ checkedOf (buildRules (labelColumns (now (chains .entry)) (now (seqs .entry))) (linkColumns (now (fc .entry)) (now (fs .entry)) (now (tc .entry)) (now (ts .entry))) (forRecords (ids ∷ minima ∷ maxima ∷ a ∷ b ∷ c ∷ d ∷ []))) ⌝ }
+) -> Ruling
+    ensures { λ r. ⌜ r ≡ ruling (buildRules (labelColumns (now (chains .entry)) (now (seqs .entry))) (linkColumns (now (fc .entry)) (now (fs .entry)) (now (tc .entry)) (now (ts .entry))) (forRecords (ids ∷ minima ∷ maxima ∷ a ∷ b ∷ c ∷ d ∷ []))) ⌝ }
 {
     if six_over(
         chains.len(),
@@ -94,15 +94,15 @@ fn build_rules(
         tc.len(),
         ts.len(),
     ) {
-        return Checked::Broken(Refusal::OverRecords);
+        return Ruling::Broken(Refusal::OverRecords);
     }
     if seven_short(ids, minima, maxima, a, b, c, d) {
-        return Checked::Broken(Refusal::SliceShort);
+        return Ruling::Broken(Refusal::SliceShort);
     }
     if !are_even(fc, fs, tc, ts) {
-        return Checked::Broken(Refusal::CoverForm);
+        return Ruling::Broken(Refusal::CoverForm);
     }
-    Checked::Kept
+    Ruling::Kept
 }
 
 // How many labels two columns hold: as many as the shorter one.
@@ -169,11 +169,11 @@ pub fn build(
         d.len(),
     );
     match rules {
-        Checked::Kept => {
+        Ruling::Kept => {
             let ranges = write_ranges(chains, seqs, ids, minima, maxima);
             let links = cover_sort::sort_links(fc, fs, tc, ts, a, b, c, d);
             Built::Done(ranges, links)
         }
-        Checked::Broken(why) => Built::Refused(why),
+        Ruling::Broken(why) => Built::Refused(why),
     }
 }

@@ -21,8 +21,8 @@ use Rattle.columns.specs.declared.reading.Counted as columns
 use Rattle.columns_read.specs.Granules.{coverOf, decodedOf, setIn}
 use Rattle.columns_read.specs.declared.Decoded as granules
 use Rattle.columns_ask.specs.declared.Labelled as questions
-use Rattle.columns_rules.specs.declared.records.groups.Depth.the-variants.{Between, Unknown}
-use Rattle.columns_rules.specs.declared.records.groups.Depth.{Depth}
+use Rattle.columns.specs.declared.depth.Depth.the-variants.{Between, Unknown}
+use Rattle.columns.specs.declared.depth.Depth.{Depth}
 use Rattle.columns_encode.specs.Answered.{encodedOf, offsetsLaid, deltasLaid}
 use Rattle.columns_encode.specs.declared.kept.Encoded as encoding
 use Rattle.columns_build.specs.Lent.{graphOf}

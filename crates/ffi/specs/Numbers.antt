@@ -14,7 +14,7 @@ use Rattle.columns.specs.declared.reading.Counted as columns
 use Rattle.columns_read.specs.declared.Head.{Head}
 use Rattle.columns_read.specs.declared.Decoded as granules
 use Rattle.columns_ask.specs.declared.Labelled as questions
-use Rattle.columns_rules.specs.declared.records.groups.Depth as depths
+use Rattle.columns.specs.declared.depth.Depth as depths
 use Rattle.columns_encode.specs.declared.kept.Encoded as encoding
 use Rattle.columns_build.specs.declared.roots.Roots as roots
 use Rattle.columns_walk.specs.declared.Handed as walks

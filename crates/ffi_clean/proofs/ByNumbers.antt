@@ -15,8 +15,8 @@ use Rattle.columns.specs.declared.refusal.Refusal.the-variants.{SliceShort}
 use Rattle.cleaning.specs.Step as step
 use Rattle.cleaning.specs.Listing.{listing}
 use Rattle.run_text.specs.files.Files.{listingRoom}
-use Rattle.run_write.specs.declared.Writing.{Writing}
-use Rattle.run_write.specs.declared.Writing.the-variants.{Length, Refused}
+use Rattle.run_state.specs.declared.Writing.{Writing}
+use Rattle.run_state.specs.declared.Writing.the-variants.{Length, Refused}
 use Rattle.run_clean.specs.Cleans.{writtenFrom, Gives}
 use Rattle.run.specs.View.{view}
 use Rattle.run.specs.Contracts.{Writes}

@@ -11,8 +11,8 @@ use Rattle.cleaning.specs.Step as step
 use Rattle.cleaning.specs.Listing.{listing}
 use Rattle.run_text.specs.files.Files.{listingRoom}
 use Rattle.messages.specs.words.Words.{table}
-use Rattle.run_write.specs.declared.Writing.{Writing}
-use Rattle.run_write.specs.declared.Writing.the-variants.{Length, Refused}
+use Rattle.run_state.specs.declared.Writing.{Writing}
+use Rattle.run_state.specs.declared.Writing.the-variants.{Length, Refused}
 use Rattle.ffi_clean.specs.declared.Answer.{Answer}
 
 -- a length, or a refusal

@@ -3,7 +3,7 @@
 use columns::refusal::Refusal;
 use columns::refusal::number;
 use run::Run;
-use run_write::Writing;
+use run_state::Writing;
 ghost use mathlib.Core.Path.{_≡_};
 ghost use Rattle.run_clean.specs.Cleans.{writtenFrom, cleanedFrom};
 ghost use Rattle.run.specs.View.{view};

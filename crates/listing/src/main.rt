@@ -1,7 +1,7 @@
 // Document 01's listing program: an archive of at most 65,536 bytes on standard input, its listing or the one line `refused N` on standard output.
 use libc::STDIN_FILENO;
 use libc::STDOUT_FILENO;
-use run_write::Writing;
+use run_state::Writing;
 
 fn list(bytes: &[u8]) {
     let mut out = messages::text_room();

@@ -1,4 +1,5 @@
 // A line of plain words for each refusal, by which a host knows what to look at.
+use arrays::index;
 use columns::refusal::Refusal;
 use columns::refusal::number;
 use run_text::lines::put_word;
@@ -58,12 +59,6 @@ const STARTS: [usize; 45] = [
     1949,
     2049,
 ];
-
-fn index(n: u64) -> usize
-    ensures { λ r. ⌜ r ≡ n ⌝ }
-{
-    n as usize
-}
 
 // Where the words of a number start, or after the last one all words end.
 fn start(i: usize) -> usize

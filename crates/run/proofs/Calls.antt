@@ -14,7 +14,7 @@ use Rattle.cleaning.specs.Runs.{RunState, taking, resolved, runOutcome, runStep
 use Rattle.cleaning.specs.Held.{holdMore, archiveHeld}
 use Rattle.cleaning.specs.Cleaning.{mapped, reparented}
 use Rattle.archive.specs.Parse.{parse}
-use Rattle.columns_rules.specs.declared.slots.Ruling.the-variants.{Kept, Broken}
+use Rattle.columns.specs.declared.refusal.Ruling.the-variants.{Kept, Broken}
 use Rattle.run_state.specs.View.{sheetIn, heldIn}
 use Rattle.run_state.specs.Valid.{sheetOk, heldOk}
 use Rattle.run_state.specs.order.Ordered.{ordered, filled}
@@ -26,8 +26,8 @@ use Rattle.run_resolve.specs.declared.Resolution.{Resolution}
 use Rattle.run_resolve.specs.declared.asked.Mapped.{Mapped}
 use Rattle.run_resolve.specs.declared.asked.Mapped.the-variants.{To, Nothing}
 use Rattle.run_write.specs.Answers.{answerOf, Wrote}
-use Rattle.run_write.specs.declared.Writing.{Writing}
-use Rattle.run_write.specs.declared.Writing.the-variants as writing
+use Rattle.run_state.specs.declared.Writing.{Writing}
+use Rattle.run_state.specs.declared.Writing.the-variants as writing
 use Rattle.run.specs.View.{view, phased, holdable, writable, isTaking, isResolved}
 use Rattle.run.specs.Contracts.{Steps, Writes, Maps, Counts}
 use Rattle.run.specs.declared.Run.{Run}

@@ -11,8 +11,8 @@ use Rattle.columns.specs.declared.refusal.Refusal.the-variants.{OutOfTurn}
 use Rattle.cleaning.specs.Step.{counts}
 use Rattle.cleaning.specs.Runs.{RunState, taking, resolved, spoiled, runStep}
 use Rattle.run_state.specs.View.{sheetIn, heldIn}
-use Rattle.run_write.specs.declared.Writing.{Writing}
-use Rattle.run_write.specs.declared.Writing.the-variants as writing
+use Rattle.run_state.specs.declared.Writing.{Writing}
+use Rattle.run_state.specs.declared.Writing.the-variants as writing
 use Rattle.run_list.specs.Listed.{Ready, Lists}
 use Rattle.run.specs.View.{view, isResolved}
 use Rattle.run.specs.Listed.{listedIn, ListsOf}

@@ -14,7 +14,7 @@ use Rattle.cleaning.specs.Held as run
 use Rattle.cleaning.specs.Held.{holdMore}
 use Rattle.cleaning.specs.Sheet as sheets
 use Rattle.archive.specs.Parse.{parse}
-use Rattle.columns_rules.specs.declared.slots.Ruling.the-variants.{Kept, Broken}
+use Rattle.columns.specs.declared.refusal.Ruling.the-variants.{Kept, Broken}
 use Rattle.run_state.specs.declared.Held.{Held}
 use Rattle.run_state.specs.View.{sheetIn, heldIn}
 use Rattle.run_state.specs.Valid.{heldOk}
@@ -25,7 +25,7 @@ use Rattle.run_resolve.specs.Outcome.{rulesIn, newIn, ResolvedBy}
 use Rattle.run_resolve.specs.declared.Resolution.{Resolution}
 use Rattle.run_write.proofs.Rest.{kept-none, broken-some}
 use Rattle.run_write.specs.Answers.{answerOf, Wrote}
-use Rattle.run_write.specs.declared.Writing.{Writing}
+use Rattle.run_state.specs.declared.Writing.{Writing}
 
 -- ── taking ───────────────────────────────────────────────────────────────────────────────────
 

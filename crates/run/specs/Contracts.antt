@@ -8,7 +8,7 @@ use lib.ListN.{length, drop}
 use Rattle.cleaning.specs.Step.{Call, writes, maps, counts, Answer, refused, done, told, counted}
 use Rattle.cleaning.specs.Runs.{runOutcome, runStep}
 use Rattle.run_write.specs.Answers.{lengthOf, answerOf}
-use Rattle.run_write.specs.declared.Writing.{Writing}
+use Rattle.run_state.specs.declared.Writing.{Writing}
 use Rattle.run.specs.View.{view}
 use Rattle.run.specs.declared.Run.{Run}
 use Rattle.run.specs.declared.Reply.{Reply}

@@ -10,7 +10,7 @@ use Rattle.cleaning.specs.Sheet.{summaryOf}
 use Rattle.cleaning.specs.Held.{archiveHeld}
 use Rattle.cleaning.specs.Runs.{RunState, taking, resolved, spoiled}
 use Rattle.run_write.specs.Answers.{lengthOf}
-use Rattle.run_write.specs.declared.Writing.{Writing}
+use Rattle.run_state.specs.declared.Writing.{Writing}
 use Rattle.run_list.specs.Listed.{listed, verdictOf}
 use Rattle.run.specs.View.{view}
 use Rattle.run.specs.declared.Run.{Run}

@@ -12,7 +12,7 @@ use Rattle.cleaning.specs.History.{Did, did, archiveIn, Wrote, cleaned}
 use Rattle.cleaning.specs.Alike.{Alike}
 use Rattle.cleaning.specs.Accepted.{archiveOfFiles, Cleanable}
 use Rattle.run_write.specs.Answers.{answerOf}
-use Rattle.run_write.specs.declared.Writing.{Writing}
+use Rattle.run_state.specs.declared.Writing.{Writing}
 use Rattle.run.specs.View.{view}
 use Rattle.run.specs.Contracts.{replied, numbered, countedAs, Steps, Writes, Maps, Counts}
 use Rattle.run.specs.declared.Run.{Run}

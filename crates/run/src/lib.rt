@@ -3,11 +3,11 @@ pub mod listing;
 mod turns;
 
 use columns::refusal::Refusal;
-use columns_rules::slots::Ruling;
+use columns::refusal::Ruling;
 use run_resolve::asked::Mapped;
 use run_state::Held;
 use run_state::Sheet;
-use run_write::Writing;
+use run_state::Writing;
 ghost use mathlib.Core.Path.{_≡_};
 ghost use Rattle.cleaning.specs.Step.{takes, resolves};
 ghost use Rattle.cleaning.specs.Runs.{freshRun};

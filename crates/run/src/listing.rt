@@ -2,7 +2,7 @@
 use crate::Run;
 use crate::turns;
 use columns::refusal::Refusal;
-use run_write::Writing;
+use run_state::Writing;
 ghost use Rattle.run.specs.Listed.{ListsOf};
 
 // Writes the listing into lent bytes, and answers its length.

@@ -8,9 +8,9 @@ use lib.ListN.{length}
 use Rattle.lists.specs.Lists.{Each}
 use Rattle.columns.specs.Refusal as verdict
 use Rattle.columns.specs.declared.refusal.Refusal.{Refusal}
-use Rattle.columns_rules.specs.Ruled.{ruling}
-use Rattle.columns_rules.specs.declared.slots.Ruling.{Ruling}
-use Rattle.columns_rules.specs.declared.slots.Ruling.the-variants.{Kept, Broken}
+use Rattle.columns.specs.Answers.{ruling}
+use Rattle.columns.specs.declared.refusal.Ruling.{Ruling}
+use Rattle.columns.specs.declared.refusal.Ruling.the-variants.{Kept, Broken}
 use Rattle.archive.specs.Fits.{FileFits}
 use Rattle.archive.specs.Parse.{parse}
 use Rattle.cleaning.specs.Step.{Call, takes, resolves, Answer, refused, done}
@@ -28,8 +28,8 @@ use Rattle.run_take.proofs.Answers.{not-held, rules-kept, is-archive, now-held}
 use Rattle.run_resolve.specs.Outcome.{ResolvedBy}
 use Rattle.run_resolve.specs.declared.Resolution.{Resolution}
 use Rattle.run_write.specs.Answers.{Wrote}
-use Rattle.run_write.specs.declared.Writing.{Writing}
-use Rattle.run_write.specs.declared.Writing.the-variants.{Refused}
+use Rattle.run_state.specs.declared.Writing.{Writing}
+use Rattle.run_state.specs.declared.Writing.the-variants.{Refused}
 use Rattle.run.proofs.OverHeld.{resolving-refused, resolving-done, sheet-written}
 use Rattle.run.proofs.Views.{fresh-order}
 use Rattle.run_clean.specs.Cleans.{after, writtenFrom, resolvedFrom, cleanedFrom, Gives}

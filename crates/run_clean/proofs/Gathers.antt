@@ -9,7 +9,7 @@ use Rattle.lists.specs.Lists.{all}
 use Rattle.lists.specs.Order.{notFalling}
 use Rattle.columns.specs.Building.{inFile}
 use Rattle.columns.specs.declared.refusal.Refusal.the-variants.{GroupOrder, OverNumbers, NoSurvivor}
-use Rattle.columns_rules.specs.declared.slots.Ruling.the-variants.{Kept, Broken}
+use Rattle.columns.specs.declared.refusal.Ruling.the-variants.{Kept, Broken}
 use Rattle.run_renumber.specs.NewLists.{newLists}
 use Rattle.run_renumber.specs.declared.Grown.{Grown}
 use Rattle.run_renumber.specs.declared.Grown.the-variants.{Upto, Full}

@@ -6,7 +6,7 @@ use lib.ListN.{length, drop}
 use Rattle.cleaning.specs.Step.{takes, resolves, writes, Answer, refused, done, wrote, told, counted}
 use Rattle.cleaning.specs.Runs.{RunState, freshRun, runStep}
 use Rattle.run_write.specs.Answers.{lengthOf, answerOf}
-use Rattle.run_write.specs.declared.Writing.{Writing}
+use Rattle.run_state.specs.declared.Writing.{Writing}
 
 -- what follows an answer: nothing where it is a refusal
 abbrev pub after : Answer → Answer → Answer

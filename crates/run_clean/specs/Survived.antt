@@ -5,7 +5,7 @@ use mathlib.Core.List.{List}
 use Prim.Native.Nat.{ℕ}
 use Rattle.columns.specs.Refusal.{refused, accepted}
 use Rattle.columns.specs.declared.refusal.Refusal.{Refusal}
-use Rattle.columns_rules.specs.declared.slots.Ruling.the-variants.{Broken}
+use Rattle.columns.specs.declared.refusal.Ruling.the-variants.{Broken}
 use Rattle.archive.specs.Parse.{parse}
 use Rattle.cleaning.specs.Held.{nothing, holdMore}
 use Rattle.run_state.specs.declared.Held.{Held}

@@ -3,7 +3,7 @@
 pub mod parts;
 
 use columns::refusal::Refusal;
-use columns_rules::slots::Ruling;
+use columns::refusal::Ruling;
 use parts::fill_links;
 use parts::fill_lists;
 use parts::fill_roots;
@@ -20,6 +20,7 @@ use run_state::Roots;
 use run_state::Rows;
 use run_state::Sheet;
 use run_state::Unresolved;
+use run_state::Writing;
 use run_state::empty::fresh;
 use run_state::order::is_filled;
 use run_state::order::long::held_long;
@@ -28,7 +29,6 @@ use run_store::names::grow_names;
 use run_store::names::names_of;
 use run_take::known_of;
 use run_take::rules_by;
-use run_write::Writing;
 use run_write::write_sheet;
 ghost use mathlib.Core.Path.{_≡_};
 ghost use Rattle.run_clean.specs.Cleans.{cleanedFrom, Gives};

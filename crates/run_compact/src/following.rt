@@ -1,14 +1,9 @@
 // Records of rows: whether the row that each names is erased, and the row's new number.
+use arrays::index;
 ghost use mathlib.Core.Path.{_≡_};
 ghost use Prim.Native.Nat.{_-_, _≤_};
 ghost use lib.ListN.{length, take, getD};
 ghost use Rattle.run_compact.specs.Columns.{flagsOf, newRows};
-
-fn index(x: u64) -> usize
-    ensures { λ r. ⌜ r ≡ x ⌝ }
-{
-    x as usize
-}
 
 // What is left of x, 0 where y is greater.
 fn less(x: u64, y: u64) -> u64

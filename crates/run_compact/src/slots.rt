@@ -1,4 +1,5 @@
 // The lists of the rows that survive, out of the lists of all rows: a table of offsets and a column of numbers.
+use arrays::index;
 ghost use mathlib.Core.Path.{_≡_};
 ghost use mathlib.Core.Bool.{true};
 ghost use mathlib.Core.List.{[], _∷_, _++_};
@@ -13,12 +14,6 @@ ghost use Rattle.run_compact.specs.Columns.{gone};
 ghost use Rattle.run_compact.specs.slots.Slots.{slotsFrom};
 
 const KINDS: usize = 2;
-
-fn index(x: u64) -> usize
-    ensures { λ r. ⌜ r ≡ x ⌝ }
-{
-    x as usize
-}
 
 // targets[a..b] behind all[..end].
 fn append(all: &mut [u64], end: usize, targets: &[u64], a: usize, b: usize) -> usize

@@ -16,7 +16,7 @@ use Rattle.lists.proofs.Filters.{each-below}
 use Rattle.columns.specs.Refusal.{accepted, unless, refuse, firstOf}
 use Rattle.columns.specs.declared.refusal.Refusal.{Refusal}
 use Rattle.columns.specs.declared.refusal.Refusal.the-variants.{SliceShort}
-use Rattle.columns_rules.specs.declared.slots.Ruling.the-variants.{Kept, Broken}
+use Rattle.columns.specs.declared.refusal.Ruling.the-variants.{Kept, Broken}
 use Rattle.cleaning.specs.Sections.{Tidy, Filled, sectionFile, sectionRules}
 use Rattle.cleaning.specs.Writing.{outputOf, outputs, groupNumbers}
 use Rattle.cleaning.specs.Listing.{listingText}
@@ -31,7 +31,7 @@ use Rattle.run_state.proofs.order.TidySheets.{tidy-sheet, filled-sheet}
 use Rattle.run_resolve.proofs.sheet.Asking.{few-held}
 use Rattle.run_resolve.specs.Outcome.{archiveIn}
 use Rattle.run_write.proofs.Rest.{kept-none, broken-some}
-use Rattle.run_write.specs.declared.Writing.the-variants.{Length, Refused}
+use Rattle.run_state.specs.declared.Writing.the-variants.{Length, Refused}
 use Rattle.run_text.specs.numbers.Wrote.{Wrote}
 use Rattle.run_list.specs.Need.{listingNeed}
 use Rattle.run_list.specs.Groups.{sectionFiles, NeededBy}

@@ -10,8 +10,8 @@ use Rattle.lists.specs.Lists.{flat, upFrom, sum}
 use Rattle.lists.proofs.Flat.{length-map-upFrom}
 use Rattle.columns.specs.declared.refusal.Refusal.{Refusal}
 use Rattle.archive.specs.File.{File}
-use Rattle.columns_rules.specs.Ruled.{ruling}
-use Rattle.columns_rules.specs.declared.slots.Ruling.the-variants.{Kept, Broken}
+use Rattle.columns.specs.Answers.{ruling}
+use Rattle.columns.specs.declared.refusal.Ruling.the-variants.{Kept, Broken}
 use Rattle.cleaning.specs.Listing.{fileLines}
 use Rattle.cleaning.specs.Sheet as plain
 use Rattle.cleaning.specs.Sections.{sectionGraph, sectionFile, sectionRules}
@@ -111,7 +111,6 @@ module _ (s : plain.Sheet) (g n : ℕ) {r : GroupFile} (m : Made s g r) (h : g <
 module _ (s : Sheet) (g n : ℕ) where
   pub need-known : (t : ℕ) → sectionRules (sheetIn s) ≡ rulesFrom (sheetIn s) g n → filesNeed (sectionFiles (sheetIn s)) ≡ t + needFrom (sheetIn s) g n → n ≤ g
       → g ≤ n → n ≤ 16 → t ≤ g * 387296 → NeededBy (sheetIn s) (record { ruling = Kept; bytes = t })
-  unfolding ruling
   need-known t e f h a b d = record {
     rules = rw (e, rules-end (sheetIn s) g n h);
     bytes-are = λ k. omega (arith, f, need-end (sheetIn s) g n h);
@@ -124,7 +123,6 @@ module _ (s : Sheet) (g n : ℕ) where
   lines-done v h u = parts-end v (lines-end (sheetIn s) g n h) (omega arith)
 
 pub need-refused : (s : Sheet) (x : Refusal) → Broken x ≡ ruling (sectionRules (sheetIn s)) → NeededBy (sheetIn s) (record { ruling = Broken x; bytes = 0 })
-unfolding ruling
 need-refused s x e = record {
   rules = e;
   bytes-are = λ k. let f : Broken x ≡ Kept = e ∙ ap ruling k in let z : _≡_ {A = ℕ} 0 1 = cc in absurd (omega arith);

@@ -7,7 +7,7 @@ use lib.ListN.{length}
 use Rattle.lists.specs.Lists.{upFrom}
 use Rattle.columns.specs.Limits.{maxRecords, maxNumbers}
 use Rattle.archive.specs.File.{File}
-use Rattle.columns_rules.specs.Ruled.{ruling}
+use Rattle.columns.specs.Answers.{ruling}
 use Rattle.cleaning.specs.Sheet.{Sheet}
 use Rattle.cleaning.specs.Sections.{sectionFile, sectionRules}
 use Rattle.run_state.specs.declared.output.OutFile.{OutFile}

@@ -19,8 +19,8 @@ use Rattle.run_state.specs.declared.Held as holds
 use Rattle.run_state.specs.Valid.{sheetOk, heldOk}
 use Rattle.run_state.specs.order.Ordered.{ordered, filled}
 use Rattle.run_write.specs.Answers.{lengthOf}
-use Rattle.run_write.specs.declared.Writing.{Writing}
-use Rattle.run_write.specs.declared.Writing.the-variants.{Length, Refused}
+use Rattle.run_state.specs.declared.Writing.{Writing}
+use Rattle.run_state.specs.declared.Writing.the-variants.{Length, Refused}
 use Rattle.run_list.specs.Need.{listingNeed}
 
 -- columns of a resolved run: what it holds, and the sheet of its survivors

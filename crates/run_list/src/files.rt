@@ -1,5 +1,5 @@
 // The lines of the output files, and the bytes that they take at most.
-use columns_rules::slots::Ruling;
+use columns::refusal::Ruling;
 use run_output::by_value::group_file;
 use run_state::Sheet;
 use run_state::order::long::sheet_long;

@@ -3,13 +3,13 @@ mod files;
 mod maps;
 
 use columns::refusal::Refusal;
-use columns_rules::slots::Ruling;
+use columns::refusal::Ruling;
 use run_state::Held;
 use run_state::Sheet;
+use run_state::Writing;
 use run_state::order::long::held_long;
 use run_state::order::long::sheet_long;
 use run_text::lines::put_reparented;
-use run_write::Writing;
 ghost use mathlib.Core.Path.{_≡_};
 ghost use mathlib.Core.Option.{none};
 ghost use Prim.Native.Nat.{_≤_};

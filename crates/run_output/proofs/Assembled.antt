@@ -13,8 +13,8 @@ use Rattle.columns_encode.specs.declared.writing.Counts.{Counts}
 use Rattle.columns_encode.specs.declared.kept.Encoded.{Encoded}
 use Rattle.columns_encode.specs.declared.kept.Encoded.the-variants.{Edges, Refused}
 use Rattle.cleaning.specs.Sections.{between, coverWhere, sectionUnresolved, sectionRoots, sectionGraph, sectionFileOf, sectionFile}
-use Rattle.columns_rules.specs.Ruled.{ruling}
-use Rattle.columns_rules.specs.declared.slots.Ruling.the-variants.{Kept, Broken}
+use Rattle.columns.specs.Answers.{ruling}
+use Rattle.columns.specs.declared.refusal.Ruling.the-variants.{Kept, Broken}
 use Rattle.run_state.specs.declared.Sheet.{Sheet}
 use Rattle.run_state.specs.declared.Roots.{Roots}
 use Rattle.run_state.specs.declared.Unresolved.{Unresolved}
@@ -79,7 +79,6 @@ module _ (s : Sheet) (g a b : ℕ) (l : LongSheet s) (k : sheetOk s ≡ true) (o
 module _ (s : Sheet) (g n : ℕ) (e : Encoded) (fo : List ℕ) (fd : List ℤ) (ro : List ℕ) (rd : List ℤ) (io : List ℕ) (id : List ℤ)
     (m : SetsBy (judged (sectionGraph (sheetIn s) g)) n (lentSets e fo fd ro rd io id)) (at : ℕ) (was : List ℕ) where
   pub put-broken : (x : Refusal) (is : List ℕ) → e ≡ Refused x → PutBy (sheetIn s) g at was is (record { ruling = Broken x; length = 0 })
-  unfolding ruling
   put-broken x is d =
       let w = broken-rule s g n _ (value-refused _ n e fo fd ro rd io id m x d (setsOf 0 0 0 fo fd ro rd io id)) x refl in
       record { rules = rw w; file = λ h. let z : _≡_ {A = ℕ} 0 1 = cc in absurd (omega arith) }
@@ -90,7 +89,7 @@ module _ (s : Sheet) (g n : ℕ) (e : Encoded) (fo : List ℕ) (fd : List ℤ) (
 
     pub put-kept : {is : List ℕ} {k : ℕ} → Stored (sectionFileOf (sheetIn s) g (builtIn n (setsOf (c .forward) (c .reverse) (c .inbound) fo fd ro rd io id))) at was is k
         → PutBy (sheetIn s) g at was is (record { ruling = Kept; length = k })
-    unfolding ruling sectionFile
+    unfolding sectionFile
     put-kept {is} {k} q =
         let w = held-sets s g n _ (value-built _ n e fo fd ro rd io id m c d) refl in
         record { rules = rw (w .0); file = λ h. subst (λ b. Stored (sectionFileOf (sheetIn s) g b) at was is k) (w .1 .sets) q }

@@ -6,7 +6,7 @@ use Prim.Native.Nat.{ℕ}
 use Rattle.columns.specs.Building.{buildRules}
 use Rattle.cleaning.specs.Sheet.{Sheet}
 use Rattle.cleaning.specs.Sections.{sectionGraph, sectionFile}
-use Rattle.columns_rules.specs.Ruled.{ruling}
+use Rattle.columns.specs.Answers.{ruling}
 use Rattle.run_file.specs.Stored.{Stored}
 use Rattle.run_output.specs.declared.Put.{Put}
 

@@ -1,5 +1,5 @@
 // The output file of one group of a run's survivors, by value.
-use columns_rules::slots::Ruling;
+use columns::refusal::Ruling;
 use run_group::covers::part_cover;
 use run_group::parts::group_place;
 use run_group::parts::part_head;

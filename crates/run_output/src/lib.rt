@@ -1,8 +1,8 @@
 // The output file of one group of a run's survivors, built once: the first rule that it breaks, or how long it is; where it has room, it is written.
 pub mod by_value;
 
+use columns::refusal::Ruling;
 use columns_encode::kept::Encoded;
-use columns_rules::slots::Ruling;
 use run_file::put_bare;
 use run_file::put_covered;
 use run_group::covers::part_cover;

@@ -11,7 +11,7 @@ use mir.Val.{Fits}
 use borrow.Author.Tests.{lt-ltb, le-ltb}
 use Rattle.columns.specs.declared.refusal.Refusal.{Refusal}
 use Rattle.columns.specs.declared.refusal.Refusal.the-variants.{SliceShort}
-use Rattle.columns_rules.specs.declared.slots.Ruling.the-variants.{Kept, Broken}
+use Rattle.columns.specs.declared.refusal.Ruling.the-variants.{Kept, Broken}
 use Rattle.archive.specs.Parse.{parse}
 use Rattle.cleaning.specs.Step.{takes}
 use Rattle.cleaning.specs.Held.{nothing, holdMore}
@@ -26,8 +26,8 @@ use Rattle.run_take.specs.declared.Taken.{Taken}
 use Rattle.run_take.proofs.Answers.{files-fit}
 use Rattle.run_resolve.specs.Outcome.{ResolvedBy}
 use Rattle.run_resolve.specs.declared.Resolution.{Resolution}
-use Rattle.run_write.specs.declared.Writing.{Writing}
-use Rattle.run_write.specs.declared.Writing.the-variants.{Length, Refused}
+use Rattle.run_state.specs.declared.Writing.{Writing}
+use Rattle.run_state.specs.declared.Writing.the-variants.{Length, Refused}
 use Rattle.run_text.specs.numbers.Wrote.{Wrote}
 use Rattle.run_list.specs.Listed.{Ready, verdictOf, Lists}
 use Rattle.run.specs.Listed.{listedIn}

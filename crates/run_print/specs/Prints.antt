@@ -12,8 +12,8 @@ use Rattle.cleaning.specs.Step.{resolves}
 use Rattle.cleaning.specs.Runs.{RunState, runStep}
 use Rattle.cleaning.specs.Listing.{refusedLine, afterwards, listing}
 use Rattle.run_text.specs.files.Files.{listingRoom}
-use Rattle.run_write.specs.declared.Writing.{Writing}
-use Rattle.run_write.specs.declared.Writing.the-variants.{Length, Refused}
+use Rattle.run_state.specs.declared.Writing.{Writing}
+use Rattle.run_state.specs.declared.Writing.the-variants.{Length, Refused}
 use Rattle.run.specs.Listed.{listedIn}
 
 -- a text from the first byte on; past it all is as it was

@@ -1,9 +1,9 @@
 // The listing of an archive's bytes: all that the listing program prints. The steps are made on what a run holds, and no run is made.
 use columns::refusal::Refusal;
-use columns_rules::slots::Ruling;
+use columns::refusal::Ruling;
 use run_state::Held;
+use run_state::Writing;
 use run_text::lines::put_refused;
-use run_write::Writing;
 ghost use mathlib.Core.Path.{_≡_};
 ghost use mathlib.Core.Bool.{true};
 ghost use Prim.Native.Nat.{_≤_};

@@ -1,4 +1,5 @@
 // The inner loops of resolving, over flat columns: new numbers, new lists slot by slot, the count of reparented survivors. specs/ says what each is.
+use arrays::index;
 ghost use mathlib.Core.Path.{_≡_};
 ghost use mathlib.Core.Bool.{true};
 ghost use mathlib.Core.List.{[], _∷_, _++_, foldl};
@@ -19,12 +20,6 @@ const KINDS: usize = 2;
 pub enum Grown {
     Upto(usize),
     Full,
-}
-
-fn index(x: u64) -> usize
-    ensures { λ r. ⌜ r ≡ x ⌝ }
-{
-    x as usize
 }
 
 // The flag at a place, 0 past the end.

@@ -10,9 +10,9 @@ use Rattle.lists.proofs.Tests.{both}
 use Rattle.columns.specs.Refusal.{firstOf}
 use Rattle.columns.specs.declared.refusal.Refusal.{Refusal}
 use Rattle.columns.specs.declared.refusal.Refusal.the-variants.{GroupOrder, OverNumbers, NoSurvivor}
-use Rattle.columns_rules.specs.Ruled.{ruling}
-use Rattle.columns_rules.specs.declared.slots.Ruling.{Ruling}
-use Rattle.columns_rules.specs.declared.slots.Ruling.the-variants.{Kept, Broken}
+use Rattle.columns.specs.Answers.{ruling}
+use Rattle.columns.specs.declared.refusal.Ruling.{Ruling}
+use Rattle.columns.specs.declared.refusal.Ruling.the-variants.{Kept, Broken}
 use Rattle.cleaning.specs.Runs.{heldRules}
 use Rattle.run_state.specs.declared.Sheet.{Sheet}
 use Rattle.run_state.specs.declared.Held.{Held}
@@ -39,7 +39,6 @@ not-kept x e k = let z : _≡_ {A = ℕ} 0 1 = cc in omega arith
 
 -- a refusal
 broken-by : (h : Held) (x : Refusal) (r : Resolution) → r .ruling ≡ Broken x → rulesIn h ≡ some x → ResolvedBy h r
-unfolding ruling
 broken-by h x r e f = record {
   ruled = rw f e;
   view = λ k. absurd (not-kept x e k);
@@ -67,7 +66,7 @@ module _ (h : Held) where
       group-lost r b e = broken-by h NoSurvivor r e (rw (some-listed _ (h .sheet .groups .count) n, ← k .over, o, ← w .reached, ← g, not-true a b))
 
       pub all-kept : not a ≡ false → ResolvedBy h (record { sheet = s; ruling = Kept })
-      unfolding rulesIn heldRules firstOf heldIn sheetIn ruling
+      unfolding rulesIn heldRules firstOf heldIn sheetIn
       all-kept b = record {
         ruled = rw (some-listed _ (h .sheet .groups .count) n, ← k .over, o, ← w .reached, ← g, not-false a b);
         view = λ _. w .view;

@@ -4,8 +4,8 @@ use mathlib.Core.Option.{Option, none, some}
 use Prim.Native.Nat.{ℕ}
 use native.Mathlib.Omega.{arith}
 use Rattle.columns.specs.declared.refusal.Refusal.{Refusal}
-use Rattle.columns_rules.specs.Ruled.{ruling}
-use Rattle.columns_rules.specs.declared.slots.Ruling.the-variants.{Kept, Broken}
+use Rattle.columns.specs.Answers.{ruling}
+use Rattle.columns.specs.declared.refusal.Ruling.the-variants.{Kept, Broken}
 use Rattle.cleaning.specs.Step.{refused, done}
 use Rattle.cleaning.specs.Survivors.{survivorSheet}
 use Rattle.cleaning.specs.Runs.{taking, resolved, runOutcome, resolveInto, resolveHeld}
@@ -15,12 +15,10 @@ use Rattle.run_resolve.specs.declared.Resolution.{Resolution}
 use Rattle.run_resolve.specs.Outcome.{newIn, rulesIn, ResolvedBy}
 
 none-broken : (o : Option Refusal) → ruling o ≡ Kept → o ≡ none
-unfolding ruling
 none-broken none e = refl
 none-broken (some x) e = let z : _≡_ {A = ℕ} 0 1 = cc in absurd (omega arith)
 
 one-broken : (o : Option Refusal) (x : Refusal) → ruling o ≡ Broken x → o ≡ some x
-unfolding ruling
 one-broken none x e = let z : _≡_ {A = ℕ} 0 1 = cc in absurd (omega arith)
 one-broken (some y) x e = cc
 

@@ -8,8 +8,8 @@ use lib.Dec.{ltb}
 use lib.ListN.{length, take}
 use Rattle.columns.specs.Limits.{maxNumbers}
 use Rattle.columns.specs.declared.refusal.Refusal.{Refusal}
-use Rattle.columns_rules.specs.Ruled.{ruling}
-use Rattle.columns_rules.specs.declared.slots.Ruling.the-variants.{Kept}
+use Rattle.columns.specs.Answers.{ruling}
+use Rattle.columns.specs.declared.refusal.Ruling.the-variants.{Kept}
 use Rattle.cleaning.specs.Archive.{Archive}
 use Rattle.cleaning.specs.Memo.{tables}
 use Rattle.cleaning.specs.Resolving.{entries, groupsSurvive}

@@ -39,7 +39,7 @@ pub fn new_number(h: Held, old: u64) -> Mapped
     if old < start {
         return Mapped::Nothing;
     }
-    let i = columns_rules::slots::index(old - start);
+    let i = arrays::index(old - start);
     let n = h.sheet.rows.count;
     if n <= i {
         return Mapped::Nothing;

@@ -8,7 +8,7 @@ pub mod survivor_sheet;
 
 use crate::parents::Renewed;
 use columns::refusal::Refusal;
-use columns_rules::slots::Ruling;
+use columns::refusal::Ruling;
 use run_state::Edges;
 use run_state::Held;
 use run_state::Sheet;

@@ -1,12 +1,12 @@
 // 42 and 43 of a taking: what a run holds and what an archive adds, together.
 use archive_read::files::Totals;
 use columns::refusal::Refusal;
-use columns_rules::slots::Ruling;
+use columns::refusal::Ruling;
 use run_state::Held;
 ghost use mathlib.Core.Path.{_≡_};
 ghost use Prim.Native.Nat.{_+_};
 ghost use lib.Dec.{ltb};
-ghost use Rattle.columns_rules.specs.Ruled.{ruling};
+ghost use Rattle.columns.specs.Answers.{ruling};
 ghost use Rattle.run_rules.specs.limits.Figures.{figures, manyRecords, manyNumbers, limitRules};
 
 // Whether so many, and so many more, are over a limit.

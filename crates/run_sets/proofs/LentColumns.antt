@@ -15,8 +15,8 @@ use Rattle.lists.proofs.Flat.{map-ext, length-map-upFrom}
 use Rattle.columns.specs.EdgeSet.{offsetsForm, cut}
 use Rattle.columns.specs.Building.{UnresolvedColumns}
 use Rattle.columns_rules.specs.records.Recorded.{depthOf, labelsGiven}
-use Rattle.columns_rules.specs.declared.records.groups.Depth as given
-use Rattle.columns_rules.specs.declared.records.groups.Depth.the-variants.{Unknown, Between}
+use Rattle.columns.specs.declared.depth.Depth as given
+use Rattle.columns.specs.declared.depth.Depth.the-variants.{Unknown, Between}
 use Rattle.archive.specs.File.{Unresolved}
 use Rattle.cleaning.specs.Writing.{unresolvedColumns}
 use Rattle.cleaning.proofs.Parts.{map-part}

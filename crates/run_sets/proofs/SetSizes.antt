@@ -19,7 +19,7 @@ use Rattle.columns.specs.Building.{UnresolvedColumns, Depth, Built, inFile, rev
 use Rattle.columns.specs.declared.refusal.Refusal.{Refusal}
 use Rattle.columns.proofs.Offsets.{form-climbs}
 use Rattle.columns.proofs.ReadBack.{set-count, cut-joined}
-use Rattle.columns_rules.specs.declared.slots.Ruling.the-variants.{Kept, Broken}
+use Rattle.columns.specs.declared.refusal.Ruling.the-variants.{Kept, Broken}
 use Rattle.columns_rules.proofs.SlotTables.{table-of, length-cut}
 use Rattle.columns_sets.proofs.transpose.ReadBack.{length-turned}
 use Rattle.columns_sets.proofs.inbound.ReadBack.{length-arrived}

@@ -6,7 +6,7 @@ use lib.IntN.{ℤ}
 use Rattle.columns.specs.Limits.{maxNumbers}
 use Rattle.columns.specs.Refusal.{Verdict, refused, accepted}
 use Rattle.columns.specs.Building.{Built}
-use Rattle.columns_rules.specs.declared.slots.Ruling.the-variants.{Kept, Broken}
+use Rattle.columns.specs.declared.refusal.Ruling.the-variants.{Kept, Broken}
 use Rattle.columns_encode.specs.declared.kept.Encoded.{Encoded}
 use Rattle.columns_encode.specs.declared.kept.Encoded.the-variants.{Edges, Refused}
 use Rattle.run_state.specs.output.View.{builtIn}

@@ -3,9 +3,9 @@ pub mod section;
 
 use crate::section::build_part;
 use archive_bytes::wide;
+use columns::depth::Depth;
+use columns::refusal::Ruling;
 use columns_encode::kept::Encoded;
-use columns_rules::records::groups::Depth;
-use columns_rules::slots::Ruling;
 use run_state::Groups;
 use run_state::Sheet;
 use run_state::Unresolved;

@@ -1,8 +1,8 @@
 // The rules and the three sets of some of the rows of flat columns, built as a file of their own.
+use arrays::index;
+use columns::depth::Depth;
 use columns_build::encode::encode_lent;
 use columns_encode::kept::Encoded;
-use columns_rules::records::groups::Depth;
-use columns_rules::slots::index;
 use run_group::sections::edges::edges_into;
 use run_group::sections::offsets::rebase;
 ghost use mathlib.Core.Path.{_≡_};

@@ -6,6 +6,8 @@ pub mod output;
 pub mod tests;
 pub mod valid;
 
+use columns::refusal::Refusal;
+
 // The bytes that name the room.
 #[repr(C)]
 pub struct Subject {
@@ -95,4 +97,10 @@ pub struct Held {
     pub reverse: Edges,
     pub inbound: Edges,
     pub ranges: usize,
+}
+
+// How many bytes were written, or why none.
+pub enum Writing {
+    Length(usize),
+    Refused(Refusal),
 }

@@ -12,8 +12,8 @@ use Rattle.lists.specs.Lists.{isEmpty, upFrom}
 use Rattle.lists.proofs.Tests.{both}
 use Rattle.lists.proofs.Flat.{length-map-upFrom, getD-map-upFrom}
 use Rattle.columns.specs.Limits.{maxSubject, maxGroups, end64}
-use Rattle.columns_rules.specs.Ruled.{ruling}
-use Rattle.columns_rules.specs.declared.slots.Ruling.{Ruling}
+use Rattle.columns.specs.Answers.{ruling}
+use Rattle.columns.specs.declared.refusal.Ruling.{Ruling}
 use Rattle.archive.specs.File.{File}
 use Rattle.archive.specs.Reader.{Parsed, broken, got}
 use Rattle.cleaning.specs.Held.{lookBack, noFacts}

@@ -16,9 +16,9 @@ use Rattle.columns.specs.Refusal.{refuse, firstOf}
 use Rattle.columns.specs.declared.refusal.Refusal.{Refusal}
 use Rattle.columns.specs.declared.refusal.Refusal.the-variants.{RecordBroken, OverRecords, OverNumbers}
 use Rattle.columns.proofs.FirstBroken.{each-none, not-refused}
-use Rattle.columns_rules.specs.Ruled.{ruling}
-use Rattle.columns_rules.specs.declared.slots.Ruling.{Ruling}
-use Rattle.columns_rules.specs.declared.slots.Ruling.the-variants.{Kept, Broken}
+use Rattle.columns.specs.Answers.{ruling}
+use Rattle.columns.specs.declared.refusal.Ruling.{Ruling}
+use Rattle.columns.specs.declared.refusal.Ruling.the-variants.{Kept, Broken}
 use Rattle.columns_rules.proofs.Told.{told-kept, stops-here, goes-on}
 use Rattle.archive.specs.File.{File}
 use Rattle.archive.specs.Reader.{Parsed, broken, got}
@@ -115,7 +115,7 @@ module _ (h : Held) (o : Parsed (List File)) {r : Ruling} (v : r ≡ ruling (lim
 -- ── 23 ───────────────────────────────────────────────────────────────────────────────────────
 
 pub not-archive : (h : run.Held) (o : Parsed (List File)) {x : Summed} → x ≡ totalsOf o → x ≡ summed.Broken → Broken RecordBroken ≡ ruling (archiveRules h o)
-unfolding totalsOf archiveRules ruling
+unfolding totalsOf archiveRules
 not-archive h broken e f = refl
 not-archive h (got fs end) e f = absurd (let z : _≡_ {A = ℕ} 0 1 = cc in omega arith)
 

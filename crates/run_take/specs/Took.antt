@@ -7,7 +7,7 @@ use mathlib.Core.Option.{Option, some}
 use Rattle.columns.specs.Refusal.{Verdict, refused, accepted, refuse, firstOf}
 use Rattle.columns.specs.declared.refusal.Refusal.{Refusal}
 use Rattle.columns.specs.declared.refusal.Refusal.the-variants.{RecordBroken, OverRecords, OverNumbers}
-use Rattle.columns_rules.specs.declared.slots.Ruling.the-variants.{Kept, Broken}
+use Rattle.columns.specs.declared.refusal.Ruling.the-variants.{Kept, Broken}
 use Rattle.archive.specs.File.{File}
 use Rattle.archive.specs.Reader.{Parsed, broken, got}
 use Rattle.cleaning.specs.Held as run

@@ -16,9 +16,9 @@ use Rattle.archive.specs.Encode.{fileBytes, encode}
 use Rattle.archive_write.specs.sizes.FileSize.{maxFileSize}
 use Rattle.cleaning.specs.Sheet.{Sheet}
 use Rattle.cleaning.specs.Sections.{sectionGraph, sectionFile}
-use Rattle.columns_rules.specs.Ruled.{ruling}
-use Rattle.columns_rules.specs.declared.slots.Ruling.{Ruling}
-use Rattle.columns_rules.specs.declared.slots.Ruling.the-variants.{Kept, Broken}
+use Rattle.columns.specs.Answers.{ruling}
+use Rattle.columns.specs.declared.refusal.Ruling.{Ruling}
+use Rattle.columns.specs.declared.refusal.Ruling.the-variants.{Kept, Broken}
 use Rattle.run_state.specs.output.View.{Counted}
 use Rattle.run_file.specs.Stored.{Stored}
 use Rattle.run_output.specs.by_value.Made.{Made}
@@ -78,12 +78,10 @@ module _ (s : Sheet) (g n : ℕ) where
 
 -- rules that are kept, by the answer
 pub kept-none : (r : Option Refusal) → ruling r ≡ Kept → r ≡ none
-unfolding ruling
 kept-none none e = refl
 kept-none (some x) e = let z : _≡_ {A = ℕ} 0 1 = cc in absurd (omega arith)
 
 pub broken-some : (r : Option Refusal) (x : Refusal) → ruling r ≡ Broken x → r ≡ some x
-unfolding ruling
 broken-some none x e = let z : _≡_ {A = ℕ} 0 1 = cc in absurd (omega arith)
 broken-some (some y) x e = cc
 
@@ -100,7 +98,6 @@ module _ (s : Sheet) (g n : ℕ) (h : g < n) {q : Ruling} (m : q ≡ ruling (bui
 
   -- the rule that a group breaks is the first
   stops : {t : Option Refusal} (x : Refusal) → t ≡ rulesFrom s g n → q ≡ Broken x → Broken x ≡ ruling t
-  unfolding ruling
   stops x e k = rw (e, rules-broken s g n h x (broken-some (buildRules (sectionGraph s g)) x (sym m ∙ k)))
 
 -- of files by value

@@ -27,14 +27,14 @@ use Rattle.run_state.specs.Valid.{countsOk, sheetOk}
 use Rattle.run_state.specs.order.Ordered.{ordered, filled}
 use Rattle.run_state.specs.order.Long.{LongSheet}
 use Rattle.run_state.proofs.order.TidySheets.{counts, tidy-sheet, filled-sheet}
-use Rattle.columns_rules.specs.Ruled.{ruling}
-use Rattle.columns_rules.specs.declared.slots.Ruling.the-variants.{Kept, Broken}
+use Rattle.columns.specs.Answers.{ruling}
+use Rattle.columns.specs.declared.refusal.Ruling.the-variants.{Kept, Broken}
 use Rattle.run_state.specs.output.View.{Counted}
 use Rattle.run_output.specs.by_value.Made.{Made}
 use Rattle.run_output.specs.declared.by_value.GroupFile.{GroupFile}
 use Rattle.run_write.specs.Answers.{MeasuredBy, Laid, Wrote}
 use Rattle.run_write.specs.declared.Measured.{Measured}
-use Rattle.run_write.specs.declared.Writing.the-variants.{Length, Refused}
+use Rattle.run_state.specs.declared.Writing.the-variants.{Length, Refused}
 use Rattle.run_write.proofs.Rest.{rulesFrom, bytesFrom, kept-none, broken-some, rules-end, bytes-end, rules-next, rules-first}
 
 -- ── where the loops start ────────────────────────────────────────────────────────────────────
@@ -71,7 +71,6 @@ module _ (s : Sheet) where
 module _ (s : Sheet) (g n : ℕ) where
   measured : (t : ℕ) → sectionRules (sheetIn s) ≡ rulesFrom (sheetIn s) g n → length (sectionBytes (sheetIn s)) ≡ t + length (bytesFrom (sheetIn s) g n) → n ≤ g
       → MeasuredBy (sheetIn s) (record { ruling = Kept; length = t })
-  unfolding ruling
   measured t e f h = record {
     rules = rw (e, rules-end (sheetIn s) g n h);
     length-is = λ k. omega (arith, f, ap length (bytes-end (sheetIn s) g n h));
@@ -83,7 +82,6 @@ module _ (s : Sheet) (g n : ℕ) where
   laid t was is e f d h = record { measured = measured t e f h; stored = λ k room. sym (d room ∙ ap (sets is t) (bytes-end (sheetIn s) g n h)) }
 
 pub laid-broken : (s : Sheet) (x : Refusal) (t : ℕ) (was is : List ℕ) → Broken x ≡ ruling (sectionRules (sheetIn s)) → Laid (sheetIn s) was is (record { ruling = Broken x; length = t })
-unfolding ruling
 laid-broken s x t was is e =
     let never : sectionRules (sheetIn s) ≡ none → ⊥ = λ k. let f : Broken x ≡ Kept = e ∙ ap ruling k in let z : _≡_ {A = ℕ} 0 1 = cc in omega arith in
     record { measured = record { rules = e; length-is = λ k. absurd (never k) }; stored = λ k room. absurd (never k) }

@@ -9,10 +9,10 @@ use Rattle.cleaning.specs.Sheet.{Sheet, summaryOf}
 use Rattle.cleaning.specs.Sections.{sectionRules, sectionBytes}
 use Rattle.cleaning.specs.Writing.{written}
 use Rattle.cleaning.specs.Step.{Answer, refused, wrote, writeInto}
-use Rattle.columns_rules.specs.Ruled.{ruling}
+use Rattle.columns.specs.Answers.{ruling}
 use Rattle.run_write.specs.declared.Measured.{Measured}
-use Rattle.run_write.specs.declared.Writing.{Writing}
-use Rattle.run_write.specs.declared.Writing.the-variants.{Length, Refused}
+use Rattle.run_state.specs.declared.Writing.{Writing}
+use Rattle.run_state.specs.declared.Writing.the-variants.{Length, Refused}
 
 -- the first broken rule of all groups; where there is none, how long the archive is
 pub record MeasuredBy (s : Sheet) (r : Measured) : Type 0 where

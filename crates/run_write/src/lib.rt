@@ -1,10 +1,11 @@
 // The cleaned archive of a run's survivors: one file for each group, groups rising.
 use archive_bytes::number_columns::store_bytes;
 use columns::refusal::Refusal;
-use columns_rules::slots::Ruling;
+use columns::refusal::Ruling;
 use run_output::put_group;
 use run_sets::wide_kinds;
 use run_state::Sheet;
+use run_state::Writing;
 use run_state::order::long::sheet_long;
 ghost use mathlib.Core.Path.{_≡_};
 ghost use mathlib.Core.Bool.{true};
@@ -17,12 +18,6 @@ ghost use Rattle.run_write.specs.Answers.{Laid, Wrote};
 pub struct Measured {
     pub ruling: Ruling,
     pub length: usize,
-}
-
-// How many bytes were written, or why none.
-pub enum Writing {
-    Length(usize),
-    Refused(Refusal),
 }
 
 // Building's rules, group by group, and the length of all files, each of which is written where it has room. The sheet's columns are copied once, and

@@ -1,8 +1,8 @@
 // The original's kept answers on building, asked of the proved function: one line. The words of its input come as numbers of 64 bits, once
 // more as numbers of 32 bits, and once more as bytes.
+use columns::depth::Depth;
 use columns_build::encode::encode_graph_blocks;
 use columns_encode::kept::Encoded;
-use columns_rules::records::groups::Depth;
 use try_cases::Tally;
 use try_cases::after;
 use try_cases::count;

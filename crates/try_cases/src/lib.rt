@@ -1,5 +1,6 @@
 // The original's kept answers as words of 64 bits: a case is how many words follow, its question, the parts of its input, and the answer,
 // a refusal's number or 0 and the answer's parts. A part is a number, or a list: its length, then its numbers.
+use arrays::index;
 use columns::reading::Counted;
 use columns::refusal;
 use columns::refusal::Refusal;
@@ -8,12 +9,6 @@ ghost use Prim.Native.Nat.{_≤_};
 ghost use lib.ListN.{length};
 
 // ── parts ──
-
-fn index(x: u64) -> usize
-    ensures { λ r. ⌜ r ≡ x ⌝ }
-{
-    x as usize
-}
 
 fn wide(x: usize) -> u64
     ensures { λ r. ⌜ r ≡ x ⌝ }

@@ -1,4 +1,5 @@
 // The original's kept answers on walks and on their single steps, asked of the proved functions: a line for each question.
+use arrays::index;
 use columns::kind::Kind;
 use columns_walk::Handed;
 use columns_walk::level::next;
@@ -16,10 +17,6 @@ fn kind(n: u64) -> Kind {
         return Kind::Prev;
     }
     Kind::Auth
-}
-
-fn index(x: u64) -> usize {
-    x as usize
 }
 
 // Whether the numbers from one place up to another are the list at a place of the words.

@@ -6,18 +6,18 @@ use Rattle.columns.specs.Refusal.{firstOf}
 use Rattle.columns.specs.declared.refusal.Refusal.the-variants.{DepthOrder}
 use Rattle.columns.specs.declared.refusal.Refusal.{Refusal}
 use Rattle.columns_rules.proofs.Told.{last-rule, goes-on, stops-here}
-use Rattle.columns_rules.specs.Ruled.{ruling}
+use Rattle.columns.specs.Answers.{ruling}
 use Rattle.columns_rules.specs.records.Recorded.{depthOf, unresolvedFrom, depthRules, recordRules}
-use Rattle.columns_rules.specs.declared.records.groups.Depth.the-variants.{Unknown, Between}
-use Rattle.columns_rules.specs.declared.slots.Ruling.the-variants.{Kept, Broken}
-use Rattle.columns_rules.specs.declared.slots.Ruling.{Ruling}
+use Rattle.columns.specs.declared.depth.Depth.the-variants.{Unknown, Between}
+use Rattle.columns.specs.declared.refusal.Ruling.the-variants.{Kept, Broken}
+use Rattle.columns.specs.declared.refusal.Ruling.{Ruling}
 use borrow.Author.Tests.{not-true, not-false}
 use lib.Dec.{leb}
 use mathlib.Core.Bool.{Bool, true, false, not}
 use mathlib.Core.List.{List}
 use mathlib.Core.Option.{Option}
 use mathlib.Core.Path.{_≡_, sym, _∙_, ap}
-use Rattle.columns_rules.specs.declared.records.groups.Depth as given
+use Rattle.columns.specs.declared.depth.Depth as given
 
 pub depth-unknown : (d : given.Depth) → d ≡ Unknown → true ≡ depthOk (depthOf d)
 unfolding depthOf
@@ -31,7 +31,7 @@ depth-known d a b e = rw e
 
 module _ (rows : ℕ) (depth : Option Depth) (labels : Option Labels) {a : Bool} (e : a ≡ depthOk depth) where
   pub depth-bad : not a ≡ true → Broken DepthOrder ≡ ruling (depthRules rows depth labels)
-  unfolding depthRules firstOf ruling
+  unfolding depthRules firstOf
   depth-bad p = rw (← e, not-true a p)
 
   pub then-labels : not a ≡ false → {s : Ruling} → s ≡ ruling (labelsRules rows labels) → s ≡ ruling (depthRules rows depth labels)

@@ -16,12 +16,12 @@ use Rattle.lists.proofs.Tests.{tested}
 use Rattle.columns.specs.Limits.{kinds}
 use Rattle.columns.specs.Refusal.{firstOf, firstIn}
 use Rattle.columns.specs.Building.{has, inFile, greater, unresolvedRules, inboundRules}
-use Rattle.columns_rules.specs.Ruled.{ruling}
+use Rattle.columns.specs.Answers.{ruling}
 use Rattle.columns_rules.specs.records.Recorded.{unresolvedFrom, inboundFrom}
 use Rattle.columns.specs.declared.refusal.Refusal.{Refusal}
 use Rattle.columns.specs.declared.refusal.Refusal.the-variants.{UnresolvedChild, UnresolvedKind, InboundChild, InboundParent}
-use Rattle.columns_rules.specs.declared.slots.Ruling.{Ruling}
-use Rattle.columns_rules.specs.declared.slots.Ruling.the-variants.{Kept, Broken}
+use Rattle.columns.specs.declared.refusal.Ruling.{Ruling}
+use Rattle.columns.specs.declared.refusal.Ruling.the-variants.{Kept, Broken}
 use Rattle.columns_rules.proofs.Told.{eqb-swap, told, told-kept}
 
 -- ── a part of a record ───────────────────────────────────────────────────────────────────────
@@ -81,40 +81,40 @@ longest-says a b c n e f = cc
 
 module _ (first end : ℕ) (child kind flag : Option ℕ) {a : Bool} (e : a ≡ has (inFile first end) child) where
   pub child-bad : not a ≡ true → Broken UnresolvedChild ≡ ruling (unresolvedRules first end child kind flag)
-  unfolding ruling unresolvedRules firstOf
+  unfolding unresolvedRules firstOf
   child-bad p = rw (← e, not-true a p)
 
   module _ (p : not a ≡ false) {b : Bool} (f : b ≡ has (λ k. ltb k kinds) kind) where
     pub kind-bad : not b ≡ true → Broken UnresolvedKind ≡ ruling (unresolvedRules first end child kind flag)
-    unfolding ruling unresolvedRules firstOf
+    unfolding unresolvedRules firstOf
     kind-bad q = rw (← e, not-false a p, ← f, not-true b q)
 
     module _ (q : not b ≡ false) {d : Bool} (g : d ≡ has (eqb 0) flag) where
       pub flag-bad : not d ≡ true → Broken UnresolvedKind ≡ ruling (unresolvedRules first end child kind flag)
-      unfolding ruling unresolvedRules firstOf
+      unfolding unresolvedRules firstOf
       flag-bad r = rw (← e, not-false a p, ← f, not-false b q, ← g, not-true d r)
 
       pub record-kept : not d ≡ false → Kept ≡ ruling (unresolvedRules first end child kind flag)
-      unfolding ruling unresolvedRules firstOf
+      unfolding unresolvedRules firstOf
       record-kept r = rw (← e, not-false a p, ← f, not-false b q, ← g, not-false d r)
 
 module _ (first end : ℕ) (child parent kind : Option ℕ) {a : Bool} (e : a ≡ has (leb end) child) where
   pub in-child-bad : not a ≡ true → Broken InboundChild ≡ ruling (inboundRules first end child parent kind)
-  unfolding ruling inboundRules firstOf
+  unfolding inboundRules firstOf
   in-child-bad p = rw (← e, not-true a p)
 
   module _ (p : not a ≡ false) {b : Bool} (f : b ≡ has (inFile first end) parent) where
     pub in-parent-bad : not b ≡ true → Broken InboundParent ≡ ruling (inboundRules first end child parent kind)
-    unfolding ruling inboundRules firstOf
+    unfolding inboundRules firstOf
     in-parent-bad q = rw (← e, not-false a p, ← f, not-true b q)
 
     module _ (q : not b ≡ false) {d : Bool} (g : d ≡ has (λ k. ltb k kinds) kind) where
       pub in-kind-bad : not d ≡ true → Broken InboundParent ≡ ruling (inboundRules first end child parent kind)
-      unfolding ruling inboundRules firstOf
+      unfolding inboundRules firstOf
       in-kind-bad r = rw (← e, not-false a p, ← f, not-false b q, ← g, not-true d r)
 
       pub edge-kept : not d ≡ false → Kept ≡ ruling (inboundRules first end child parent kind)
-      unfolding ruling inboundRules firstOf
+      unfolding inboundRules firstOf
       edge-kept r = rw (← e, not-false a p, ← f, not-false b q, ← g, not-false d r)
 
 -- ── record after record ──────────────────────────────────────────────────────────────────────
@@ -126,12 +126,12 @@ module _ (f : ℕ → Option Refusal) (i n : ℕ) (h : i < n) where
 
 module _ (f : ℕ → Option Refusal) (i n : ℕ) {t : Ruling} (e : t ≡ ruling (firstIn f (upFrom i (n - i)))) where
   pub records-done : n ≤ i → Kept ≡ t
-  unfolding firstIn upFrom ruling
+  unfolding firstIn upFrom
   records-done h = let z : n - i ≡ 0 = omega arith in rw (e, z)
 
   module _ (h : i < n) {r : Ruling} (k : r ≡ ruling (f i)) where
     pub record-stop : {x : Refusal} → r ≡ Broken x → Broken x ≡ t
-    unfolding firstOf ruling
+    unfolding firstOf
     record-stop g = rw (e, first-here f i n h, told (f i) k g)
 
     pub records-on : r ≡ Kept → t ≡ ruling (firstIn f (upFrom (i + 1) (n - (i + 1))))

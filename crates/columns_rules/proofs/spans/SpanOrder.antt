@@ -5,9 +5,9 @@ use Rattle.columns.specs.Refusal.{refuse, firstOf}
 use Rattle.columns.specs.declared.refusal.Refusal.the-variants.{GranuleRows, DeltaRange}
 use Rattle.lists.specs.Lists.{part}
 use Rattle.columns_rules.proofs.spans.GranuleTables.{fit-reverse}
-use Rattle.columns_rules.specs.Ruled.{ruling}
+use Rattle.columns.specs.Answers.{ruling}
 use Rattle.columns_rules.specs.spans.Spanned.{spanRules}
-use Rattle.columns_rules.specs.declared.slots.Ruling.the-variants.{Kept, Broken}
+use Rattle.columns.specs.declared.refusal.Ruling.the-variants.{Kept, Broken}
 use borrow.Author.Tests.{lt-ltb, le-ltb, not-true, not-false}
 use mathlib.Core.Bool.{Bool, true, false, not}
 use mathlib.Core.List.{List, [], _∷_}
@@ -19,17 +19,17 @@ granule-within from n rows h k = omega arith
 
 module _ (first rows : ℕ) (lists inbound : List (List ℕ)) (from n : ℕ) where
   pub rows-past : rows < from → Broken GranuleRows ≡ ruling (spanRules first rows lists inbound from n)
-  unfolding spanRules firstOf ruling
+  unfolding spanRules firstOf
   rows-past h = rw (lt-ltb rows (from + n) (omega arith))
 
   module _ (h : from ≤ rows) where
     pub rows-over : rows - from < n → Broken GranuleRows ≡ ruling (spanRules first rows lists inbound from n)
-    unfolding spanRules firstOf ruling
+    unfolding spanRules firstOf
     rows-over k = rw (lt-ltb rows (from + n) (omega arith))
 
     module _ (k : n ≤ rows - from) {a : Bool} (e : a ≡ deltasFit (first + from) (part (2 * from) (2 * n) lists)) where
       pub forward-far : not a ≡ true → Broken DeltaRange ≡ ruling (spanRules first rows lists inbound from n)
-      unfolding spanRules firstOf ruling
+      unfolding spanRules firstOf
       forward-far p = rw (le-ltb rows (from + n) (omega arith), ← e, not-true a p)
 
       module _ (p : not a ≡ false) (few : rows ≤ 1024) {b : Bool} (f : b ≡ deltasFit (first + from) (part (2 * from) (2 * n) inbound)) where
@@ -38,9 +38,9 @@ module _ (first rows : ℕ) (lists inbound : List (List ℕ)) (from n : ℕ) whe
         rest-span = rw (le-ltb rows (from + n) (omega arith), ← e, not-false a p, fit-reverse first rows from n lists few (omega arith), ← f)
 
         pub inbound-far : not b ≡ true → Broken DeltaRange ≡ ruling (spanRules first rows lists inbound from n)
-        unfolding firstOf ruling
+        unfolding firstOf
         inbound-far q = rw (rest-span, not-true b q)
 
         pub spans-kept : not b ≡ false → Kept ≡ ruling (spanRules first rows lists inbound from n)
-        unfolding firstOf ruling
+        unfolding firstOf
         spans-kept q = rw (rest-span, not-false b q)

@@ -10,8 +10,8 @@ use Rattle.columns.specs.Building.{Depth, InboundColumns, recordCount, depthOk,
 use Rattle.columns.specs.Reading.{Labels}
 use Rattle.columns.specs.declared.refusal.Refusal.{Refusal}
 use Rattle.columns.specs.declared.refusal.Refusal.the-variants.{DepthOrder}
-use Rattle.columns_rules.specs.declared.records.groups.Depth as given
-use Rattle.columns_rules.specs.declared.records.groups.Depth.the-variants.{Unknown, Between}
+use Rattle.columns.specs.declared.depth.Depth as given
+use Rattle.columns.specs.declared.depth.Depth.the-variants.{Unknown, Between}
 
 -- 6 and 7 of n unresolved records, from place i on
 unfoldable pub unresolvedFrom : ℕ → ℕ → List ℕ → List ℕ → List ℕ → ℕ → ℕ → Option Refusal

@@ -1,11 +1,11 @@
 // Building's rules on labels: one for each row (9), and each chain's seqs rising in row order (10).
 use crate::chain_table::seqs_rise;
-use crate::slots::Ruling;
 use columns::refusal::Refusal;
+use columns::refusal::Ruling;
 ghost use mathlib.Core.Path.{_≡_};
 ghost use Prim.Native.Nat.{_≤_};
 ghost use Rattle.columns.specs.Building.{labelsRules};
-ghost use Rattle.columns_rules.specs.Ruled.{ruling};
+ghost use Rattle.columns.specs.Answers.{ruling};
 ghost use Rattle.columns_rules.specs.records.Recorded.{labelsGiven};
 
 // The rules on labels, where there are labels.

@@ -1,19 +1,14 @@
 // Unresolved records, depth and labels (6 to 10), in order.
 use crate::records::chains::labels_rules;
 use crate::records::parts::unresolved_rules;
-use crate::slots::Ruling;
+use columns::depth::Depth;
 use columns::refusal::Refusal;
+use columns::refusal::Ruling;
 ghost use mathlib.Core.Path.{_≡_};
 ghost use Prim.Native.Nat.{_≤_};
 ghost use Rattle.columns.specs.Building.{depthOk};
-ghost use Rattle.columns_rules.specs.Ruled.{ruling};
+ghost use Rattle.columns.specs.Answers.{ruling};
 ghost use Rattle.columns_rules.specs.records.Recorded.{labelsGiven, depthOf, recordRules, depthRules};
-
-// The least and the greatest depth of a file's events, where they are known.
-pub enum Depth {
-    Unknown,
-    Between(u64, u64),
-}
 
 fn depth_fits(depth: Depth) -> bool
     ensures { λ r. ⌜ r ≡ depthOk (depthOf depth) ⌝ }

@@ -1,13 +1,13 @@
 // Building's rules on records in parallel columns: unresolved records (6, 7) and inbound edges (11, 12). A part that a shorter column does not have passes no test.
-use crate::slots::Ruling;
 use columns::refusal::Refusal;
+use columns::refusal::Ruling;
 ghost use mathlib.Core.Path.{_≡_};
 ghost use Prim.Native.Nat.{_+_};
 ghost use lib.Dec.{leb, ltb, eqb};
 ghost use lib.ListN.{getElem?};
 ghost use Rattle.columns.specs.Limits.{kinds};
 ghost use Rattle.columns.specs.Building.{has, inFile, greater, recordCount, unresolvedRules, inboundRules};
-ghost use Rattle.columns_rules.specs.Ruled.{ruling};
+ghost use Rattle.columns.specs.Answers.{ruling};
 ghost use Rattle.columns_rules.specs.records.Recorded.{unresolvedFrom, inboundFrom};
 
 // Whether a number is one of the rows from `first` on.

@@ -1,14 +1,14 @@
 // The granule's rows and its spans (14, 15), in order.
-use crate::slots::Ruling;
 use crate::spans::reach::slots_fit;
 use columns::refusal::Refusal;
+use columns::refusal::Ruling;
 ghost use mathlib.Core.Path.{_≡_};
 ghost use mathlib.Core.Bool.{true};
 ghost use Prim.Native.Nat.{_+_, _≤_, _<_};
 ghost use lib.ListN.{length};
 ghost use Rattle.columns.specs.Limits.{end64};
 ghost use Rattle.columns.specs.EdgeSet.{offsetsForm, cut};
-ghost use Rattle.columns_rules.specs.Ruled.{ruling};
+ghost use Rattle.columns.specs.Answers.{ruling};
 ghost use Rattle.columns_rules.specs.spans.Spanned.{spanRules};
 
 // 14 and 15: the granule's rows, and its edges in the order of the sets. The inbound lists come as a table of their own. A reverse edge spans

@@ -1,5 +1,5 @@
 // Whether every event minus target is a number of signed 64 bits (15): one target, a list, a slot, the slots of a granule.
-use crate::slots::index;
+use arrays::index;
 ghost use mathlib.Core.Path.{_≡_};
 ghost use mathlib.Core.Bool.{true};
 ghost use mathlib.Core.List.{[]};

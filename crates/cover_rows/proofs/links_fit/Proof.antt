@@ -1,5 +1,4 @@
-use Rattle.cover_rows.proofs.Fitting.{sums-count}
-use Rattle.cover_rows.proofs.Fitting.{few-from, few-to, few-ends, sums-past, sums-within, long-sums, then-rise}
+use Rattle.cover_rows.proofs.Fitting.{sums-count, few-from, few-to, few-ends, sums-past, sums-within, long-sums, then-rise}
 use borrow.Author.Needs.{needs}
 use Rattle.cover_rows.proofs.links_fit.Statement.{statement}
 use Rattle.cover_rows.proofs.links_fit.Tie as tie

@@ -1,6 +1,6 @@
 // The edges of some rows into the numbers of a file, in three columns: child, parent and kind.
+use arrays::index;
 use columns_rules::records::parts::is_in_file;
-use columns_rules::slots::index;
 ghost use mathlib.Core.Path.{_≡_};
 ghost use mathlib.Core.Bool.{true};
 ghost use mathlib.Core.List.{[], _++_};

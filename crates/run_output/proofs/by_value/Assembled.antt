@@ -16,8 +16,8 @@ use Rattle.columns.specs.Reading.{labelsOf}
 use Rattle.columns.specs.Building.{buildRules, builtOf}
 use Rattle.columns.specs.declared.refusal.Refusal.{Refusal}
 use Rattle.cleaning.specs.Sections.{between, coverWhere, unerasedRow, sectionStart, sectionRows, sectionUnresolved, sectionRoots, sectionGraph, sectionFileOf, sectionFile}
-use Rattle.columns_rules.specs.Ruled.{ruling}
-use Rattle.columns_rules.specs.declared.slots.Ruling.the-variants.{Kept, Broken}
+use Rattle.columns.specs.Answers.{ruling}
+use Rattle.columns.specs.declared.refusal.Ruling.the-variants.{Kept, Broken}
 use Rattle.run_state.specs.declared.Sheet.{Sheet}
 use Rattle.run_state.specs.declared.Roots.{Roots}
 use Rattle.run_state.specs.declared.Unresolved.{Unresolved}
@@ -107,7 +107,6 @@ module _ (s : Sheet) (g n : ℕ) (q : GroupSets) (m : SetsBy (judged (sectionGra
       go (some y) e = let w : q .ruling ≡ Broken y = by-rules (some y) e in cc
 
   pub made-broken : (f : OutFile) (x : Refusal) → q .ruling ≡ Broken x → Made (sheetIn s) g (record { ruling = Broken x; file = f })
-  unfolding ruling
   made-broken f x d =
       let e = broken-rule x d in
       record {
@@ -129,7 +128,7 @@ module _ (s : Sheet) (g n : ℕ) (q : GroupSets) (m : SetsBy (judged (sectionGra
     few-edges = record { forward = held-sets .1 .forward; reverse = held-sets .1 .reverse; inbound = held-sets .1 .inbound }
 
     pub made-kept : {f : OutFile} → (fileIn f ≡ sectionFileOf (sheetIn s) g (builtIn n (q .sets))) × Counted f → Made (sheetIn s) g (record { ruling = Kept; file = f })
-    unfolding ruling sectionFile
+    unfolding sectionFile
     made-kept w = record {
       rules = rw (held-sets .0);
       file = λ h. w .0 ∙ ap (sectionFileOf (sheetIn s) g) (held-sets .1 .sets);

@@ -8,7 +8,7 @@ use Rattle.cleaning.specs.Sheet.{Sheet}
 use Rattle.cleaning.specs.Sections.{sectionStart, sectionGraph, sectionFile}
 use Rattle.run_state.specs.declared.Sheet as sheets
 use Rattle.run_state.specs.View.{sheetIn}
-use Rattle.columns_rules.specs.Ruled.{ruling}
+use Rattle.columns.specs.Answers.{ruling}
 use Rattle.run_state.specs.declared.output.Sets.{Sets}
 use Rattle.run_state.specs.output.View.{fileIn, Counted}
 use Rattle.run_output.specs.declared.by_value.GroupFile.{GroupFile}

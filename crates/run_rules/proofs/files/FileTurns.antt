@@ -18,9 +18,9 @@ use Rattle.columns.specs.Building.{subjectOk, numbersOk}
 use Rattle.columns.specs.declared.refusal.Refusal.{Refusal}
 use Rattle.columns.specs.declared.refusal.Refusal.the-variants.{SubjectLength, NumberRange}
 use Rattle.columns.proofs.FirstBroken.{each-none, passed}
-use Rattle.columns_rules.specs.Ruled.{ruling}
-use Rattle.columns_rules.specs.declared.slots.Ruling.{Ruling}
-use Rattle.columns_rules.specs.declared.slots.Ruling.the-variants.{Kept, Broken}
+use Rattle.columns.specs.Answers.{ruling}
+use Rattle.columns.specs.declared.refusal.Ruling.{Ruling}
+use Rattle.columns.specs.declared.refusal.Ruling.the-variants.{Kept, Broken}
 use Rattle.columns_rules.proofs.Told.{told-kept, stops-here, goes-on}
 use Rattle.archive.specs.Reader.{Parsed, broken, got, andThen, _>>=_}
 use Rattle.archive.specs.File.{CoverColumns, File}
@@ -139,7 +139,7 @@ within-start l w = let z : length l - 0 ≡ length l = omega arith in rw z w
 
 module _ {t : Ruling} (l : List ℕ) (s : Seen) (k p : ℕ) (e : t ≡ ruling (rulesOf (seenOf s) (files (length l - k) l p))) where
   pub files-done : length l ≤ p → Kept ≡ t
-  unfolding rulesOf filesRules ruling
+  unfolding rulesOf filesRules
   files-done h = rw (e, files-end (length l - k) l p h)
 
   module _ (h : p < length l) (g : k ≤ p) (x : FileRead) (d : fileOf l x ≡ file l p) (w : Within (totalsOf (files (length l - k) l p))) where

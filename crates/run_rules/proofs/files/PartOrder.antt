@@ -13,9 +13,9 @@ use Rattle.columns.specs.Building.{numbersOk}
 use Rattle.columns.specs.declared.refusal.Refusal.{Refusal}
 use Rattle.columns.specs.declared.refusal.Refusal.the-variants.{NumberRange}
 use Rattle.columns.proofs.FirstBroken.{each-none, passed}
-use Rattle.columns_rules.specs.Ruled.{ruling}
-use Rattle.columns_rules.specs.declared.slots.Ruling.{Ruling}
-use Rattle.columns_rules.specs.declared.slots.Ruling.the-variants.{Kept, Broken}
+use Rattle.columns.specs.Answers.{ruling}
+use Rattle.columns.specs.declared.refusal.Ruling.{Ruling}
+use Rattle.columns.specs.declared.refusal.Ruling.the-variants.{Kept, Broken}
 use Rattle.columns_rules.proofs.Told.{told-kept, stops-here, goes-on}
 use Rattle.archive.specs.Bytes.{several}
 use Rattle.archive.specs.Parse.{depthRead, unresolvedAt, rootAt}
@@ -64,7 +64,7 @@ lists-are l h m t e = e
 -- ── one group after another ──────────────────────────────────────────────────────────────────
 
 pub no-cover : (l : List ℕ) (n : ℕ) (t : TailAt) → not (t .covered) ≡ true → Kept ≡ ruling (coverRule l n t)
-unfolding coverRule ruling
+unfolding coverRule
 no-cover l n t h = rw (not-true (t .covered) h)
 
 pub some-cover : (l : List ℕ) (n : ℕ) (t : TailAt) {r : Ruling} → not (t .covered) ≡ false → r ≡ ruling (coverRules (some (coverIn (partIn l (t .body)) n (t .cover)))) → r ≡ ruling (coverRule l n t)

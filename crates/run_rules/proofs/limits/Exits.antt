@@ -9,8 +9,8 @@ use Rattle.columns.specs.Limits.{maxRecords, maxNumbers}
 use Rattle.columns.specs.Refusal.{refuse, firstOf}
 use Rattle.columns.specs.declared.refusal.Refusal.the-variants.{OverRecords, OverNumbers}
 use Rattle.archive_read.specs.declared.files.Totals.{Totals}
-use Rattle.columns_rules.specs.Ruled.{ruling}
-use Rattle.columns_rules.specs.declared.slots.Ruling.the-variants.{Kept, Broken}
+use Rattle.columns.specs.Answers.{ruling}
+use Rattle.columns.specs.declared.refusal.Ruling.the-variants.{Kept, Broken}
 use Rattle.run_state.specs.declared.Held.{Held}
 use Rattle.run_rules.specs.limits.Figures.{figures, manyRecords, manyNumbers, limitRules}
 
@@ -70,14 +70,14 @@ module _ (a b : Totals) {x : Bool} (p : x ≡ ltb maxNumbers (a .forward + b .fo
 
 module _ (h : Held) (t a : Totals) (groups : Bool) (e : a ≡ figures h) {x : Bool} (p : x ≡ manyRecords a t groups) where
   pub records-many : x ≡ true → Broken OverRecords ≡ ruling (limitRules h t groups)
-  unfolding limitRules firstOf ruling
+  unfolding limitRules firstOf
   records-many k = rw (← e, ← p, k)
 
   module _ (k : x ≡ false) {y : Bool} (q : y ≡ manyNumbers a t) where
     pub numbers-many : y ≡ true → Broken OverNumbers ≡ ruling (limitRules h t groups)
-    unfolding limitRules firstOf ruling
+    unfolding limitRules firstOf
     numbers-many l = rw (← e, ← p, k, ← q, l)
 
     pub limits-kept : y ≡ false → Kept ≡ ruling (limitRules h t groups)
-    unfolding limitRules firstOf ruling
+    unfolding limitRules firstOf
     limits-kept l = rw (← e, ← p, k, ← q, l)

@@ -21,8 +21,8 @@ use Rattle.archive.specs.Bytes.{be, several}
 use Rattle.archive.specs.Parse.{rangeAt}
 use Rattle.archive.proofs.Back.{length-several}
 use Rattle.archive_read.specs.bodies.View.{coverIn}
-use Rattle.columns_rules.specs.Ruled.{ruling}
-use Rattle.columns_rules.specs.declared.slots.Ruling.the-variants.{Kept, Broken}
+use Rattle.columns.specs.Answers.{ruling}
+use Rattle.columns.specs.declared.refusal.Ruling.the-variants.{Kept, Broken}
 use Rattle.cleaning.specs.Taking.{coverRules}
 use Rattle.run_rules.specs.parts.Back.{inOrder, linksAt, sized}
 use Rattle.run_rules.proofs.parts.SetOrder.{take-sets}
@@ -106,14 +106,14 @@ module _ (k : ℕ) (b : List ℕ) (p : ℕ) (o w u v : List ℕ) (h : k ≤ 1024
 
 module _ (b : List ℕ) (rows m k : ℕ) {a : Bool} (d : a ≡ rangesOk (several 12 rangeAt m (drop (rows * 4 + rows * 4 + 4) b))) where
   pub ranges-bad : not a ≡ true → Broken CoverForm ≡ ruling (coverRules (some (coverIn b rows (sized m k))))
-  unfolding coverIn rangeRules linkRules firstOf ruling
+  unfolding coverIn rangeRules linkRules firstOf
   ranges-bad h = rw (← d, not-true a h)
 
   module _ (h : not a ≡ false) {c : Bool} (e : c ≡ linksOk (linksAt b (rows * 4 + rows * 4 + 4 + m * 12 + 4) k)) where
     pub links-bad : not c ≡ true → Broken CoverForm ≡ ruling (coverRules (some (coverIn b rows (sized m k))))
-    unfolding coverIn rangeRules linkRules firstOf ruling linksAt
+    unfolding coverIn rangeRules linkRules firstOf linksAt
     links-bad g = rw (← d, not-false a h, ← e, not-true c g)
 
     pub cover-kept : not c ≡ false → Kept ≡ ruling (coverRules (some (coverIn b rows (sized m k))))
-    unfolding coverIn rangeRules linkRules firstOf ruling linksAt
+    unfolding coverIn rangeRules linkRules firstOf linksAt
     cover-kept g = rw (← d, not-false a h, ← e, not-false c g)

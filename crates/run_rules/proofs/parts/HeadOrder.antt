@@ -11,9 +11,9 @@ use Rattle.lists.specs.Lists.{same}
 use Rattle.columns.specs.Refusal.{refuse, firstOf}
 use Rattle.columns.specs.Building.{Depth, subjectOk, numbersOk, depthOk}
 use Rattle.columns.specs.declared.refusal.Refusal.the-variants.{SubjectLength, NumberRange, DepthOrder, GroupOrder, SourceOrder, CoverInSome}
-use Rattle.columns_rules.specs.Ruled.{ruling}
-use Rattle.columns_rules.specs.declared.slots.Ruling.{Ruling}
-use Rattle.columns_rules.specs.declared.slots.Ruling.the-variants.{Kept, Broken}
+use Rattle.columns.specs.Answers.{ruling}
+use Rattle.columns.specs.declared.refusal.Ruling.{Ruling}
+use Rattle.columns.specs.declared.refusal.Ruling.the-variants.{Kept, Broken}
 use Rattle.cleaning.specs.Source.{isThere}
 use Rattle.cleaning.specs.Held.{ending}
 use Rattle.run_rules.specs.declared.parts.heads.Back.{Back}
@@ -23,21 +23,21 @@ use Rattle.run_rules.specs.parts.Back.{backOf, ownRules, backRules, grou
 
 module _ (subject : List ℕ) (first rows : ℕ) (depth : Option Depth) {a : Bool} (e : a ≡ subjectOk subject) where
   pub own-subject : not a ≡ true → Broken SubjectLength ≡ ruling (ownRules subject first rows depth)
-  unfolding ownRules firstOf ruling
+  unfolding ownRules firstOf
   own-subject p = rw (← e, not-true a p)
 
   module _ (p : not a ≡ false) {b : Bool} (f : b ≡ numbersOk first rows) where
     pub own-numbers : not b ≡ true → Broken NumberRange ≡ ruling (ownRules subject first rows depth)
-    unfolding ownRules firstOf ruling
+    unfolding ownRules firstOf
     own-numbers q = rw (← e, not-false a p, ← f, not-true b q)
 
     module _ (q : not b ≡ false) {d : Bool} (g : d ≡ depthOk depth) where
       pub own-depth : not d ≡ true → Broken DepthOrder ≡ ruling (ownRules subject first rows depth)
-      unfolding ownRules firstOf ruling
+      unfolding ownRules firstOf
       own-depth r = rw (← e, not-false a p, ← f, not-false b q, ← g, not-true d r)
 
       pub own-kept : not d ≡ false → Kept ≡ ruling (ownRules subject first rows depth)
-      unfolding ownRules firstOf ruling
+      unfolding ownRules firstOf
       own-kept r = rw (← e, not-false a p, ← f, not-false b q, ← g, not-false d r)
 
 -- ── 24, 25, 26 ───────────────────────────────────────────────────────────────────────────────
@@ -63,19 +63,19 @@ module _ (back : Back) (before : List ℕ) (group : ℕ) (subject : List ℕ) (f
 
     module _ {a : Bool} (e : a ≡ groupsNear group (back .group)) where
       pub back-group : not a ≡ true → Broken GroupOrder ≡ ruling (backRules (backOf back before) group subject first covered)
-      unfolding firstOf ruling
+      unfolding firstOf
       back-group p = rw (looked-back, ← e, not-true a p)
 
       module _ (p : not a ≡ false) {b : Bool} (f : b ≡ (same subject before && eqb first (back .end))) where
         pub back-source : not b ≡ true → Broken SourceOrder ≡ ruling (backRules (backOf back before) group subject first covered)
-        unfolding firstOf ruling
+        unfolding firstOf
         back-source q = rw (looked-back, ← e, not-false a p, ← f, not-true b q)
 
         module _ (q : not b ≡ false) {d : Bool} (g : d ≡ (not (eqb group (back .group)) || Bool·beq covered (back .covered))) where
           pub back-cover : not d ≡ true → Broken CoverInSome ≡ ruling (backRules (backOf back before) group subject first covered)
-          unfolding firstOf ruling
+          unfolding firstOf
           back-cover r = rw (looked-back, ← e, not-false a p, ← f, not-false b q, ← g, not-true d r)
 
           pub back-kept : not d ≡ false → Kept ≡ ruling (backRules (backOf back before) group subject first covered)
-          unfolding firstOf ruling
+          unfolding firstOf
           back-kept r = rw (looked-back, ← e, not-false a p, ← f, not-false b q, ← g, not-false d r)

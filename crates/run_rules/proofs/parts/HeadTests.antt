@@ -14,8 +14,8 @@ use Rattle.lists.proofs.Once.{eqb-iff}
 use Rattle.columns.specs.Building.{depthOk}
 use Rattle.columns.specs.Refusal.{refuse}
 use Rattle.columns.specs.declared.refusal.Refusal.the-variants.{GroupOrder}
-use Rattle.columns_rules.specs.Ruled.{ruling}
-use Rattle.columns_rules.specs.declared.slots.Ruling.the-variants.{Kept, Broken}
+use Rattle.columns.specs.Answers.{ruling}
+use Rattle.columns.specs.declared.refusal.Ruling.the-variants.{Kept, Broken}
 use Rattle.archive.specs.Parse.{depthRead}
 use Rattle.run_rules.specs.parts.Back.{groupsNear}
 
@@ -75,11 +75,9 @@ module _ (group last : ℕ) where
     near-next k = rw (ne-eqb group last h) (eqb-iff (group - 1) last group (last + 1) (λ e. omega arith) (λ e. omega arith))
 
 pub group-late : (group : ℕ) → (group ≡ 0 → ⊥) → Broken GroupOrder ≡ ruling (refuse GroupOrder (not (eqb group 0)))
-unfolding ruling
 group-late group h = rw (ne-eqb group 0 h)
 
 pub group-first : (group : ℕ) → group ≡ 0 → Kept ≡ ruling (refuse GroupOrder (not (eqb group 0)))
-unfolding ruling
 group-first group h = rw (eq-eqb group 0 h)
 
 -- ── source and cover ─────────────────────────────────────────────────────────────────────────

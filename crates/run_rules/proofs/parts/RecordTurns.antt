@@ -17,9 +17,9 @@ use Rattle.archive_bytes.proofs.Several.{be-front, several-none, several-cons}
 use Rattle.archive.specs.Bytes.{be, several}
 use Rattle.archive.specs.Parse.{unresolvedAt, rootAt}
 use Rattle.archive.specs.File.{Unresolved, Root}
-use Rattle.columns_rules.specs.Ruled.{ruling}
-use Rattle.columns_rules.specs.declared.slots.Ruling.{Ruling}
-use Rattle.columns_rules.specs.declared.slots.Ruling.the-variants.{Kept, Broken}
+use Rattle.columns.specs.Answers.{ruling}
+use Rattle.columns.specs.declared.refusal.Ruling.{Ruling}
+use Rattle.columns.specs.declared.refusal.Ruling.the-variants.{Kept, Broken}
 use Rattle.columns_rules.proofs.Told.{told, told-kept, last-rule}
 use Rattle.run_rules.specs.parts.Back.{inRows, childRule, recordRule, recordsRules}
 
@@ -45,15 +45,15 @@ module _ {t : Bool} (rows n i : ℕ) (b : List ℕ) (p : ℕ) (e : t ≡ all (in
 
 module _ (first end child kind : ℕ) {a : Bool} (e : a ≡ inFile first end child) where
   pub child-outside : not a ≡ true → Broken UnresolvedChild ≡ ruling (childRule first end child kind)
-  unfolding childRule firstOf ruling
+  unfolding childRule firstOf
   child-outside h = rw (← e, not-true a h)
 
   pub kind-late : not a ≡ false → 2 ≤ kind → Broken UnresolvedKind ≡ ruling (childRule first end child kind)
-  unfolding childRule firstOf ruling
+  unfolding childRule firstOf
   kind-late h k = rw (← e, not-false a h, le-ltb kind 2 k)
 
   pub child-kept : not a ≡ false → kind < 2 → Kept ≡ ruling (childRule first end child kind)
-  unfolding childRule firstOf ruling
+  unfolding childRule firstOf
   child-kept h k = rw (← e, not-false a h, lt-ltb kind 2 k)
 
 abbrev pub recordsFrom : ℕ → ℕ → ℕ → List ℕ → Option Refusal
@@ -64,7 +64,7 @@ records-start first end n b = rw sub-zero
 
 module _ {t : Ruling} (first end n i : ℕ) (b : List ℕ) (p : ℕ) (e : t ≡ ruling (recordsFrom first end (n - i) (drop p b))) where
   pub records-done : n ≤ i → Kept ≡ t
-  unfolding firstIn ruling
+  unfolding firstIn
   records-done h = rw (e, several-none 13 unresolvedAt n i b p h)
 
   module _ (h : i < n) {r : Ruling} {x : ℕ} (d : x ≡ be 8 b p) (k : r ≡ ruling (childRule first end x (getD b (p + 8) 0))) where
@@ -73,7 +73,7 @@ module _ {t : Ruling} (first end n i : ℕ) (b : List ℕ) (p : ℕ) (e : t ≡ 
     here = rw (be-front 8 b p, ← d, getD-drop p b 8 0)
 
     pub records-stop : {y : Refusal} → r ≡ Broken y → Broken y ≡ t
-    unfolding firstIn firstOf ruling
+    unfolding firstIn firstOf
     records-stop g = rw (e, several-cons 13 unresolvedAt n i b p h, here, told (childRule first end x (getD b (p + 8) 0)) k g)
 
     pub records-on : r ≡ Kept → t ≡ ruling (recordsFrom first end (n - (i + 1)) (drop (p + 13) b))
@@ -84,7 +84,7 @@ module _ {t : Ruling} (first end n i : ℕ) (b : List ℕ) (p : ℕ) (e : t ≡ 
 
 module _ (first rows end : ℕ) (roots : List Root) (us : List Unresolved) {a : Bool} (e : a ≡ all (inRows rows) roots) where
   pub roots-bad : not a ≡ true → Broken RootOutside ≡ ruling (recordsRules first rows end roots us)
-  unfolding recordsRules firstOf ruling
+  unfolding recordsRules firstOf
   roots-bad h = rw (← e, not-true a h)
 
   pub then-records : {r : Ruling} → not a ≡ false → r ≡ ruling (firstIn (recordRule first end) us) → r ≡ ruling (recordsRules first rows end roots us)

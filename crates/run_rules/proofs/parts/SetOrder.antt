@@ -8,18 +8,14 @@ use lib.IntN.{ℤ}
 use lib.ListN.{length, take, drop, length-map}
 use lib.Seq.{sets, sets-eq, length-sets, length-take-le, take-append-seam}
 use Rattle.columns.specs.EdgeSet.{EdgeSet}
-use Rattle.columns.specs.Answers.{checkedOf, columnsOf}
+use Rattle.columns.specs.Answers.{columnsOf, ruling}
 use Rattle.columns.specs.Reading.{setRules}
 use Rattle.columns.specs.declared.refusal.Refusal.{Refusal}
-use Rattle.columns.specs.declared.reading.Checked as checks
-use Rattle.columns.specs.declared.reading.Checked.the-variants as checked
-use Rattle.columns.proofs.Checks.{is-kept, is-broken}
 use Rattle.archive_bytes.specs.Bytes.{column, signedOf}
 use Rattle.archive.proofs.Back.{length-several}
 use Rattle.archive_read.specs.bodies.View.{setIn}
-use Rattle.columns_rules.specs.Ruled.{ruling}
-use Rattle.columns_rules.specs.declared.slots.Ruling.{Ruling}
-use Rattle.columns_rules.specs.declared.slots.Ruling.the-variants.{Kept, Broken}
+use Rattle.columns.specs.declared.refusal.Ruling.{Ruling}
+use Rattle.columns.specs.declared.refusal.Ruling.the-variants.{Kept, Broken}
 use Rattle.columns_rules.proofs.Told.{stops-here, goes-on}
 use Rattle.run_rules.specs.parts.Back.{setsRules, laterRules}
 
@@ -53,19 +49,10 @@ module _ (rows n : ℕ) (h : rows ≤ 1024) (k : n ≤ 4096) where
   deltas-count ds v = sym (length-take-le n ds (omega arith))
 
 -- the rules of the columns that were read are those of the set
-pub rules-loaded : (set first rows end : ℕ) (y x : EdgeSet) {r : checks.Checked} → y ≡ x → r ≡ checkedOf (setRules set first rows end y) → r ≡ checkedOf (setRules set first rows end x)
+pub rules-loaded : (set first rows end : ℕ) (y x : EdgeSet) {r : Ruling} → y ≡ x → r ≡ ruling (setRules set first rows end y) → r ≡ ruling (setRules set first rows end x)
 rules-loaded set first rows end y x e g = rw (← e) g
 
 -- ── what is answered of a set ────────────────────────────────────────────────────────────────
-
-module _ (o : Option Refusal) {c : checks.Checked} (e : c ≡ checkedOf o) where
-  pub checked-kept : c ≡ checked.Kept → Kept ≡ ruling o
-  unfolding ruling
-  checked-kept g = rw (is-kept c o e g)
-
-  pub checked-broken : {y : Refusal} → c ≡ checked.Broken y → Broken y ≡ ruling o
-  unfolding ruling
-  checked-broken {y} g = rw (is-broken c o y e g)
 
 module _ (first rows end : ℕ) (r i : EdgeSet) {x : Ruling} (e : x ≡ ruling (setRules 1 first rows end r)) where
   pub reverse-bad : {y : Refusal} → x ≡ Broken y → Broken y ≡ ruling (laterRules first rows end r i)

@@ -2,7 +2,7 @@
 use archive_bytes::load_u32;
 use archive_bytes::number_columns::fill_u32s;
 use columns::refusal::Refusal;
-use columns_rules::slots::Ruling;
+use columns::refusal::Ruling;
 use cover_rows::links_fit;
 ghost use mathlib.Core.Path.{_≡_};
 ghost use mathlib.Core.List.{map};
@@ -14,7 +14,7 @@ ghost use Rattle.lists.specs.Order.{rising};
 ghost use Rattle.cover.specs.Cover.{rangesOk, linksOk};
 ghost use Rattle.cover.specs.Answers.{linkColumns};
 ghost use Rattle.archive_bytes.specs.Bytes.{column};
-ghost use Rattle.columns_rules.specs.Ruled.{ruling};
+ghost use Rattle.columns.specs.Answers.{ruling};
 ghost use Rattle.archive.specs.Bytes.{several};
 ghost use Rattle.archive.specs.Parse.{rangeAt};
 ghost use Rattle.archive_read.specs.bodies.View.{coverEnd, coverIn};

@@ -1,6 +1,6 @@
 // The rules on a file's head: its own (1, 3, 8), and those that look back at the rows before it (24, 25, 26).
 use columns::refusal::Refusal;
-use columns_rules::slots::Ruling;
+use columns::refusal::Ruling;
 ghost use mathlib.Core.Path.{_≡_};
 ghost use mathlib.Core.Bool.{not, _&&_, _||_, Bool·beq};
 ghost use lib.Dec.{eqb};
@@ -8,7 +8,7 @@ ghost use Rattle.lists.specs.Lists.{same};
 ghost use Rattle.columns.specs.Refusal.{refuse};
 ghost use Rattle.columns.specs.declared.refusal.Refusal.the-variants.{GroupOrder};
 ghost use Rattle.columns.specs.Building.{subjectOk, numbersOk, depthOk};
-ghost use Rattle.columns_rules.specs.Ruled.{ruling};
+ghost use Rattle.columns.specs.Answers.{ruling};
 ghost use Rattle.archive.specs.Parse.{depthRead};
 ghost use Rattle.run_rules.specs.parts.Back.{backOf, ownRules, backRules, groupsNear};
 

@@ -2,15 +2,13 @@
 // space, so that they are made once for all sets.
 use archive_bytes::number_columns::fill_i64s;
 use archive_bytes::number_columns::fill_u64s;
-use columns::reading::Checked;
 use columns::reading::set_rules;
-use columns_rules::slots::Ruling;
+use columns::refusal::Ruling;
 ghost use mathlib.Core.Path.{_≡_};
 ghost use Prim.Native.Nat.{_+_, _*_, _≤_};
 ghost use lib.ListN.{length, take};
-ghost use Rattle.columns.specs.Answers.{checkedOf, columnsOf};
+ghost use Rattle.columns.specs.Answers.{ruling, columnsOf};
 ghost use Rattle.columns.specs.Reading.{setRules};
-ghost use Rattle.columns_rules.specs.Ruled.{ruling};
 ghost use Rattle.archive_read.specs.bodies.View.{setEnd, setIn};
 ghost use Rattle.run_rules.specs.parts.Back.{setsRules, laterRules};
 
@@ -41,34 +39,16 @@ fn loaded_rules(
     n: usize,
     offsets: &[u64],
     deltas: &[i64],
-) -> Checked
+) -> Ruling
     requires { ⌜ (rows ≤ 1024) × (n ≤ 4096) ⌝ }
     requires { ⌜ (length (now offsets) ≡ 2049) × (length (now deltas) ≡ 4096) ⌝ }
-    ensures { λ r. ⌜ r ≡ checkedOf (setRules set first rows end (columnsOf n (take (2 * rows + 1) (now (offsets .entry))) (take n (now (deltas .entry))))) ⌝ }
+    ensures { λ r. ⌜ r ≡ ruling (setRules set first rows end (columnsOf n (take (2 * rows + 1) (now (offsets .entry))) (take n (now (deltas .entry))))) ⌝ }
 {
     let k = 2 * rows + 1;
     set_rules(set, first, rows, end, n as u64, &offsets[..k], &deltas[..n])
 }
 
 // The rules of the set of n deltas that starts at place p.
-fn check_set(
-    b: &[u8],
-    set: u64,
-    first: u64,
-    rows: usize,
-    end: u64,
-    p: usize,
-    n: usize,
-    offsets: &mut [u64; 2049],
-    deltas: &mut [i64; 4096],
-) -> Checked
-    requires { ⌜ (rows ≤ 1024) × ((n ≤ 4096) × (setEnd rows p n ≤ length (now b))) ⌝ }
-    ensures { λ r. ⌜ r ≡ checkedOf (setRules set first rows end (setIn (now (b .entry)) rows p n)) ⌝ }
-{
-    load_set(b, rows, p, n, offsets, deltas);
-    loaded_rules(set, first, rows, end, n, offsets, deltas)
-}
-
 fn rule_set(
     b: &[u8],
     set: u64,
@@ -83,11 +63,8 @@ fn rule_set(
     requires { ⌜ (rows ≤ 1024) × ((n ≤ 4096) × (setEnd rows p n ≤ length (now b))) ⌝ }
     ensures { λ r. ⌜ r ≡ ruling (setRules set first rows end (setIn (now (b .entry)) rows p n)) ⌝ }
 {
-    let c = check_set(b, set, first, rows, end, p, n, offsets, deltas);
-    match c {
-        Checked::Kept => Ruling::Kept,
-        Checked::Broken(x) => Ruling::Broken(x),
-    }
+    load_set(b, rows, p, n, offsets, deltas);
+    loaded_rules(set, first, rows, end, n, offsets, deltas)
 }
 
 // 17 to 19 of the reverse and of the inbound set: n deltas from place p on, m from place q on.

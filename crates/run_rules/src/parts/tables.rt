@@ -1,14 +1,14 @@
 // The rules on roots (16) and on unresolved records (6, 7), over the bodies of their records.
 use archive_bytes::load_u64;
 use columns::refusal::Refusal;
+use columns::refusal::Ruling;
 use columns_rules::records::parts::is_in_file;
-use columns_rules::slots::Ruling;
 ghost use mathlib.Core.Path.{_≡_};
 ghost use Prim.Native.Nat.{_+_, _*_, _≤_};
 ghost use lib.ListN.{length, drop};
 ghost use Rattle.lists.specs.Lists.{all};
 ghost use Rattle.columns.specs.Refusal.{firstIn};
-ghost use Rattle.columns_rules.specs.Ruled.{ruling};
+ghost use Rattle.columns.specs.Answers.{ruling};
 ghost use Rattle.archive.specs.Bytes.{several};
 ghost use Rattle.archive.specs.Parse.{unresolvedAt, rootAt};
 ghost use Rattle.run_rules.specs.parts.Back.{inRows, childRule, recordRule, recordsRules};

@@ -23,7 +23,7 @@ use Rattle.columns.proofs.Offsets.{low-high, form-climbs}
 use Rattle.columns_rules.proofs.SlotTables.{table-of, length-cut}
 use Rattle.columns_rules.proofs.Told.{last-rule}
 use Rattle.columns_rules.specs.records.Recorded.{depthOf, labelsGiven}
-use Rattle.columns_rules.specs.declared.records.groups.Depth as given
+use Rattle.columns.specs.declared.depth.Depth as given
 use Rattle.columns_encode.specs.Encoded.{Rooms}
 use Rattle.columns_encode.specs.declared.kept.Encoded.{Encoded}
 use Rattle.columns_build.specs.Lent.{graphOf, slicesOf, Answers}

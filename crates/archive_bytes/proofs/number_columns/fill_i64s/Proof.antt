@@ -4,9 +4,8 @@ use mathlib.Core.Path.{_≡_}
 use Prim.Native.Nat.{_≤_, _+_, _-_, _*_}
 use lib.ListN.{length}
 use lib.Seq.{sets}
-use Rattle.archive_bytes.specs.Bytes.{column}
+use Rattle.archive_bytes.specs.Bytes.{column, signedOf}
 use mathlib.Core.List.{map}
-use Rattle.archive_bytes.specs.Bytes.{signedOf}
 use Rattle.archive_bytes.proofs.number_columns.Turns.{all-signed, one-signed}
 use borrow.Author.Needs.{needs}
 use Rattle.archive_bytes.proofs.number_columns.fill_i64s.Statement.{statement}

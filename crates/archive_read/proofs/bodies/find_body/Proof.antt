@@ -6,7 +6,7 @@ use Rattle.archive_read.proofs.bodies.find_body.Statement.{statement}
 use Rattle.archive_read.proofs.bodies.find_body.Tie as tie
 use Rattle.archive_read.proofs.bodies.find_body.Reads as reads
 use Rattle.archive_read.proofs.bodies.find_body.Lts as lts
-use Rattle.archive_read.proofs.bodies.index.Reads as index-reads
+use Rattle.arrays.proofs.index.Reads as index-reads
 use Rattle.archive_bytes.proofs.load_u32.Reads as load-u32-reads
 
 returns : tie.Need-returns

@@ -5,7 +5,7 @@ use Rattle.archive_read.proofs.bodies.set_at.Statement.{statement}
 use Rattle.archive_read.proofs.bodies.set_at.Tie as tie
 use Rattle.archive_read.proofs.bodies.set_at.Reads as reads
 use Rattle.archive_read.proofs.bodies.set_at.Lts as lts
-use Rattle.archive_read.proofs.bodies.index.Reads as index-reads
+use Rattle.arrays.proofs.index.Reads as index-reads
 use Rattle.archive_bytes.proofs.load_u32.Reads as load-u32-reads
 
 sub-if1 : tie.Need-sub-if1

@@ -4,7 +4,7 @@ use mathlib.Core.List.{[]}
 use Prim.Native.Nat.{_≤_, _-_}
 use lib.Seq.{slice}
 use Rattle.columns.specs.Building.{parentRules}
-use Rattle.columns_rules.specs.Ruled.{ruling}
+use Rattle.columns.specs.Answers.{ruling}
 use Rattle.columns_rules.proofs.ParentTurns.{parents-done, parent-late, parent-again, parents-on, none-yet}
 use borrow.Author.Needs.{needs}
 use Rattle.columns_rules.proofs.slots.parent_rules.Statement.{statement}

@@ -5,7 +5,7 @@ use Rattle.columns_rules.proofs.slots.slot_rule.Statement.{statement}
 use Rattle.columns_rules.proofs.slots.slot_rule.Tie as tie
 use Rattle.columns_rules.proofs.slots.slot_rule.Reads as reads
 use Rattle.columns_rules.proofs.slots.slot_rule.Lts as lts
-use Rattle.columns_rules.proofs.slots.index.Reads as index-reads
+use Rattle.arrays.proofs.index.Reads as index-reads
 use Rattle.columns_rules.proofs.slots.parent_rules.Reads as parent-rules-reads
 
 mul-index : tie.Need-mul-index

@@ -4,7 +4,7 @@ use Prim.Native.Nat.{_≤_, _-_, _*_}
 use lib.ListN.{drop}
 use Rattle.columns.specs.EdgeSet.{cut}
 use Rattle.columns.specs.Building.{slotRules}
-use Rattle.columns_rules.specs.Ruled.{ruling}
+use Rattle.columns.specs.Answers.{ruling}
 use Rattle.columns_rules.proofs.ParentTurns.{slots-done, slots-stop, slots-on}
 use borrow.Author.Needs.{needs}
 use Rattle.columns_rules.proofs.slots.slot_rules.Statement.{statement}

@@ -6,7 +6,7 @@ use Rattle.columns_sets.proofs.sets.write_deltas.Statement.{statement}
 use Rattle.columns_sets.proofs.sets.write_deltas.Tie as tie
 use Rattle.columns_sets.proofs.sets.write_deltas.Reads as reads
 use Rattle.columns_sets.proofs.sets.write_deltas.Lts as lts
-use Rattle.columns_rules.proofs.slots.index.Reads as index-reads
+use Rattle.arrays.proofs.index.Reads as index-reads
 use Rattle.columns_sets.proofs.sets.write_slot_of.Reads as write-slot-of-reads
 
 abbrev Inv-loop : tie.InvT-loop

@@ -6,7 +6,7 @@ use Rattle.columns_sets.proofs.sets.write_slot_of.Statement.{statement}
 use Rattle.columns_sets.proofs.sets.write_slot_of.Tie as tie
 use Rattle.columns_sets.proofs.sets.write_slot_of.Reads as reads
 use Rattle.columns_sets.proofs.sets.write_slot_of.Lts as lts
-use Rattle.columns_rules.proofs.slots.index.Reads as index-reads
+use Rattle.arrays.proofs.index.Reads as index-reads
 use Rattle.columns_sets.proofs.sets.write_slot.Reads as write-slot-reads
 
 mul-s : tie.Need-mul-s

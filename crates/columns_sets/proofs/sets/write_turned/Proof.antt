@@ -1,6 +1,5 @@
 -- `columns_sets::sets::write_turned` meets its contract.
-use Rattle.columns_sets.proofs.sets.WholeSets.{turned-room}
-use Rattle.columns_sets.proofs.sets.WholeSets.{turned-many, turned-offsets, turned-reached, turned-counted, turned-starts, turned-deltas}
+use Rattle.columns_sets.proofs.sets.WholeSets.{turned-room, turned-many, turned-offsets, turned-reached, turned-counted, turned-starts, turned-deltas}
 use borrow.Author.Needs.{needs}
 use Rattle.columns_sets.proofs.sets.write_turned.Statement.{statement}
 use Rattle.columns_sets.proofs.sets.write_turned.Tie as tie

@@ -6,7 +6,7 @@ use Rattle.run_sets.proofs.section.build_given.Statement.{statement}
 use Rattle.run_sets.proofs.section.build_given.Tie as tie
 use Rattle.run_sets.proofs.section.build_given.Reads as reads
 use Rattle.run_sets.proofs.section.build_given.Lts as lts
-use Rattle.columns_rules.proofs.slots.index.Reads as index-reads
+use Rattle.arrays.proofs.index.Reads as index-reads
 use Rattle.run_sets.proofs.section.build_columns.Reads as build-columns-reads
 use Rattle.run_group.proofs.sections.edges.edges_into.Reads as edges-into-reads
 

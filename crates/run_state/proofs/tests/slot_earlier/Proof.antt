@@ -6,7 +6,7 @@ use Rattle.run_state.proofs.tests.slot_earlier.Statement.{statement}
 use Rattle.run_state.proofs.tests.slot_earlier.Tie as tie
 use Rattle.run_state.proofs.tests.slot_earlier.Reads as reads
 use Rattle.run_state.proofs.tests.slot_earlier.Lts as lts
-use Rattle.columns_rules.proofs.slots.index.Reads as index-reads
+use Rattle.arrays.proofs.index.Reads as index-reads
 use Rattle.run_state.proofs.tests.are_below.Reads as are-below-reads
 
 mul-index : tie.Need-mul-index

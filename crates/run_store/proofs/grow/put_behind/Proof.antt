@@ -2,7 +2,6 @@ use Rattle.columns.specs.Answers.{columnsOf}
 use Rattle.columns.specs.Reading.{slotsOf}
 use Rattle.lists.specs.Lists.{joined}
 use Rattle.run_store.proofs.grow.Turns.{part-back}
-use Rattle.run_store.proofs.grow.Turns.{part-back}
 use borrow.Author.Needs.{needs}
 use Rattle.run_store.proofs.grow.put_behind.Statement.{statement}
 use Rattle.run_store.proofs.grow.put_behind.Tie as tie

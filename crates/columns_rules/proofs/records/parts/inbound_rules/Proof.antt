@@ -2,7 +2,7 @@
 use mathlib.Core.Path.{_≡_}
 use Prim.Native.Nat.{_≤_, _+_, _-_}
 use Rattle.columns.specs.Building.{recordCount}
-use Rattle.columns_rules.specs.Ruled.{ruling}
+use Rattle.columns.specs.Answers.{ruling}
 use Rattle.columns_rules.specs.records.Recorded.{inboundFrom}
 use Rattle.columns_rules.proofs.records.RecordParts.{inbound-done, inbound-stop, inbound-on, inbound-all}
 use borrow.Author.Needs.{needs}

@@ -5,7 +5,7 @@ use Rattle.columns_rules.proofs.spans.reach.slot_fits.Statement.{statem
 use Rattle.columns_rules.proofs.spans.reach.slot_fits.Tie as tie
 use Rattle.columns_rules.proofs.spans.reach.slot_fits.Reads as reads
 use Rattle.columns_rules.proofs.spans.reach.slot_fits.Lts as lts
-use Rattle.columns_rules.proofs.slots.index.Reads as index-reads
+use Rattle.arrays.proofs.index.Reads as index-reads
 use Rattle.columns_rules.proofs.spans.reach.all_fit.Reads as all-fit-reads
 
 mul-s : tie.Need-mul-s

@@ -5,7 +5,7 @@ use Rattle.run_group.proofs.sections.edges.row_edges.Statement.{stateme
 use Rattle.run_group.proofs.sections.edges.row_edges.Tie as tie
 use Rattle.run_group.proofs.sections.edges.row_edges.Reads as reads
 use Rattle.run_group.proofs.sections.edges.row_edges.Lts as lts
-use Rattle.columns_rules.proofs.slots.index.Reads as index-reads
+use Rattle.arrays.proofs.index.Reads as index-reads
 use Rattle.run_group.proofs.sections.edges.slot_edges.Reads as slot-edges-reads
 
 mul-index : tie.Need-mul-index

@@ -1,26 +1,21 @@
 -- `run_rules::parts::sets::rule_set` meets its contract.
-use Rattle.run_rules.proofs.parts.SetOrder.{checked-kept, checked-broken}
+use Rattle.run_rules.proofs.parts.SetOrder.{rules-loaded}
 use borrow.Author.Needs.{needs}
 use Rattle.run_rules.proofs.parts.sets.rule_set.Statement.{statement}
 use Rattle.run_rules.proofs.parts.sets.rule_set.Tie as tie
 use Rattle.run_rules.proofs.parts.sets.rule_set.Reads as reads
 use Rattle.run_rules.proofs.parts.sets.rule_set.Lts as lts
-use Rattle.run_rules.proofs.parts.sets.check_set.Reads as check-set-reads
+use Rattle.run_rules.proofs.parts.sets.load_set.Reads as load-set-reads
+use Rattle.run_rules.proofs.parts.sets.loaded_rules.Reads as loaded-rules-reads
 
-check-set-requires : tie.Need-check-set-requires
-check-set-requires c κs = search needs
+load-set-requires : tie.Need-load-set-requires
+load-set-requires c κs = search needs
 
-enum-told : tie.Need-enum-told
-enum-told c = search needs
-
-enum-known-c : tie.Need-enum-known-c
-enum-known-c c = search needs
+loaded-rules-requires : tie.Need-loaded-rules-requires
+loaded-rules-requires c κs = search needs
 
 returns : tie.Need-returns
-returns c = search checked-kept
-
-returns-2 : tie.Need-returns-2
-returns-2 c = search checked-broken
+returns c = search rules-loaded
 
 pub rule-set-spec : {M : Type 1} → statement M
-rule-set-spec = tie.close (tie.spec check-set-requires enum-told enum-known-c returns returns-2)
+rule-set-spec = tie.close (tie.spec load-set-requires loaded-rules-requires returns)

@@ -2,7 +2,7 @@
 use mathlib.Core.Path.{_≡_}
 use Prim.Native.Nat.{_≤_, _+_, _-_, _*_}
 use lib.ListN.{drop}
-use Rattle.columns_rules.specs.Ruled.{ruling}
+use Rattle.columns.specs.Answers.{ruling}
 use Rattle.run_rules.proofs.parts.RecordTurns.{recordsFrom, records-start, records-done, records-stop, records-on}
 use borrow.Author.Needs.{needs}
 use Rattle.run_rules.proofs.parts.tables.children_rules.Statement.{statement}
