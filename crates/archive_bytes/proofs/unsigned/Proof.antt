@@ -3,8 +3,6 @@ use Rattle.archive_bytes.proofs.Twos.{sub-fits, sub-pos, sub-fits-u, su
 use borrow.Author.Needs.{needs}
 use Rattle.archive_bytes.proofs.unsigned.Statement.{statement}
 use Rattle.archive_bytes.proofs.unsigned.Tie as tie
-use Rattle.archive_bytes.proofs.unsigned.Reads as reads
-use Rattle.archive_bytes.proofs.unsigned.Lts as lts
 
 sub-k : tie.Need-sub-k
 sub-k c = search sub-fits

@@ -5,20 +5,11 @@ use borrow.Author.Needs.{needs}
 use Rattle.columns_ask.proofs.asked_rules.Statement.{statement}
 use Rattle.columns_ask.proofs.asked_rules.Tie as tie
 
-children-rules-requires : tie.Need-children-rules-requires
-children-rules-requires c κs = search needs
-
-enum-told : tie.Need-enum-told
-enum-told c = search needs
-
 are-children-over-requires : tie.Need-are-children-over-requires
 are-children-over-requires c κs = (search needs, (search readable-reverse, search readable-inbound))
 
 returns : tie.Need-returns
 returns c = search over-children
-
-enum-known-rules : tie.Need-enum-known-rules
-enum-known-rules c = search needs
 
 returns-2 : tie.Need-returns-2
 returns-2 c = search few-children
@@ -30,10 +21,10 @@ pub asked-rules-spec : {M : Type 1} → statement M
 asked-rules-spec =
     tie.close
     (tie.spec
-    children-rules-requires
-    enum-told
+    (λ c κs. search needs)
+    (λ c. search needs)
     are-children-over-requires
     returns
-    enum-known-rules
+    (λ c. search needs)
     returns-2
     returns-3)

@@ -5,23 +5,11 @@ use borrow.Author.Needs.{needs}
 use Rattle.columns_ask.proofs.children.Statement.{statement}
 use Rattle.columns_ask.proofs.children.Tie as tie
 
-slot-requires : tie.Need-slot-requires
-slot-requires c κs = search needs
-
 asked-rules-requires : tie.Need-asked-rules-requires
 asked-rules-requires c κs = search kind-in
 
-enum-told : tie.Need-enum-told
-enum-told c = search needs
-
 write-children-requires : tie.Need-write-children-requires
 write-children-requires c κs = (search kind-in, (search reverse-readable, search inbound-readable))
-
-enum-known-rules : tie.Need-enum-known-rules
-enum-known-rules c = search needs
-
-same-length : tie.Need-same-length
-same-length c = search needs
 
 returns : tie.Need-returns
 returns c = (search children-counted, search children-written)
@@ -33,11 +21,11 @@ pub children-spec : {M : Type 1} → statement M
 children-spec =
     tie.close
     (tie.spec
-    slot-requires
+    (λ c κs. search needs)
     asked-rules-requires
-    enum-told
+    (λ c. search needs)
     write-children-requires
-    enum-known-rules
-    same-length
+    (λ c. search needs)
+    (λ c. search needs)
     returns
     returns-2)

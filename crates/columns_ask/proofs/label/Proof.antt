@@ -5,17 +5,8 @@ use Rattle.columns_ask.proofs.Labels.{label-kept, label-refused}
 use Rattle.columns_ask.proofs.label.Statement.{statement}
 use Rattle.columns_ask.proofs.label.Tie as tie
 
-lent-label-rules-requires : tie.Need-lent-label-rules-requires
-lent-label-rules-requires c κs = search needs
-
-enum-told : tie.Need-enum-told
-enum-told c = search needs
-
 label-at-requires : tie.Need-label-at-requires
 label-at-requires c κs = (search as-many, (search short-chains, search short-seqs))
-
-enum-known-rules : tie.Need-enum-known-rules
-enum-known-rules c = search needs
 
 returns : tie.Need-returns
 returns c = search label-kept
@@ -27,9 +18,9 @@ pub label-spec : {M : Type 1} → statement M
 label-spec =
     tie.close
     (tie.spec
-    lent-label-rules-requires
-    enum-told
+    (λ c κs. search needs)
+    (λ c. search needs)
     label-at-requires
-    enum-known-rules
+    (λ c. search needs)
     returns
     returns-2)

@@ -10,20 +10,8 @@ returns c = search label-below
 returns-2 : tie.Need-returns-2
 returns-2 c = search label-past
 
-mul-short : tie.Need-mul-short
-mul-short c = search needs
-
-shared-slice-read-short : tie.Need-shared-slice-read-short
-shared-slice-read-short c = search needs
-
 short-requires : tie.Need-short-requires
 short-requires c κs = search short-at
-
-mul-short-2 : tie.Need-mul-short-2
-mul-short-2 c = search needs
-
-shared-slice-read-short-2 : tie.Need-shared-slice-read-short-2
-shared-slice-read-short-2 c = search needs
 
 short-requires-2 : tie.Need-short-requires-2
 short-requires-2 c κs = search short-beside
@@ -37,10 +25,10 @@ label-at-spec =
     (tie.spec
     returns
     returns-2
-    mul-short
-    shared-slice-read-short
+    (λ c. search needs)
+    (λ c. search needs)
     short-requires
-    mul-short-2
-    shared-slice-read-short-2
+    (λ c. search needs)
+    (λ c. search needs)
     short-requires-2
     returns-3)

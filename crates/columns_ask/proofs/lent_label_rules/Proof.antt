@@ -4,21 +4,6 @@ use Rattle.columns_ask.proofs.Limited.{labels-in, labels-out}
 use Rattle.columns_ask.proofs.lent_label_rules.Statement.{statement}
 use Rattle.columns_ask.proofs.lent_label_rules.Tie as tie
 
-is-over-requires : tie.Need-is-over-requires
-is-over-requires c κs = search needs
-
-limit-rules-requires : tie.Need-limit-rules-requires
-limit-rules-requires c κs = search needs
-
-enum-told : tie.Need-enum-told
-enum-told c = search needs
-
-label-rules-requires : tie.Need-label-rules-requires
-label-rules-requires c κs = search needs
-
-enum-known-limit : tie.Need-enum-known-limit
-enum-known-limit c = search needs
-
 returns : tie.Need-returns
 returns c = search labels-in
 
@@ -29,10 +14,10 @@ pub lent-label-rules-spec : {M : Type 1} → statement M
 lent-label-rules-spec =
     tie.close
     (tie.spec
-    is-over-requires
-    limit-rules-requires
-    enum-told
-    label-rules-requires
-    enum-known-limit
+    (λ c κs. search needs)
+    (λ c κs. search needs)
+    (λ c. search needs)
+    (λ c κs. search needs)
+    (λ c. search needs)
     returns
     returns-2)

@@ -13,23 +13,8 @@ returns-2 c = search none-below
 returns-3 : tie.Need-returns-3
 returns-3 c = search none-past
 
-mul-slot : tie.Need-mul-slot
-mul-slot c = search needs
-
-add-slot : tie.Need-add-slot
-add-slot c = search needs
-
-add-result : tie.Need-add-result
-add-result c = search needs
-
-mul-result : tie.Need-mul-result
-mul-result c = search needs
-
 shared-slice-read-result : tie.Need-shared-slice-read-result
 shared-slice-read-result c = search next-in
-
-mul-result-2 : tie.Need-mul-result-2
-mul-result-2 c = search needs
 
 shared-slice-read-result-2 : tie.Need-shared-slice-read-result-2
 shared-slice-read-result-2 c = search slot-in
@@ -47,12 +32,12 @@ list-length-spec =
     returns
     returns-2
     returns-3
-    mul-slot
-    add-slot
-    add-result
-    mul-result
+    (λ c. search needs)
+    (λ c. search needs)
+    (λ c. search needs)
+    (λ c. search needs)
     shared-slice-read-result
-    mul-result-2
+    (λ c. search needs)
     shared-slice-read-result-2
     sub-result
     returns-4)

@@ -6,23 +6,8 @@ use Rattle.columns_ask.proofs.Asked.{parents-counted, parents-written, 
 use Rattle.columns_ask.proofs.parents.Statement.{statement}
 use Rattle.columns_ask.proofs.parents.Tie as tie
 
-csr-rules-requires : tie.Need-csr-rules-requires
-csr-rules-requires c κs = search needs
-
-enum-told : tie.Need-enum-told
-enum-told c = search needs
-
-slot-requires : tie.Need-slot-requires
-slot-requires c κs = search needs
-
 write-list-requires : tie.Need-write-list-requires
 write-list-requires c κs = ((search kind-in, search needs), search readable)
-
-enum-known-rules : tie.Need-enum-known-rules
-enum-known-rules c = search needs
-
-same-length : tie.Need-same-length
-same-length c = search needs
 
 returns : tie.Need-returns
 returns c = (search parents-counted, search parents-written)
@@ -34,11 +19,11 @@ pub parents-spec : {M : Type 1} → statement M
 parents-spec =
     tie.close
     (tie.spec
-    csr-rules-requires
-    enum-told
-    slot-requires
+    (λ c κs. search needs)
+    (λ c. search needs)
+    (λ c κs. search needs)
     write-list-requires
-    enum-known-rules
-    same-length
+    (λ c. search needs)
+    (λ c. search needs)
     returns
     returns-2)

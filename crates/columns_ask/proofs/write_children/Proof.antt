@@ -11,12 +11,9 @@ write-list-requires c κs = ((search needs, search needs), search needs)
 write-list-requires-2 : tie.Need-write-list-requires-2
 write-list-requires-2 c κs = ((search needs, search list-few), search needs)
 
-same-length : tie.Need-same-length
-same-length c = search needs
-
 returns : tie.Need-returns
 returns c = (search both-counted, search both-written)
 
 pub write-children-spec : {M : Type 1} → statement M
 write-children-spec =
-    tie.close (tie.spec write-list-requires write-list-requires-2 same-length returns)
+    tie.close (tie.spec write-list-requires write-list-requires-2 (λ c. search needs) returns)

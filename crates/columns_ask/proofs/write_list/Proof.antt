@@ -4,9 +4,6 @@ use borrow.Author.Needs.{needs}
 use Rattle.columns_ask.proofs.write_list.Statement.{statement}
 use Rattle.columns_ask.proofs.write_list.Tie as tie
 
-list-length-requires : tie.Need-list-length-requires
-list-length-requires c κs = search needs
-
 returns : tie.Need-returns
 returns c = (search empty-ends, search empty-put)
 
@@ -22,9 +19,6 @@ add-slot c = search slot-fits
 write-slot-requires : tie.Need-write-slot-requires
 write-slot-requires c κs = ((search there, search needs), search there-edged)
 
-same-length : tie.Need-same-length
-same-length c = search needs
-
 returns-2 : tie.Need-returns-2
 returns-2 c = (search list-ends, search list-put)
 
@@ -32,11 +26,11 @@ pub write-list-spec : {M : Type 1} → statement M
 write-list-spec =
     tie.close
     (tie.spec
-    list-length-requires
+    (λ c κs. search needs)
     returns
     sub-slot
     mul-slot
     add-slot
     write-slot-requires
-    same-length
+    (λ c. search needs)
     returns-2)

@@ -4,9 +4,6 @@ use Rattle.columns_read.proofs.ThreeSets.{covered, uncovered}
 use Rattle.columns_read.proofs.cover_rules.Statement.{statement}
 use Rattle.columns_read.proofs.cover_rules.Tie as tie
 
-label-rules-requires : tie.Need-label-rules-requires
-label-rules-requires c κs = search needs
-
 returns : tie.Need-returns
 returns c = search covered
 
@@ -14,4 +11,4 @@ returns-2 : tie.Need-returns-2
 returns-2 c = search uncovered
 
 pub cover-rules-spec : {M : Type 1} → statement M
-cover-rules-spec = tie.close (tie.spec label-rules-requires returns returns-2)
+cover-rules-spec = tie.close (tie.spec (λ c κs. search needs) returns returns-2)

@@ -4,32 +4,11 @@ use Rattle.columns_read.proofs.ThreeSets.{forward-readable, reverse-rea
 use Rattle.columns_read.proofs.decode_granule_edges.Statement.{statement}
 use Rattle.columns_read.proofs.decode_granule_edges.Tie as tie
 
-is-any-short-requires : tie.Need-is-any-short-requires
-is-any-short-requires c κs = search needs
-
-granule-rules-requires : tie.Need-granule-rules-requires
-granule-rules-requires c κs = search needs
-
-enum-told : tie.Need-enum-told
-enum-told c = search needs
-
 write-granule-requires : tie.Need-write-granule-requires
 write-granule-requires c κs =
     let rules = c .before .before .before .before .before .granule-rules .ensures in
     let kept = c .before .before .before .enum-told .given .1 in
     (forward-readable _ _ _ _ _ _ _ _ _ _ _ rules kept, (reverse-readable _ _ _ _ _ _ _ _ _ _ _ rules kept, inbound-readable _ _ _ _ _ _ _ _ _ _ _ rules kept))
-
-enum-known-rules : tie.Need-enum-known-rules
-enum-known-rules c = search needs
-
-same-length : tie.Need-same-length
-same-length c = search needs
-
-same-length-2 : tie.Need-same-length-2
-same-length-2 c = search needs
-
-same-length-3 : tie.Need-same-length-3
-same-length-3 c = search needs
 
 returns : tie.Need-returns
 returns c =
@@ -57,13 +36,13 @@ pub decode-granule-edges-spec : {M : Type 1} → statement M
 decode-granule-edges-spec =
     tie.close
     (tie.spec
-    is-any-short-requires
-    granule-rules-requires
-    enum-told
+    (λ c κs. search needs)
+    (λ c κs. search needs)
+    (λ c. search needs)
     write-granule-requires
-    enum-known-rules
-    same-length
-    same-length-2
-    same-length-3
+    (λ c. search needs)
+    (λ c. search needs)
+    (λ c. search needs)
+    (λ c. search needs)
     returns
     returns-2)

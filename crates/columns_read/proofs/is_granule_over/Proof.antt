@@ -4,20 +4,11 @@ use Rattle.columns_read.proofs.ThreeSets.{four-over, two-over, labels-o
 use Rattle.columns_read.proofs.is_granule_over.Statement.{statement}
 use Rattle.columns_read.proofs.is_granule_over.Tie as tie
 
-is-any-over-requires : tie.Need-is-any-over-requires
-is-any-over-requires c κs = search needs
-
 returns : tie.Need-returns
 returns c = search four-over
 
-is-over-requires : tie.Need-is-over-requires
-is-over-requires c κs = search needs
-
 returns-2 : tie.Need-returns-2
 returns-2 c = search two-over
-
-is-over-requires-2 : tie.Need-is-over-requires-2
-is-over-requires-2 c κs = search needs
 
 returns-3 : tie.Need-returns-3
 returns-3 c = search labels-over
@@ -29,10 +20,10 @@ pub is-granule-over-spec : {M : Type 1} → statement M
 is-granule-over-spec =
     tie.close
     (tie.spec
-    is-any-over-requires
+    (λ c κs. search needs)
     returns
-    is-over-requires
+    (λ c κs. search needs)
     returns-2
-    is-over-requires-2
+    (λ c κs. search needs)
     returns-3
     returns-4)

@@ -4,18 +4,6 @@ use Rattle.columns_read.proofs.ThreeSets.{sets-kept, sets-broken}
 use Rattle.columns_read.proofs.sets_rules.Statement.{statement}
 use Rattle.columns_read.proofs.sets_rules.Tie as tie
 
-set-rules-requires : tie.Need-set-rules-requires
-set-rules-requires c κs = search needs
-
-enum-told : tie.Need-enum-told
-enum-told c = search needs
-
-both-rules-requires : tie.Need-both-rules-requires
-both-rules-requires c κs = search needs
-
-enum-known-rules : tie.Need-enum-known-rules
-enum-known-rules c = search needs
-
 returns : tie.Need-returns
 returns c = search sets-kept
 
@@ -25,4 +13,4 @@ returns-2 c = search sets-broken
 pub sets-rules-spec : {M : Type 1} → statement M
 sets-rules-spec =
     tie.close
-    (tie.spec set-rules-requires enum-told both-rules-requires enum-known-rules returns returns-2)
+    (tie.spec (λ c κs. search needs) (λ c. search needs) (λ c κs. search needs) (λ c. search needs) returns returns-2)

@@ -13,15 +13,6 @@ write-csr-requires-2 c κs = c .before .before .before .before .before .before .
 write-csr-requires-3 : tie.Need-write-csr-requires-3
 write-csr-requires-3 c κs = c .before .before .before .before .before .before .before .before .before .before .before .before .before .before .before .pre .1 .1
 
-same-length : tie.Need-same-length
-same-length c = search needs
-
-same-length-2 : tie.Need-same-length-2
-same-length-2 c = search needs
-
-same-length-3 : tie.Need-same-length-3
-same-length-3 c = search needs
-
 returns : tie.Need-returns
 returns c =
     let f = c .before .before .before .before .before .before .before .before .before .before .write-csr .ensures in
@@ -36,7 +27,7 @@ write-granule-spec =
     write-csr-requires
     write-csr-requires-2
     write-csr-requires-3
-    same-length
-    same-length-2
-    same-length-3
+    (λ c. search needs)
+    (λ c. search needs)
+    (λ c. search needs)
     returns)

@@ -5,29 +5,8 @@ use borrow.Author.Needs.{needs}
 use Rattle.columns_walk.proofs.ancestor.Statement.{statement}
 use Rattle.columns_walk.proofs.ancestor.Tie as tie
 
-slice-aggregate-read : tie.Need-slice-aggregate-read
-slice-aggregate-read c = search needs
-
-read-requires : tie.Need-read-requires
-read-requires c κs = search needs
-
-slot-requires : tie.Need-slot-requires
-slot-requires c κs = search needs
-
-enum-known-answer : tie.Need-enum-known-answer
-enum-known-answer c = search needs
-
-enum-told : tie.Need-enum-told
-enum-told c = search needs
-
-slice-aggregate-shared : tie.Need-slice-aggregate-shared
-slice-aggregate-shared c = search needs
-
 shared-requires : tie.Need-shared-requires
 shared-requires c κs = (search kind-below, search needs)
-
-answered-requires : tie.Need-answered-requires
-answered-requires c κs = search needs
 
 returns : tie.Need-returns
 returns c = search ancestor-refused
@@ -39,13 +18,13 @@ pub ancestor-spec : {M : Type 1} → statement M
 ancestor-spec =
     tie.close
     (tie.spec
-    slice-aggregate-read
-    read-requires
-    slot-requires
-    enum-known-answer
-    enum-told
-    slice-aggregate-shared
+    (λ c. search needs)
+    (λ c κs. search needs)
+    (λ c κs. search needs)
+    (λ c. search needs)
+    (λ c. search needs)
+    (λ c. search needs)
     shared-requires
-    answered-requires
+    (λ c κs. search needs)
     returns
     returns-2)

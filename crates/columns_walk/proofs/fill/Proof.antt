@@ -9,38 +9,11 @@ use mathlib.Core.Path.{refl}
 use Rattle.columns_walk.proofs.fill.Statement.{statement}
 use Rattle.columns_walk.proofs.fill.Tie as tie
 
-slice-aggregate-add : tie.Need-slice-aggregate-add
-slice-aggregate-add c = search needs
-
-slice-aggregate-add-2 : tie.Need-slice-aggregate-add-2
-slice-aggregate-add-2 c = search needs
-
-slice-aggregate-add-3 : tie.Need-slice-aggregate-add-3
-slice-aggregate-add-3 c = search needs
-
 add-requires : tie.Need-add-requires
 add-requires c κs = none-zeros 4097 2053 (omega arith)
 
-slice-aggregate-run : tie.Need-slice-aggregate-run
-slice-aggregate-run c = search needs
-
-slice-aggregate-run-2 : tie.Need-slice-aggregate-run-2
-slice-aggregate-run-2 c = search needs
-
-slice-aggregate-run-3 : tie.Need-slice-aggregate-run-3
-slice-aggregate-run-3 c = search needs
-
-slice-aggregate-run-4 : tie.Need-slice-aggregate-run-4
-slice-aggregate-run-4 c = search needs
-
 run-requires : tie.Need-run-requires
 run-requires c κs = ((search needs, one-key _ _ 4097 (replicate 4097 0) _ _ _ (c .before .before .before .before .before .before .before .before .before .add .ensures .0) (c .before .before .before .before .before .before .before .before .before .add .ensures .1) (length-replicate {A = ℕ} 4097 0) (omega arith)), ((search needs, (search needs, search needs)), (c .before .before .before .before .before .before .before .before .before .add .ensures .0, seen-first _ _ _ 4097 4097 _ (c .before .before .before .before .before .before .before .before .before .before .before .before .before .before .before .before .before .args .buf .now) (replicate 4097 0) _ (c .before .before .before .before .before .before .before .before .before .add .ensures .1) (c .before .before .before .before .before .before .before .before .before .before .before .before .before .before .before .before .before .pre .1) (length-replicate {A = ℕ} 4097 0) (search needs) refl (c .before .before .before .before .before .before .before .before .before .before .before .before .before .before .before .before .before .pre .0 .1 .1 .1))))
-
-same-length : tie.Need-same-length
-same-length c = search needs
-
-same-length-2 : tie.Need-same-length-2
-same-length-2 c = search needs
 
 returns : tie.Need-returns
 returns c = search ran-levels
@@ -49,15 +22,15 @@ pub fill-spec : {M : Type 1} → statement M
 fill-spec =
     tie.close
     (tie.spec
-    slice-aggregate-add
-    slice-aggregate-add-2
-    slice-aggregate-add-3
+    (λ c. search needs)
+    (λ c. search needs)
+    (λ c. search needs)
     add-requires
-    slice-aggregate-run
-    slice-aggregate-run-2
-    slice-aggregate-run-3
-    slice-aggregate-run-4
+    (λ c. search needs)
+    (λ c. search needs)
+    (λ c. search needs)
+    (λ c. search needs)
     run-requires
-    same-length
-    same-length-2
+    (λ c. search needs)
+    (λ c. search needs)
     returns)

@@ -12,11 +12,8 @@ returns-2 c = search (short-on, short-here)
 returns-3 : tie.Need-returns-3
 returns-3 c = search (short-on, short-here)
 
-four-short-requires : tie.Need-four-short-requires
-four-short-requires c κs = search needs
-
 returns-4 : tie.Need-returns-4
 returns-4 c = search short-on
 
 pub seven-short-spec : {M : Type 1} → statement M
-seven-short-spec = tie.close (tie.spec returns returns-2 returns-3 four-short-requires returns-4)
+seven-short-spec = tie.close (tie.spec returns returns-2 returns-3 (λ c κs. search needs) returns-4)

@@ -9,11 +9,8 @@ returns c = search any-here
 returns-2 : tie.Need-returns-2
 returns-2 c = search (any-on, any-here)
 
-four-over-requires : tie.Need-four-over-requires
-four-over-requires c κs = search needs
-
 returns-3 : tie.Need-returns-3
 returns-3 c = search any-on
 
 pub six-over-spec : {M : Type 1} → statement M
-six-over-spec = tie.close (tie.spec returns returns-2 four-over-requires returns-3)
+six-over-spec = tie.close (tie.spec returns returns-2 (λ c κs. search needs) returns-3)

@@ -3,9 +3,6 @@ use borrow.Author.Needs.{needs}
 use Rattle.cover_build.proofs.write_ranges.Statement.{statement}
 use Rattle.cover_build.proofs.write_ranges.Tie as tie
 
-labels-count-requires : tie.Need-labels-count-requires
-labels-count-requires c κs = search needs
-
 slice-aggregate-ranges-of : tie.Need-slice-aggregate-ranges-of
 slice-aggregate-ranges-of c = search chains-count
 
@@ -15,15 +12,6 @@ slice-aggregate-ranges-of-2 c = search seqs-count
 ranges-of-requires : tie.Need-ranges-of-requires
 ranges-of-requires c κs = ((search fronts-even, search (needs, front-few)), (search front-few, (search front-few, search front-few)))
 
-same-length : tie.Need-same-length
-same-length c = search needs
-
-same-length-2 : tie.Need-same-length-2
-same-length-2 c = search needs
-
-same-length-3 : tie.Need-same-length-3
-same-length-3 c = search needs
-
 returns : tie.Need-returns
 returns c = (search ranges-count, search ranges-put)
 
@@ -31,11 +19,11 @@ pub write-ranges-spec : {M : Type 1} → statement M
 write-ranges-spec =
     tie.close
     (tie.spec
-    labels-count-requires
+    (λ c κs. search needs)
     slice-aggregate-ranges-of
     slice-aggregate-ranges-of-2
     ranges-of-requires
-    same-length
-    same-length-2
-    same-length-3
+    (λ c. search needs)
+    (λ c. search needs)
+    (λ c. search needs)
     returns)

@@ -3,20 +3,11 @@ use borrow.Author.Needs.{needs}
 use Rattle.cover_read.proofs.read.Statement.{statement}
 use Rattle.cover_read.proofs.read.Tie as tie
 
-seven-over-requires : tie.Need-seven-over-requires
-seven-over-requires c κs = search needs
-
 returns : tie.Need-returns
 returns c = (search read-over-told, search read-over-kept)
 
-four-short-requires : tie.Need-four-short-requires
-four-short-requires c κs = search needs
-
 returns-2 : tie.Need-returns-2
 returns-2 c = (search read-short-told, search read-short-kept)
-
-ranges-fit-requires : tie.Need-ranges-fit-requires
-ranges-fit-requires c κs = search needs
 
 returns-3 : tie.Need-returns-3
 returns-3 c = (search read-ranges-told, search read-ranges-kept)
@@ -30,18 +21,6 @@ returns-4 c = (search read-links-told, search read-links-kept)
 write-links-requires : tie.Need-write-links-requires
 write-links-requires c κs = (links-ok _ _ (c .before .before .before .before .before .links-fit .ensures) (c .before .before .before .before .if4 .left), rooms _ _ _ _ _ _ _ _ _ _ _ _ (c .before .before .before .before .before .before .before .before .before .before .before .seven-over .ensures) (c .before .before .before .before .before .before .before .before .before .before .if1 .left) _ (c .before .before .before .before .before .before .before .before .before .four-short .ensures) (c .before .before .before .before .before .before .before .before .if2 .left))
 
-same-length : tie.Need-same-length
-same-length c = search needs
-
-same-length-2 : tie.Need-same-length-2
-same-length-2 c = search needs
-
-same-length-3 : tie.Need-same-length-3
-same-length-3 c = search needs
-
-same-length-4 : tie.Need-same-length-4
-same-length-4 c = search needs
-
 returns-5 : tie.Need-returns-5
 returns-5 c = (read-all-told _ _ _ (c .before .before .before .before .before .before .before .before .before .before .before .before .before .before .before .before .before .before .before .before .seven-over .ensures) (c .before .before .before .before .before .before .before .before .before .before .before .before .before .before .before .before .before .before .before .if1 .left) (c .before .before .before .before .before .before .before .before .before .before .before .before .before .before .before .before .before .before .four-short .ensures) (c .before .before .before .before .before .before .before .before .before .before .before .before .before .before .before .before .before .if2 .left) (c .before .before .before .before .before .before .before .before .before .before .before .before .before .before .before .before .ranges-fit .ensures) (c .before .before .before .before .before .before .before .before .before .before .before .before .before .before .before .if3 .left) (c .before .before .before .before .before .before .before .before .before .before .before .before .before .before .links-fit .ensures) (c .before .before .before .before .before .before .before .before .before .before .before .before .before .if4 .left), read-all-written _ _ _ (c .before .before .before .before .before .before .before .before .before .before .before .before .before .before .before .before .before .before .before .before .seven-over .ensures) (c .before .before .before .before .before .before .before .before .before .before .before .before .before .before .before .before .before .before .before .if1 .left) (c .before .before .before .before .before .before .before .before .before .before .before .before .before .before .before .before .before .before .four-short .ensures) (c .before .before .before .before .before .before .before .before .before .before .before .before .before .before .before .before .before .if2 .left) (c .before .before .before .before .before .before .before .before .before .before .before .before .before .before .before .before .ranges-fit .ensures) (c .before .before .before .before .before .before .before .before .before .before .before .before .before .before .before .if3 .left) (c .before .before .before .before .before .before .before .before .before .before .before .before .before .before .links-fit .ensures) _ _ (c .before .before .before .before .before .before .before .before .write-links .ensures) (c .before .before .before .before .before .before .before .before .before .before .before .before .before .if4 .left))
 
@@ -49,17 +28,17 @@ pub read-spec : {M : Type 1} → statement M
 read-spec =
     tie.close
     (tie.spec
-    seven-over-requires
+    (λ c κs. search needs)
     returns
-    four-short-requires
+    (λ c κs. search needs)
     returns-2
-    ranges-fit-requires
+    (λ c κs. search needs)
     returns-3
     links-fit-requires
     returns-4
     write-links-requires
-    same-length
-    same-length-2
-    same-length-3
-    same-length-4
+    (λ c. search needs)
+    (λ c. search needs)
+    (λ c. search needs)
+    (λ c. search needs)
     returns-5)

@@ -15,18 +15,6 @@ copy-column-requires-2 c κs = search room-to
 copy-column-requires-3 : tie.Need-copy-column-requires-3
 copy-column-requires-3 c κs = search room-ends
 
-same-length : tie.Need-same-length
-same-length c = search needs
-
-same-length-2 : tie.Need-same-length-2
-same-length-2 c = search needs
-
-same-length-3 : tie.Need-same-length-3
-same-length-3 c = search needs
-
-same-length-4 : tie.Need-same-length-4
-same-length-4 c = search needs
-
 returns : tie.Need-returns
 returns c = search ok-written
 
@@ -38,8 +26,8 @@ write-links-spec =
     copy-column-requires
     copy-column-requires-2
     copy-column-requires-3
-    same-length
-    same-length-2
-    same-length-3
-    same-length-4
+    (λ c. search needs)
+    (λ c. search needs)
+    (λ c. search needs)
+    (λ c. search needs)
     returns)

@@ -12,20 +12,11 @@ returns-2 c = search few-to
 returns-3 : tie.Need-returns-3
 returns-3 c = search few-ends
 
-sums-fit-requires : tie.Need-sums-fit-requires
-sums-fit-requires c κs = search needs
-
 returns-4 : tie.Need-returns-4
 returns-4 c = search sums-past
 
-slice-aggregate-write-sums : tie.Need-slice-aggregate-write-sums
-slice-aggregate-write-sums c = search needs
-
 write-sums-requires : tie.Need-write-sums-requires
 write-sums-requires c κs = (search needs, search sums-within)
-
-array-share-prefix-a : tie.Need-array-share-prefix-a
-array-share-prefix-a c = search needs
 
 slice-aggregate-links-rise : tie.Need-slice-aggregate-links-rise
 slice-aggregate-links-rise c = search (needs, sums-count)
@@ -43,11 +34,11 @@ links-fit-spec =
     returns
     returns-2
     returns-3
-    sums-fit-requires
+    (λ c κs. search needs)
     returns-4
-    slice-aggregate-write-sums
+    (λ c. search needs)
     write-sums-requires
-    array-share-prefix-a
+    (λ c. search needs)
     slice-aggregate-links-rise
     links-rise-requires
     returns-5)

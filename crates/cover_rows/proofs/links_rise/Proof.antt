@@ -21,23 +21,8 @@ returns c = search rise-none
 loop-holds : tie.Need-loop-holds Inv-loop μ-loop
 loop-holds c = (search needs, search needs, search rise-first)
 
-sub-loop : tie.Need-sub-loop Inv-loop μ-loop
-sub-loop c = search needs
-
-add-row-less : tie.Need-add-row-less Inv-loop μ-loop
-add-row-less c = search needs
-
-row-less-requires : tie.Need-row-less-requires Inv-loop μ-loop
-row-less-requires c κs = search needs
-
 returns-2 : tie.Need-returns-2 Inv-loop μ-loop
 returns-2 c = search rise-not
-
-add-i : tie.Need-add-i Inv-loop μ-loop
-add-i c = search needs
-
-loop-less : tie.Need-loop-less Inv-loop μ-loop
-loop-less c = search needs
 
 loop-again : tie.Need-loop-again Inv-loop μ-loop
 loop-again c = (search needs, search needs, rise-on _ _ _ _ _ _ (c .before .before .before .loop .inv .2) _ (c .before .row-less .ensures) (c .before .before .loop-test .taken) (search needs) (search needs) (search needs) (search needs) (c .if2 .left))
@@ -53,11 +38,11 @@ links-rise-spec =
     μ-loop
     returns
     loop-holds
-    sub-loop
-    add-row-less
-    row-less-requires
+    (λ c. search needs)
+    (λ c. search needs)
+    (λ c κs. search needs)
     returns-2
-    add-i
-    loop-less
+    (λ c. search needs)
+    (λ c. search needs)
     loop-again
     returns-3)

@@ -4,20 +4,8 @@ use Rattle.ffi_clean.proofs.ByNumbers.{short-by, told-by}
 use Rattle.ffi_clean.proofs.ridgeoven_words.Statement.{statement}
 use Rattle.ffi_clean.proofs.ridgeoven_words.Tie as tie
 
-answer-of-requires : tie.Need-answer-of-requires
-answer-of-requires c κs = search needs
-
 returns : tie.Need-returns
 returns c = search (needs, short-by)
-
-words-of-number-requires : tie.Need-words-of-number-requires
-words-of-number-requires c κs = search needs
-
-answer-of-requires-2 : tie.Need-answer-of-requires-2
-answer-of-requires-2 c κs = search needs
-
-same-length : tie.Need-same-length
-same-length c = search needs
 
 returns-2 : tie.Need-returns-2
 returns-2 c = search (needs, told-by)
@@ -26,9 +14,9 @@ pub ridgeoven-words-spec : {M : Type 1} → statement M
 ridgeoven-words-spec =
     tie.close
     (tie.spec
-    answer-of-requires
+    (λ c κs. search needs)
     returns
-    words-of-number-requires
-    answer-of-requires-2
-    same-length
+    (λ c κs. search needs)
+    (λ c κs. search needs)
+    (λ c. search needs)
     returns-2)

@@ -5,15 +5,6 @@ use Rattle.ffi_run.proofs.ByNumbers.{reply-refused}
 use Rattle.ffi_run.proofs.reply_number.Statement.{statement}
 use Rattle.ffi_run.proofs.reply_number.Tie as tie
 
-enum-told : tie.Need-enum-told
-enum-told c = search needs
-
-enum-known-reply : tie.Need-enum-known-reply
-enum-known-reply c = search needs
-
-number-requires : tie.Need-number-requires
-number-requires c κs = search needs
-
 returns : tie.Need-returns
 unfolding replyNumber
 returns c = cc
@@ -23,4 +14,4 @@ returns-2 c = search reply-refused
 
 pub reply-number-spec : {M : Type 1} → statement M
 reply-number-spec =
-    tie.close (tie.spec enum-told enum-known-reply number-requires returns returns-2)
+    tie.close (tie.spec (λ c. search needs) (λ c. search needs) (λ c κs. search needs) returns returns-2)

@@ -4,14 +4,8 @@ use Rattle.ffi_run.proofs.ByNumbers.{told-by}
 use Rattle.ffi_run.proofs.ridgeoven_new_number.Statement.{statement}
 use Rattle.ffi_run.proofs.ridgeoven_new_number.Tie as tie
 
-new-number-requires : tie.Need-new-number-requires
-new-number-requires c κs = search needs
-
-renumbered-of-requires : tie.Need-renumbered-of-requires
-renumbered-of-requires c κs = search needs
-
 returns : tie.Need-returns
 returns c = search (needs, told-by)
 
 pub ridgeoven-new-number-spec : {M : Type 1} → statement M
-ridgeoven-new-number-spec = tie.close (tie.spec new-number-requires renumbered-of-requires returns)
+ridgeoven-new-number-spec = tie.close (tie.spec (λ c κs. search needs) (λ c κs. search needs) returns)

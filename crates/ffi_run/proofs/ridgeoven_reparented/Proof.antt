@@ -4,14 +4,8 @@ use Rattle.ffi_run.proofs.ByNumbers.{count-by}
 use Rattle.ffi_run.proofs.ridgeoven_reparented.Statement.{statement}
 use Rattle.ffi_run.proofs.ridgeoven_reparented.Tie as tie
 
-reparented-requires : tie.Need-reparented-requires
-reparented-requires c κs = search needs
-
-reparented-of-requires : tie.Need-reparented-of-requires
-reparented-of-requires c κs = search needs
-
 returns : tie.Need-returns
 returns c = search (needs, count-by)
 
 pub ridgeoven-reparented-spec : {M : Type 1} → statement M
-ridgeoven-reparented-spec = tie.close (tie.spec reparented-requires reparented-of-requires returns)
+ridgeoven-reparented-spec = tie.close (tie.spec (λ c κs. search needs) (λ c κs. search needs) returns)

@@ -5,26 +5,11 @@ use borrow.Author.Needs.{needs}
 use Rattle.run.proofs.new_number.Statement.{statement}
 use Rattle.run.proofs.new_number.Tie as tie
 
-is-holdable-requires : tie.Need-is-holdable-requires
-is-holdable-requires c κs = search needs
-
-is-writable-requires : tie.Need-is-writable-requires
-is-writable-requires c κs = search needs
-
-is-resolved-requires : tie.Need-is-resolved-requires
-is-resolved-requires c κs = search needs
-
 returns : tie.Need-returns
 returns c = search (needs, resolved-is, map-early)
 
 new-number-requires : tie.Need-new-number-requires
 new-number-requires c κs = search (needs, resolved-is, held-valid, held-order)
-
-enum-known-m : tie.Need-enum-known-m
-enum-known-m c = search needs
-
-enum-told : tie.Need-enum-told
-enum-told c = search needs
 
 returns-2 : tie.Need-returns-2
 returns-2 c = search (needs, resolved-is, map-to)
@@ -36,12 +21,12 @@ pub new-number-spec : {M : Type 1} → statement M
 new-number-spec =
     tie.close
     (tie.spec
-    is-holdable-requires
-    is-writable-requires
-    is-resolved-requires
+    (λ c κs. search needs)
+    (λ c κs. search needs)
+    (λ c κs. search needs)
     returns
     new-number-requires
-    enum-known-m
-    enum-told
+    (λ c. search needs)
+    (λ c. search needs)
     returns-2
     returns-3)

@@ -5,15 +5,6 @@ use borrow.Author.Needs.{needs}
 use Rattle.run.proofs.reparented.Statement.{statement}
 use Rattle.run.proofs.reparented.Tie as tie
 
-is-holdable-requires : tie.Need-is-holdable-requires
-is-holdable-requires c κs = search needs
-
-is-writable-requires : tie.Need-is-writable-requires
-is-writable-requires c κs = search needs
-
-is-resolved-requires : tie.Need-is-resolved-requires
-is-resolved-requires c κs = search needs
-
 returns : tie.Need-returns
 returns c = search (needs, resolved-is, count-early)
 
@@ -27,9 +18,9 @@ pub reparented-spec : {M : Type 1} → statement M
 reparented-spec =
     tie.close
     (tie.spec
-    is-holdable-requires
-    is-writable-requires
-    is-resolved-requires
+    (λ c κs. search needs)
+    (λ c κs. search needs)
+    (λ c κs. search needs)
     returns
     reparented-requires
     returns-2)

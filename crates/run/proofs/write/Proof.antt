@@ -5,23 +5,11 @@ use borrow.Author.Needs.{needs}
 use Rattle.run.proofs.write.Statement.{statement}
 use Rattle.run.proofs.write.Tie as tie
 
-is-holdable-requires : tie.Need-is-holdable-requires
-is-holdable-requires c κs = search needs
-
-is-writable-requires : tie.Need-is-writable-requires
-is-writable-requires c κs = search needs
-
-is-resolved-requires : tie.Need-is-resolved-requires
-is-resolved-requires c κs = search needs
-
 returns : tie.Need-returns
 returns c = search (needs, resolved-is, write-early)
 
 write-sheet-requires : tie.Need-write-sheet-requires
 write-sheet-requires c κs = search (needs, resolved-is, sheet-valid, sheet-order, sheet-filled)
-
-same-length : tie.Need-same-length
-same-length c = search needs
 
 returns-2 : tie.Need-returns-2
 returns-2 c = search (needs, resolved-is, write-now)
@@ -30,10 +18,10 @@ pub write-spec : {M : Type 1} → statement M
 write-spec =
     tie.close
     (tie.spec
-    is-holdable-requires
-    is-writable-requires
-    is-resolved-requires
+    (λ c κs. search needs)
+    (λ c κs. search needs)
+    (λ c κs. search needs)
     returns
     write-sheet-requires
-    same-length
+    (λ c. search needs)
     returns-2)

@@ -5,15 +5,6 @@ use borrow.Author.Needs.{needs}
 use Rattle.run_clean.proofs.gathered.Statement.{statement}
 use Rattle.run_clean.proofs.gathered.Tie as tie
 
-names-of-requires : tie.Need-names-of-requires
-names-of-requires c κs = search needs
-
-grow-names-requires : tie.Need-grow-names-requires
-grow-names-requires c κs = search needs
-
-refused-requires : tie.Need-refused-requires
-refused-requires c κs = search needs
-
 returns : tie.Need-returns
 returns c = no-file _ _ _ (c .before .before .before .before .before .grow-names .ensures) _ (c .before .if1 .taken) (c .refused .ensures)
 
@@ -31,15 +22,6 @@ fill-lists-requires c κs =
     let r = c .before .before .before .before .before .before in
     let d = r .before .before .before .before .before .before .before .before .before .before .grow-names .ensures in
     (r .before .before .before .before .before .before .before .before .before .before .before .before .before .pre, ((refl, refl), ((few-rows _ _ _ d (r .fill-rows .ensures .0) (r .fill-rows .ensures .1), (flags-long _ _ _ d (r .fill-rows .ensures .0) (r .fill-rows .ensures .1), rows-end _ _ _ d (r .fill-rows .ensures .0) (r .fill-rows .ensures .1))), edges-form _ _ _ d (r .fill-rows .ensures .0) (r .fill-rows .ensures .1))))
-
-enum-known-g : tie.Need-enum-known-g
-enum-known-g c = search needs
-
-enum-told : tie.Need-enum-told
-enum-told c = search needs
-
-refused-requires-2 : tie.Need-refused-requires-2
-refused-requires-2 c κs = search needs
 
 returns-2 : tie.Need-returns-2
 returns-2 c =
@@ -107,9 +89,6 @@ keep-rows-requires c κs =
     let d = r .before .before .before .before .before .before .before .before .before .before .grow-names .ensures in
     front-few _ _ _ d (r .fill-rows .ensures .0) (r .fill-rows .ensures .1)
 
-sheet-long-requires : tie.Need-sheet-long-requires
-sheet-long-requires c κs = search needs
-
 is-filled-requires : tie.Need-is-filled-requires
 is-filled-requires c κs =
     sheet-counted _ _ _
@@ -126,9 +105,6 @@ is-filled-requires c κs =
     (c .before .before .before .before .before .before .before .fill-links .ensures)
     (c .before .keep-rows .ensures)
     (c .sheet-long .ensures)
-
-refused-requires-3 : tie.Need-refused-requires-3
-refused-requires-3 c κs = search needs
 
 returns-3 : tie.Need-returns-3
 returns-3 c =
@@ -168,16 +144,16 @@ pub gathered-spec : {M : Type 1} → statement M
 gathered-spec =
     tie.close
     (tie.spec
-    names-of-requires
-    grow-names-requires
-    refused-requires
+    (λ c κs. search needs)
+    (λ c κs. search needs)
+    (λ c κs. search needs)
     returns
     fill-rows-requires
     slice-aggregate-fill-lists
     fill-lists-requires
-    enum-known-g
-    enum-told
-    refused-requires-2
+    (λ c. search needs)
+    (λ c. search needs)
+    (λ c κs. search needs)
     returns-2
     array-share-prefix-flags
     slice-aggregate-fill-unresolved
@@ -189,8 +165,8 @@ gathered-spec =
     array-share-prefix-flags-3
     slice-aggregate-keep-rows
     keep-rows-requires
-    sheet-long-requires
+    (λ c κs. search needs)
     is-filled-requires
-    refused-requires-3
+    (λ c κs. search needs)
     returns-3
     returns-4)

@@ -5,27 +5,6 @@ use borrow.Author.Needs.{needs}
 use Rattle.run_clean.proofs.survivors.Statement.{statement}
 use Rattle.run_clean.proofs.survivors.Tie as tie
 
-fresh-requires : tie.Need-fresh-requires
-fresh-requires c κs = search needs
-
-held-long-requires : tie.Need-held-long-requires
-held-long-requires c κs = search needs
-
-known-of-requires : tie.Need-known-of-requires
-known-of-requires c κs = search needs
-
-rules-by-requires : tie.Need-rules-by-requires
-rules-by-requires c κs = search needs
-
-enum-known-a : tie.Need-enum-known-a
-enum-known-a c = search needs
-
-refused-requires : tie.Need-refused-requires
-refused-requires c κs = search needs
-
-enum-told : tie.Need-enum-told
-enum-told c = search needs
-
 gathered-requires : tie.Need-gathered-requires
 gathered-requires c κs = search (taken-alone, files-fit)
 
@@ -39,13 +18,13 @@ pub survivors-spec : {M : Type 1} → statement M
 survivors-spec =
     tie.close
     (tie.spec
-    fresh-requires
-    held-long-requires
-    known-of-requires
-    rules-by-requires
-    enum-known-a
-    refused-requires
-    enum-told
+    (λ c κs. search needs)
+    (λ c κs. search needs)
+    (λ c κs. search needs)
+    (λ c κs. search needs)
+    (λ c. search needs)
+    (λ c κs. search needs)
+    (λ c. search needs)
     gathered-requires
     returns
     returns-2)

@@ -8,15 +8,6 @@ use Rattle.run_state.specs.output.Lent.{noCover}
 use Rattle.run_file.proofs.put_bare.Statement.{statement}
 use Rattle.run_file.proofs.put_bare.Tie as tie
 
-subject-long-requires : tie.Need-subject-long-requires
-subject-long-requires c κs = search needs
-
-file-size-requires : tie.Need-file-size-requires
-file-size-requires c κs = search needs
-
-add-if1 : tie.Need-add-if1
-add-if1 c = search needs
-
 returns : tie.Need-returns
 returns c =
     let p = c .before in
@@ -33,9 +24,6 @@ put-five-requires c κs =
       ((s .pre .1 .0, s .pre .1 .1), (p .before .subject-long .ensures, s .pre .0 .1 .1)),
     )
 
-same-length : tie.Need-same-length
-same-length c = search needs
-
 returns-2 : tie.Need-returns-2
 returns-2 c =
     let p = c .before .before .before .before .before in
@@ -48,10 +36,10 @@ pub put-bare-spec : {M : Type 1} → statement M
 put-bare-spec =
     tie.close
     (tie.spec
-    subject-long-requires
-    file-size-requires
-    add-if1
+    (λ c κs. search needs)
+    (λ c κs. search needs)
+    (λ c. search needs)
     returns
     put-five-requires
-    same-length
+    (λ c. search needs)
     returns-2)

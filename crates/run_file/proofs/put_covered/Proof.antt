@@ -8,18 +8,6 @@ use Rattle.run_file.proofs.Whole.{all-long, few-bare, not-stored, all-s
 use Rattle.run_file.proofs.put_covered.Statement.{statement}
 use Rattle.run_file.proofs.put_covered.Tie as tie
 
-subject-long-requires : tie.Need-subject-long-requires
-subject-long-requires c κs = search needs
-
-cover-long-requires : tie.Need-cover-long-requires
-cover-long-requires c κs = search needs
-
-file-size-requires : tie.Need-file-size-requires
-file-size-requires c κs = search needs
-
-add-if1 : tie.Need-add-if1
-add-if1 c = search needs
-
 returns : tie.Need-returns
 returns c =
     let p = c .before in
@@ -66,10 +54,10 @@ pub put-covered-spec : {M : Type 1} → statement M
 put-covered-spec =
     tie.close
     (tie.spec
-    subject-long-requires
-    cover-long-requires
-    file-size-requires
-    add-if1
+    (λ c κs. search needs)
+    (λ c κs. search needs)
+    (λ c κs. search needs)
+    (λ c. search needs)
     returns
     put-five-requires
     put-cover-requires

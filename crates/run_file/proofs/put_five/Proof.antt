@@ -5,12 +5,6 @@ use Rattle.run_file.proofs.Whole.{five-laid}
 use Rattle.run_file.proofs.put_five.Statement.{statement}
 use Rattle.run_file.proofs.put_five.Tie as tie
 
-put-head-requires : tie.Need-put-head-requires
-put-head-requires c κs = search needs
-
-put-edges-requires : tie.Need-put-edges-requires
-put-edges-requires c κs = search needs
-
 put-rows-requires : tie.Need-put-rows-requires
 put-rows-requires c κs =
     let after-edges = c .before .before .before in
@@ -77,9 +71,6 @@ put-roots-requires c κs =
       (omega (arith, start .pre .1 .0 .0 .roots, records .rows-there), records .roots-there),
     )
 
-same-length : tie.Need-same-length
-same-length c = search needs
-
 returns : tie.Need-returns
 returns c =
     let after-roots = c .before .before in
@@ -103,10 +94,10 @@ pub put-five-spec : {M : Type 1} → statement M
 put-five-spec =
     tie.close
     (tie.spec
-    put-head-requires
-    put-edges-requires
+    (λ c κs. search needs)
+    (λ c κs. search needs)
     put-rows-requires
     put-unresolved-requires
     put-roots-requires
-    same-length
+    (λ c. search needs)
     returns)

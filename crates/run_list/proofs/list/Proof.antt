@@ -4,26 +4,8 @@ use borrow.Author.Needs.{needs}
 use Rattle.run_list.proofs.list.Statement.{statement}
 use Rattle.run_list.proofs.list.Tie as tie
 
-held-long-requires : tie.Need-held-long-requires
-held-long-requires c κs = search needs
-
-sheet-long-requires : tie.Need-sheet-long-requires
-sheet-long-requires c κs = search needs
-
-need-of-all-requires : tie.Need-need-of-all-requires
-need-of-all-requires c κs = search needs
-
-enum-known-v : tie.Need-enum-known-v
-enum-known-v c = search needs
-
-enum-told : tie.Need-enum-told
-enum-told c = search needs
-
 mul-if1 : tie.Need-mul-if1
 mul-if1 c = search (needs, rows-fit)
-
-add-if1 : tie.Need-add-if1
-add-if1 c = search needs
 
 add-if1-2 : tie.Need-add-if1-2
 add-if1-2 c = search (needs, need-fits)
@@ -37,9 +19,6 @@ put-listing-requires c κs = (search needs, (search rules-kept, search list-room
 returns-2 : tie.Need-returns-2
 returns-2 c = search list-refused
 
-same-length : tie.Need-same-length
-same-length c = search needs
-
 returns-3 : tie.Need-returns-3
 returns-3 c = search list-all
 
@@ -47,16 +26,16 @@ pub list-spec : {M : Type 1} → statement M
 list-spec =
     tie.close
     (tie.spec
-    held-long-requires
-    sheet-long-requires
-    need-of-all-requires
-    enum-known-v
-    enum-told
+    (λ c κs. search needs)
+    (λ c κs. search needs)
+    (λ c κs. search needs)
+    (λ c. search needs)
+    (λ c. search needs)
     mul-if1
-    add-if1
+    (λ c. search needs)
     add-if1-2
     returns
     put-listing-requires
     returns-2
-    same-length
+    (λ c. search needs)
     returns-3)

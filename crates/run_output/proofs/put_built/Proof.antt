@@ -12,9 +12,6 @@ use borrow.Author.Needs.{needs}
 use Rattle.run_output.proofs.put_built.Statement.{statement}
 use Rattle.run_output.proofs.put_built.Tie as tie
 
-sheet-long-requires : tie.Need-sheet-long-requires
-sheet-long-requires c κs = search needs
-
 sub-n : tie.Need-sub-n
 sub-n c =
     let s = c .before .before .before .before .before .before .before .before .before .before .before in
@@ -171,9 +168,6 @@ put-bare-requires c κs =
       ),
     )
 
-same-length : tie.Need-same-length
-same-length c = search needs
-
 returns : tie.Need-returns
 returns c =
     let s = c .before .before .before .before .before .before .before .before .before .before .before .before .before .before .before .before .before .before .before .before .before .before .before .before .before in
@@ -241,9 +235,6 @@ put-covered-requires c κs =
       ),
     )
 
-same-length-2 : tie.Need-same-length-2
-same-length-2 c = search needs
-
 returns-2 : tie.Need-returns-2
 returns-2 c =
     let s = c .before .before .before .before .before .before .before .before .before .before .before .before .before .before .before .before .before .before .before .before .before .before .before .before .before .before in
@@ -271,7 +262,7 @@ pub put-built-spec : {M : Type 1} → statement M
 put-built-spec =
     tie.close
     (tie.spec
-    sheet-long-requires
+    (λ c κs. search needs)
     sub-n
     sub-m
     add-part-head
@@ -283,10 +274,10 @@ put-built-spec =
     element-copy-out-if1
     slice-aggregate-put-bare
     put-bare-requires
-    same-length
+    (λ c. search needs)
     returns
     cover-of-requires
     slice-aggregate-put-covered
     put-covered-requires
-    same-length-2
+    (λ c. search needs)
     returns-2)

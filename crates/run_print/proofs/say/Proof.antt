@@ -4,14 +4,8 @@ use borrow.Author.Needs.{needs}
 use Rattle.run_print.proofs.say.Statement.{statement}
 use Rattle.run_print.proofs.say.Tie as tie
 
-put-refused-requires : tie.Need-put-refused-requires
-put-refused-requires c κs = search needs
-
-same-length : tie.Need-same-length
-same-length c = search needs
-
 returns : tie.Need-returns
 returns c = search (needs, line-printed)
 
 pub say-spec : {M : Type 1} → statement M
-say-spec = tie.close (tie.spec put-refused-requires same-length returns)
+say-spec = tie.close (tie.spec (λ c κs. search needs) (λ c. search needs) returns)

@@ -27,15 +27,6 @@ loop-holds c = (search needs, search needs, search count-begins)
 is-reparented-requires : tie.Need-is-reparented-requires Inv-loop μ-loop
 is-reparented-requires c κs = (search needs, (search needs, search form-length))
 
-add-n : tie.Need-add-n Inv-loop μ-loop
-add-n c = search needs
-
-add-i : tie.Need-add-i Inv-loop μ-loop
-add-i c = search needs
-
-loop-less : tie.Need-loop-less Inv-loop μ-loop
-loop-less c = search needs
-
 loop-again : tie.Need-loop-again Inv-loop μ-loop
 loop-again c = ⊎-elim (λ w. (search needs, search needs, search (needs, counted))) (λ w. (search needs, search needs, search (needs, passed))) (c .if1 .came)
 
@@ -50,8 +41,8 @@ count-reparented-spec =
     μ-loop
     loop-holds
     is-reparented-requires
-    add-n
-    add-i
-    loop-less
+    (λ c. search needs)
+    (λ c. search needs)
+    (λ c. search needs)
     loop-again
     returns)

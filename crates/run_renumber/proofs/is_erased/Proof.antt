@@ -7,14 +7,8 @@ use Rattle.run_renumber.proofs.is_erased.Tie as tie
 returns : tie.Need-returns
 returns c = search none-before
 
-index-requires : tie.Need-index-requires
-index-requires c κs = search needs
-
-flag-at-requires : tie.Need-flag-at-requires
-flag-at-requires c κs = search needs
-
 returns-2 : tie.Need-returns-2
 returns-2 c = search by-flag
 
 pub is-erased-spec : {M : Type 1} → statement M
-is-erased-spec = tie.close (tie.spec returns index-requires flag-at-requires returns-2)
+is-erased-spec = tie.close (tie.spec returns (λ c κs. search needs) (λ c κs. search needs) returns-2)

@@ -4,35 +4,8 @@ use Rattle.run_renumber.proofs.Erased.{not-erased, event-ordered, event
 use Rattle.run_renumber.proofs.is_reparented.Statement.{statement}
 use Rattle.run_renumber.proofs.is_reparented.Tie as tie
 
-shared-slice-read-if1 : tie.Need-shared-slice-read-if1
-shared-slice-read-if1 c = search needs
-
 returns : tie.Need-returns
 returns c = search not-erased
-
-mul-s : tie.Need-mul-s
-mul-s c = search needs
-
-mul-index : tie.Need-mul-index
-mul-index c = search needs
-
-shared-slice-read-index : tie.Need-shared-slice-read-index
-shared-slice-read-index c = search needs
-
-index-requires : tie.Need-index-requires
-index-requires c κs = search needs
-
-add-index : tie.Need-add-index
-add-index c = search needs
-
-mul-index-2 : tie.Need-mul-index-2
-mul-index-2 c = search needs
-
-shared-slice-read-index-2 : tie.Need-shared-slice-read-index-2
-shared-slice-read-index-2 c = search needs
-
-index-requires-2 : tie.Need-index-requires-2
-index-requires-2 c κs = search needs
 
 names-erased-requires : tie.Need-names-erased-requires
 names-erased-requires c κs = (search (needs, event-ordered), search (needs, event-within))
@@ -44,15 +17,15 @@ pub is-reparented-spec : {M : Type 1} → statement M
 is-reparented-spec =
     tie.close
     (tie.spec
-    shared-slice-read-if1
+    (λ c. search needs)
     returns
-    mul-s
-    mul-index
-    shared-slice-read-index
-    index-requires
-    add-index
-    mul-index-2
-    shared-slice-read-index-2
-    index-requires-2
+    (λ c. search needs)
+    (λ c. search needs)
+    (λ c. search needs)
+    (λ c κs. search needs)
+    (λ c. search needs)
+    (λ c. search needs)
+    (λ c. search needs)
+    (λ c κs. search needs)
     names-erased-requires
     returns-2)

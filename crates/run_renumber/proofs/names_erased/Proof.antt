@@ -17,26 +17,8 @@ abbrev μ-loop : tie.MeasureT-loop
 μ-loop start flags targets a b i₀ i =
     b - i
 
-loop-holds : tie.Need-loop-holds Inv-loop μ-loop
-loop-holds c = search needs
-
-mul-is-erased : tie.Need-mul-is-erased Inv-loop μ-loop
-mul-is-erased c = search needs
-
-shared-slice-read-is-erased : tie.Need-shared-slice-read-is-erased Inv-loop μ-loop
-shared-slice-read-is-erased c = search needs
-
-is-erased-requires : tie.Need-is-erased-requires Inv-loop μ-loop
-is-erased-requires c κs = search needs
-
 returns : tie.Need-returns Inv-loop μ-loop
 returns c = search this-erased
-
-add-i : tie.Need-add-i Inv-loop μ-loop
-add-i c = search needs
-
-loop-less : tie.Need-loop-less Inv-loop μ-loop
-loop-less c = search needs
 
 loop-again : tie.Need-loop-again Inv-loop μ-loop
 loop-again c = search (needs, next-erased)
@@ -50,12 +32,12 @@ names-erased-spec =
     (tie.spec
     Inv-loop
     μ-loop
-    loop-holds
-    mul-is-erased
-    shared-slice-read-is-erased
-    is-erased-requires
+    (λ c. search needs)
+    (λ c. search needs)
+    (λ c. search needs)
+    (λ c κs. search needs)
     returns
-    add-i
-    loop-less
+    (λ c. search needs)
+    (λ c. search needs)
     loop-again
     returns-2)

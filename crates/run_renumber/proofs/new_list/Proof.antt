@@ -25,38 +25,14 @@ abbrev μ-loop : tie.MeasureT-loop
 loop-holds : tie.Need-loop-holds Inv-loop μ-loop
 loop-holds c = (search needs, search needs, search needs, search needs, search needs, search list-begins)
 
-mul-add-parent : tie.Need-mul-add-parent Inv-loop μ-loop
-mul-add-parent c = search needs
-
-shared-slice-read-add-parent : tie.Need-shared-slice-read-add-parent Inv-loop μ-loop
-shared-slice-read-add-parent c = search needs
-
 add-parent-requires : tie.Need-add-parent-requires Inv-loop μ-loop
 add-parent-requires c κs = ((search needs, search needs), (search needs, search needs))
-
-enum-known-g : tie.Need-enum-known-g Inv-loop μ-loop
-enum-known-g c = search needs
-
-add-i : tie.Need-add-i Inv-loop μ-loop
-add-i c = search needs
-
-loop-less : tie.Need-loop-less Inv-loop μ-loop
-loop-less c = search needs
 
 loop-again : tie.Need-loop-again Inv-loop μ-loop
 loop-again c = (search needs, search above-now, search room-now, search needs, search kept-now, search list-more)
 
-enum-told : tie.Need-enum-told Inv-loop μ-loop
-enum-told c = search needs
-
-same-length : tie.Need-same-length Inv-loop μ-loop
-same-length c = search needs
-
 returns : tie.Need-returns Inv-loop μ-loop
 returns c = search list-full
-
-same-length-2 : tie.Need-same-length-2 Inv-loop μ-loop
-same-length-2 c = search needs
 
 returns-2 : tie.Need-returns-2 Inv-loop μ-loop
 returns-2 c = search list-done
@@ -68,15 +44,15 @@ new-list-spec =
     Inv-loop
     μ-loop
     loop-holds
-    mul-add-parent
-    shared-slice-read-add-parent
+    (λ c. search needs)
+    (λ c. search needs)
     add-parent-requires
-    enum-known-g
-    add-i
-    loop-less
+    (λ c. search needs)
+    (λ c. search needs)
+    (λ c. search needs)
     loop-again
-    enum-told
-    same-length
+    (λ c. search needs)
+    (λ c. search needs)
     returns
-    same-length-2
+    (λ c. search needs)
     returns-2)

@@ -5,9 +5,6 @@ use Rattle.run_renumber.proofs.Slots.{begins, lists-named, same-after, 
 use Rattle.run_renumber.proofs.put_lists.Statement.{statement}
 use Rattle.run_renumber.proofs.put_lists.Tie as tie
 
-slice-write-offs : tie.Need-slice-write-offs
-slice-write-offs c = search needs
-
 slice-aggregate-add-slots : tie.Need-slice-aggregate-add-slots
 slice-aggregate-add-slots c = search (needs, prefix-count)
 
@@ -17,9 +14,6 @@ add-slots-requires c κs = (search needs, (search lt-length-set, search begins))
 same-length : tie.Need-same-length
 same-length c = search (needs, same-after)
 
-same-length-2 : tie.Need-same-length-2
-same-length-2 c = search needs
-
 returns : tie.Need-returns
 returns c = search lists-named
 
@@ -27,9 +21,9 @@ pub put-lists-spec : {M : Type 1} → statement M
 put-lists-spec =
     tie.close
     (tie.spec
-    slice-write-offs
+    (λ c. search needs)
     slice-aggregate-add-slots
     add-slots-requires
     same-length
-    same-length-2
+    (λ c. search needs)
     returns)

@@ -4,17 +4,8 @@ use borrow.Author.Needs.{needs}
 use Rattle.run_resolve.proofs.resolve.Statement.{statement}
 use Rattle.run_resolve.proofs.resolve.Tie as tie
 
-refused-requires : tie.Need-refused-requires
-refused-requires c κs = search needs
-
 returns : tie.Need-returns
 returns c = search no-source
-
-new-lists-requires : tie.Need-new-lists-requires
-new-lists-requires c κs = search needs
-
-refused-requires-2 : tie.Need-refused-requires-2
-refused-requires-2 c κs = search needs
 
 returns-2 : tie.Need-returns-2
 returns-2 c = search lists-over
@@ -24,9 +15,6 @@ survivors-requires c κs = (search needs, search lists-within)
 
 is-filled-requires : tie.Need-is-filled-requires
 is-filled-requires c κs = search survivors-counted
-
-refused-requires-3 : tie.Need-refused-requires-3
-refused-requires-3 c κs = search needs
 
 returns-3 : tie.Need-returns-3
 returns-3 c = search group-lost
@@ -38,13 +26,13 @@ pub resolve-spec : {M : Type 1} → statement M
 resolve-spec =
     tie.close
     (tie.spec
-    refused-requires
+    (λ c κs. search needs)
     returns
-    new-lists-requires
-    refused-requires-2
+    (λ c κs. search needs)
+    (λ c κs. search needs)
     returns-2
     survivors-requires
     is-filled-requires
-    refused-requires-3
+    (λ c κs. search needs)
     returns-3
     returns-4)

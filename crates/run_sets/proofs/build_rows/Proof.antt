@@ -7,18 +7,6 @@ use borrow.Author.Needs.{needs}
 use Rattle.run_sets.proofs.build_rows.Statement.{statement}
 use Rattle.run_sets.proofs.build_rows.Tie as tie
 
-mul-k : tie.Need-mul-k
-mul-k c = search needs
-
-add-k : tie.Need-add-k
-add-k c = search needs
-
-add-b : tie.Need-add-b
-add-b c = search needs
-
-add-q : tie.Need-add-q
-add-q c = search needs
-
 slice-aggregate-build-part : tie.Need-slice-aggregate-build-part
 slice-aggregate-build-part c = search prefix-count
 
@@ -28,56 +16,8 @@ slice-aggregate-build-part-2 c = search table-count
 slice-aggregate-build-part-3 : tie.Need-slice-aggregate-build-part-3
 slice-aggregate-build-part-3 c = search prefix-count
 
-mul-build-part : tie.Need-mul-build-part
-mul-build-part c = search needs
-
-sub-build-part : tie.Need-sub-build-part
-sub-build-part c = search needs
-
-part-build-part-start : tie.Need-part-build-part-start
-part-build-part-start c = search needs
-
-part-build-part-end : tie.Need-part-build-part-end
-part-build-part-end c = search needs
-
-mul-build-part-2 : tie.Need-mul-build-part-2
-mul-build-part-2 c = search needs
-
-sub-build-part-2 : tie.Need-sub-build-part-2
-sub-build-part-2 c = search needs
-
-part-build-part-start-2 : tie.Need-part-build-part-start-2
-part-build-part-start-2 c = search needs
-
-part-build-part-end-2 : tie.Need-part-build-part-end-2
-part-build-part-end-2 c = search needs
-
 slice-aggregate-build-part-4 : tie.Need-slice-aggregate-build-part-4
 slice-aggregate-build-part-4 c = search front-count
-
-mul-build-part-3 : tie.Need-mul-build-part-3
-mul-build-part-3 c = search needs
-
-sub-build-part-3 : tie.Need-sub-build-part-3
-sub-build-part-3 c = search needs
-
-part-build-part-start-3 : tie.Need-part-build-part-start-3
-part-build-part-start-3 c = search needs
-
-part-build-part-end-3 : tie.Need-part-build-part-end-3
-part-build-part-end-3 c = search needs
-
-mul-build-part-4 : tie.Need-mul-build-part-4
-mul-build-part-4 c = search needs
-
-sub-build-part-4 : tie.Need-sub-build-part-4
-sub-build-part-4 c = search needs
-
-part-build-part-start-4 : tie.Need-part-build-part-start-4
-part-build-part-start-4 c = search needs
-
-part-build-part-end-4 : tie.Need-part-build-part-end-4
-part-build-part-end-4 c = search needs
 
 build-part-requires : tie.Need-build-part-requires
 build-part-requires c κs =
@@ -109,24 +49,6 @@ build-part-requires c κs =
       ),
     )
 
-same-length : tie.Need-same-length
-same-length c = search needs
-
-same-length-2 : tie.Need-same-length-2
-same-length-2 c = search needs
-
-same-length-3 : tie.Need-same-length-3
-same-length-3 c = search needs
-
-same-length-4 : tie.Need-same-length-4
-same-length-4 c = search needs
-
-same-length-5 : tie.Need-same-length-5
-same-length-5 c = search needs
-
-same-length-6 : tie.Need-same-length-6
-same-length-6 c = search needs
-
 returns : tie.Need-returns
 returns c =
     let s = c .before .before .before .before .before .before .before .before .before .before .before .before .before .before .before .before .before .before .before .before .before .before .before .before .before .before .before .before .before .before .before .before .before .before .before .before .before .before .before .before .before .before in
@@ -144,35 +66,35 @@ pub build-rows-spec : {M : Type 1} → statement M
 build-rows-spec =
     tie.close
     (tie.spec
-    mul-k
-    add-k
-    add-b
-    add-q
+    (λ c. search needs)
+    (λ c. search needs)
+    (λ c. search needs)
+    (λ c. search needs)
     slice-aggregate-build-part
     slice-aggregate-build-part-2
     slice-aggregate-build-part-3
-    mul-build-part
-    sub-build-part
-    part-build-part-start
-    part-build-part-end
-    mul-build-part-2
-    sub-build-part-2
-    part-build-part-start-2
-    part-build-part-end-2
+    (λ c. search needs)
+    (λ c. search needs)
+    (λ c. search needs)
+    (λ c. search needs)
+    (λ c. search needs)
+    (λ c. search needs)
+    (λ c. search needs)
+    (λ c. search needs)
     slice-aggregate-build-part-4
-    mul-build-part-3
-    sub-build-part-3
-    part-build-part-start-3
-    part-build-part-end-3
-    mul-build-part-4
-    sub-build-part-4
-    part-build-part-start-4
-    part-build-part-end-4
+    (λ c. search needs)
+    (λ c. search needs)
+    (λ c. search needs)
+    (λ c. search needs)
+    (λ c. search needs)
+    (λ c. search needs)
+    (λ c. search needs)
+    (λ c. search needs)
     build-part-requires
-    same-length
-    same-length-2
-    same-length-3
-    same-length-4
-    same-length-5
-    same-length-6
+    (λ c. search needs)
+    (λ c. search needs)
+    (λ c. search needs)
+    (λ c. search needs)
+    (λ c. search needs)
+    (λ c. search needs)
     returns)

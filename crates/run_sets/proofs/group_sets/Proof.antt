@@ -6,42 +6,6 @@ use borrow.Author.Needs.{needs}
 use Rattle.run_sets.proofs.group_sets.Statement.{statement}
 use Rattle.run_sets.proofs.group_sets.Tie as tie
 
-sheet-long-requires : tie.Need-sheet-long-requires
-sheet-long-requires c κs = search needs
-
-unresolved-long-requires : tie.Need-unresolved-long-requires
-unresolved-long-requires c κs = search needs
-
-wide-kinds-requires : tie.Need-wide-kinds-requires
-wide-kinds-requires c κs = search needs
-
-slice-aggregate-lent-sets : tie.Need-slice-aggregate-lent-sets
-slice-aggregate-lent-sets c = search needs
-
-slice-aggregate-lent-sets-2 : tie.Need-slice-aggregate-lent-sets-2
-slice-aggregate-lent-sets-2 c = search needs
-
-slice-aggregate-lent-sets-3 : tie.Need-slice-aggregate-lent-sets-3
-slice-aggregate-lent-sets-3 c = search needs
-
-slice-aggregate-lent-sets-4 : tie.Need-slice-aggregate-lent-sets-4
-slice-aggregate-lent-sets-4 c = search needs
-
-slice-aggregate-lent-sets-5 : tie.Need-slice-aggregate-lent-sets-5
-slice-aggregate-lent-sets-5 c = search needs
-
-slice-aggregate-lent-sets-6 : tie.Need-slice-aggregate-lent-sets-6
-slice-aggregate-lent-sets-6 c = search needs
-
-slice-aggregate-lent-sets-7 : tie.Need-slice-aggregate-lent-sets-7
-slice-aggregate-lent-sets-7 c = search needs
-
-slice-aggregate-lent-sets-8 : tie.Need-slice-aggregate-lent-sets-8
-slice-aggregate-lent-sets-8 c = search needs
-
-slice-aggregate-lent-sets-9 : tie.Need-slice-aggregate-lent-sets-9
-slice-aggregate-lent-sets-9 c = search needs
-
 lent-sets-requires : tie.Need-lent-sets-requires
 lent-sets-requires c κs =
     let wide = c .before .before .before .before .before .before .before .before .before .before .before .before .before .before .before .before .before .before .before .before .before .before .before .before .before .before .before .before .wide-kinds .ensures in
@@ -84,15 +48,6 @@ lent-sets-requires c κs =
       ),
     )
 
-enum-known-e : tie.Need-enum-known-e
-enum-known-e c = search needs
-
-no-sets-requires : tie.Need-no-sets-requires
-no-sets-requires c κs = search needs
-
-enum-known-e-2 : tie.Need-enum-known-e-2
-enum-known-e-2 c = search needs
-
 returns : tie.Need-returns
 returns c = search value-refused
 
@@ -103,21 +58,21 @@ pub group-sets-spec : {M : Type 1} → statement M
 group-sets-spec =
     tie.close
     (tie.spec
-    sheet-long-requires
-    unresolved-long-requires
-    wide-kinds-requires
-    slice-aggregate-lent-sets
-    slice-aggregate-lent-sets-2
-    slice-aggregate-lent-sets-3
-    slice-aggregate-lent-sets-4
-    slice-aggregate-lent-sets-5
-    slice-aggregate-lent-sets-6
-    slice-aggregate-lent-sets-7
-    slice-aggregate-lent-sets-8
-    slice-aggregate-lent-sets-9
+    (λ c κs. search needs)
+    (λ c κs. search needs)
+    (λ c κs. search needs)
+    (λ c. search needs)
+    (λ c. search needs)
+    (λ c. search needs)
+    (λ c. search needs)
+    (λ c. search needs)
+    (λ c. search needs)
+    (λ c. search needs)
+    (λ c. search needs)
+    (λ c. search needs)
     lent-sets-requires
-    enum-known-e
-    no-sets-requires
-    enum-known-e-2
+    (λ c. search needs)
+    (λ c κs. search needs)
+    (λ c. search needs)
     returns
     returns-2)

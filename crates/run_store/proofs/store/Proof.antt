@@ -4,19 +4,6 @@ use Rattle.run_store.proofs.Together.{accepted, together-stored}
 use borrow.Author.Needs.{needs}
 use Rattle.run_store.proofs.store.Statement.{statement}
 use Rattle.run_store.proofs.store.Tie as tie
-use Rattle.run_store.proofs.store.Reads as reads
-use Rattle.run_store.proofs.store.Lts as lts
-use Rattle.run_store.proofs.links.store_links.Reads as store-links-reads
-use Rattle.run_store.proofs.names.store_names.Reads as store-names-reads
-use Rattle.run_store.proofs.records.store_roots.Reads as store-roots-reads
-use Rattle.run_store.proofs.records.store_unresolved.Reads as store-unresolved-reads
-use Rattle.run_store.proofs.rows.store_flags.Reads as store-flags-reads
-use Rattle.run_store.proofs.rows.store_rows.Reads as store-rows-reads
-use Rattle.run_store.proofs.sets.store_set.Reads as store-set-reads
-use Rattle.run_state.proofs.order.long.held_long.Reads as held-long-reads
-
-held-long-requires : tie.Need-held-long-requires
-held-long-requires c κs = search needs
 
 store-names-requires : tie.Need-store-names-requires
 store-names-requires c κs = accepted _ _ (c .held-long .ensures) (c .before .before .pre)
@@ -53,7 +40,7 @@ pub store-spec : {M : Type 1} → statement M
 store-spec =
     tie.close
     (tie.spec
-    held-long-requires
+    (λ c κs. search needs)
     store-names-requires
     store-rows-requires
     store-set-requires

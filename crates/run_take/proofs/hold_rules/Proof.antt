@@ -4,15 +4,6 @@ use borrow.Author.Needs.{needs}
 use Rattle.run_take.proofs.hold_rules.Statement.{statement}
 use Rattle.run_take.proofs.hold_rules.Tie as tie
 
-limits-requires : tie.Need-limits-requires
-limits-requires c κs = search needs
-
-enum-known-r : tie.Need-enum-known-r
-enum-known-r c = search needs
-
-enum-told : tie.Need-enum-told
-enum-told c = search needs
-
 known-rules-requires : tie.Need-known-rules-requires
 known-rules-requires c κs = (search needs, search within-both)
 
@@ -25,4 +16,4 @@ returns-2 c = search then-files
 pub hold-rules-spec : {M : Type 1} → statement M
 hold-rules-spec =
     tie.close
-    (tie.spec limits-requires enum-known-r enum-told known-rules-requires returns returns-2)
+    (tie.spec (λ c κs. search needs) (λ c. search needs) (λ c. search needs) known-rules-requires returns returns-2)

@@ -6,9 +6,6 @@ use borrow.Author.Needs.{needs}
 use Rattle.run_take.proofs.known_of.Statement.{statement}
 use Rattle.run_take.proofs.known_of.Tie as tie
 
-count-requires : tie.Need-count-requires
-count-requires c κs = search needs
-
 look-back-requires : tie.Need-look-back-requires
 look-back-requires c κs = search sheet-ok
 
@@ -16,4 +13,4 @@ returns : tie.Need-returns
 returns c = record { figures-are = search needs; groups-are = refl; back-is = search needs; short = name-few _ (sheet-ok _ (c .before .before .before .pre)) }
 
 pub known-of-spec : {M : Type 1} → statement M
-known-of-spec = tie.close (tie.spec count-requires look-back-requires returns)
+known-of-spec = tie.close (tie.spec (λ c κs. search needs) look-back-requires returns)

@@ -4,9 +4,6 @@ use borrow.Author.Needs.{needs}
 use Rattle.run_take.proofs.known_rules.Statement.{statement}
 use Rattle.run_take.proofs.known_rules.Tie as tie
 
-subject-long-requires : tie.Need-subject-long-requires
-subject-long-requires c κs = search needs
-
 array-share-prefix-name : tie.Need-array-share-prefix-name
 array-share-prefix-name c = search (needs, name-there)
 
@@ -23,7 +20,7 @@ pub known-rules-spec : {M : Type 1} → statement M
 known-rules-spec =
     tie.close
     (tie.spec
-    subject-long-requires
+    (λ c κs. search needs)
     array-share-prefix-name
     slice-aggregate-files-rules
     files-rules-requires

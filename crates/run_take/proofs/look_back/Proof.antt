@@ -3,18 +3,9 @@ use Rattle.run_take.proofs.LastGroup.{last-there, end-fits, no-groups, 
 use borrow.Author.Needs.{needs}
 use Rattle.run_take.proofs.look_back.Statement.{statement}
 use Rattle.run_take.proofs.look_back.Tie as tie
-use Rattle.run_take.proofs.look_back.Reads as reads
-use Rattle.run_take.proofs.look_back.Lts as lts
-use Rattle.run_state.proofs.order.long.sheet_long.Reads as sheet-long-reads
-
-sheet-long-requires : tie.Need-sheet-long-requires
-sheet-long-requires c κs = search needs
 
 returns : tie.Need-returns
 returns c = search no-groups
-
-sub-last : tie.Need-sub-last
-sub-last c = search needs
 
 add-t10 : tie.Need-add-t10
 add-t10 c = search (needs, end-fits)
@@ -27,4 +18,4 @@ returns-2 c = search last-group
 
 pub look-back-spec : {M : Type 1} → statement M
 look-back-spec =
-    tie.close (tie.spec sheet-long-requires returns sub-last add-t10 array-read-t13 returns-2)
+    tie.close (tie.spec (λ c κs. search needs) returns (λ c. search needs) add-t10 array-read-t13 returns-2)

@@ -4,15 +4,6 @@ use borrow.Author.Needs.{needs}
 use Rattle.run_take.proofs.rules_by.Statement.{statement}
 use Rattle.run_take.proofs.rules_by.Tie as tie
 
-sum-up-requires : tie.Need-sum-up-requires
-sum-up-requires c κs = search needs
-
-enum-known-x : tie.Need-enum-known-x
-enum-known-x c = search needs
-
-enum-told : tie.Need-enum-told
-enum-told c = search needs
-
 returns : tie.Need-returns
 returns c = search not-archive
 
@@ -25,4 +16,4 @@ returns-2 c = search then-held
 pub rules-by-spec : {M : Type 1} → statement M
 rules-by-spec =
     tie.close
-    (tie.spec sum-up-requires enum-known-x enum-told returns hold-rules-requires returns-2)
+    (tie.spec (λ c κs. search needs) (λ c. search needs) (λ c. search needs) returns hold-rules-requires returns-2)

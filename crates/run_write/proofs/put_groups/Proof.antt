@@ -25,9 +25,6 @@ Inv-loop s out₀ name numbered tags chains seqs offsets targets children kinds 
 abbrev μ-loop : tie.MeasureT-loop
 μ-loop s out₀ name numbered tags chains seqs offsets targets children kinds handles wide flags rows roots fo₀ fd₀ ro₀ rd₀ io₀ id₀ cs₀ ps₀ ks₀ base₀ offs₀ list₀ w₀ n total₀ g₀ out fo fd ro rd io id cs ps ks base offs list w total g = n - g
 
-sheet-long-requires : tie.Need-sheet-long-requires Inv-loop μ-loop
-sheet-long-requires c κs = search needs
-
 wide-kinds-requires : tie.Need-wide-kinds-requires Inv-loop μ-loop
 wide-kinds-requires c κs = let s = c .before .before .before .before .before .before .before .before .before .before .before .before .before in records-within (s .args .s) (c .before .before .before .before .before .before .before .before .before .before .before .sheet-long .ensures) (s .pre .0)
 
@@ -69,66 +66,6 @@ loop-holds c = (
   },
 )
 
-slice-aggregate-put-group : tie.Need-slice-aggregate-put-group Inv-loop μ-loop
-slice-aggregate-put-group c = search needs
-
-slice-aggregate-put-group-2 : tie.Need-slice-aggregate-put-group-2 Inv-loop μ-loop
-slice-aggregate-put-group-2 c = search needs
-
-slice-aggregate-put-group-3 : tie.Need-slice-aggregate-put-group-3 Inv-loop μ-loop
-slice-aggregate-put-group-3 c = search needs
-
-slice-aggregate-put-group-4 : tie.Need-slice-aggregate-put-group-4 Inv-loop μ-loop
-slice-aggregate-put-group-4 c = search needs
-
-slice-aggregate-put-group-5 : tie.Need-slice-aggregate-put-group-5 Inv-loop μ-loop
-slice-aggregate-put-group-5 c = search needs
-
-slice-aggregate-put-group-6 : tie.Need-slice-aggregate-put-group-6 Inv-loop μ-loop
-slice-aggregate-put-group-6 c = search needs
-
-slice-aggregate-put-group-7 : tie.Need-slice-aggregate-put-group-7 Inv-loop μ-loop
-slice-aggregate-put-group-7 c = search needs
-
-slice-aggregate-put-group-8 : tie.Need-slice-aggregate-put-group-8 Inv-loop μ-loop
-slice-aggregate-put-group-8 c = search needs
-
-slice-aggregate-put-group-9 : tie.Need-slice-aggregate-put-group-9 Inv-loop μ-loop
-slice-aggregate-put-group-9 c = search needs
-
-slice-aggregate-put-group-10 : tie.Need-slice-aggregate-put-group-10 Inv-loop μ-loop
-slice-aggregate-put-group-10 c = search needs
-
-slice-aggregate-put-group-11 : tie.Need-slice-aggregate-put-group-11 Inv-loop μ-loop
-slice-aggregate-put-group-11 c = search needs
-
-slice-aggregate-put-group-12 : tie.Need-slice-aggregate-put-group-12 Inv-loop μ-loop
-slice-aggregate-put-group-12 c = search needs
-
-slice-aggregate-put-group-13 : tie.Need-slice-aggregate-put-group-13 Inv-loop μ-loop
-slice-aggregate-put-group-13 c = search needs
-
-slice-aggregate-put-group-14 : tie.Need-slice-aggregate-put-group-14 Inv-loop μ-loop
-slice-aggregate-put-group-14 c = search needs
-
-slice-aggregate-put-group-15 : tie.Need-slice-aggregate-put-group-15 Inv-loop μ-loop
-slice-aggregate-put-group-15 c = search needs
-
-slice-aggregate-put-group-16 : tie.Need-slice-aggregate-put-group-16 Inv-loop μ-loop
-slice-aggregate-put-group-16 c = search needs
-
-slice-aggregate-put-group-17 : tie.Need-slice-aggregate-put-group-17 Inv-loop μ-loop
-slice-aggregate-put-group-17 c = search needs
-
-slice-aggregate-put-group-18 : tie.Need-slice-aggregate-put-group-18 Inv-loop μ-loop
-slice-aggregate-put-group-18 c = search needs
-
-slice-aggregate-put-group-19 : tie.Need-slice-aggregate-put-group-19 Inv-loop μ-loop
-slice-aggregate-put-group-19 c = search needs
-
-slice-aggregate-put-group-20 : tie.Need-slice-aggregate-put-group-20 Inv-loop μ-loop
-slice-aggregate-put-group-20 c = search needs
-
 put-group-requires : tie.Need-put-group-requires Inv-loop μ-loop
 put-group-requires c κs =
     let inv = c .before .before .before .before .before .before .before .before .before .before .before .before .before .before .before .before .before .before .before .before .before .before .before .before .before .before .before .before .before .loop .inv in
@@ -138,9 +75,6 @@ put-group-requires c κs =
       ((c .before .before .before .before .before .before .before .before .before .before .before .before .before .before .before .before .before .before .before .before .before .before .before .before .before .before .before .before .before .before .before .before .before .before .before .before .before .before .before .before .before .before .before .before .sheet-long .ensures, omega (arith, inv .1, inv .2, inv .3)), (inv .9, inv .5)),
     )
 
-enum-known-v : tie.Need-enum-known-v Inv-loop μ-loop
-enum-known-v c = search needs
-
 same-length : tie.Need-same-length Inv-loop μ-loop
 same-length c = c .before .before .before .before .before .before .before .before .before .before .out .given ∙ c .before .before .before .before .before .before .before .before .before .before .before .before .before .before .before .before .before .before .before .before .before .before .before .before .before .before .before .before .before .before .before .before .before .before .before .before .before .before .before .before .before .loop .inv .4
 
@@ -148,9 +82,6 @@ returns : tie.Need-returns Inv-loop μ-loop
 returns c =
     let inv = c .before .before .before .before .before .before .before .before .before .before .before .before .before .before .before .before .before .before .before .before .before .before .before .before .before .before .before .before .before .before .before .before .before .before .before .before .before .before .before .before .before .loop .inv in
     laid-broken _ _ _ _ _ (put-broken _ _ _ _ (c .before .before .before .before .before .before .before .before .before .before .before .put-group .ensures) (c .before .before .before .before .before .before .before .before .before .before .before .before .before .before .before .before .before .before .before .before .before .before .before .before .before .before .before .before .before .before .before .before .before .before .before .before .before .before .before .before .loop-test .taken) _ (inv .6) (c .before .v .given .1))
-
-enum-told : tie.Need-enum-told Inv-loop μ-loop
-enum-told c = search needs
 
 add-total : tie.Need-add-total Inv-loop μ-loop
 add-total c =
@@ -190,9 +121,6 @@ loop-again c =
       inv .9,
     )
 
-same-length-2 : tie.Need-same-length-2 Inv-loop μ-loop
-same-length-2 c = search needs
-
 returns-2 : tie.Need-returns-2 Inv-loop μ-loop
 returns-2 c =
     let inv = c .before .loop .inv in
@@ -204,37 +132,37 @@ put-groups-spec =
     (tie.spec
     Inv-loop
     μ-loop
-    sheet-long-requires
+    (λ c κs. search needs)
     wide-kinds-requires
     loop-holds
-    slice-aggregate-put-group
-    slice-aggregate-put-group-2
-    slice-aggregate-put-group-3
-    slice-aggregate-put-group-4
-    slice-aggregate-put-group-5
-    slice-aggregate-put-group-6
-    slice-aggregate-put-group-7
-    slice-aggregate-put-group-8
-    slice-aggregate-put-group-9
-    slice-aggregate-put-group-10
-    slice-aggregate-put-group-11
-    slice-aggregate-put-group-12
-    slice-aggregate-put-group-13
-    slice-aggregate-put-group-14
-    slice-aggregate-put-group-15
-    slice-aggregate-put-group-16
-    slice-aggregate-put-group-17
-    slice-aggregate-put-group-18
-    slice-aggregate-put-group-19
-    slice-aggregate-put-group-20
+    (λ c. search needs)
+    (λ c. search needs)
+    (λ c. search needs)
+    (λ c. search needs)
+    (λ c. search needs)
+    (λ c. search needs)
+    (λ c. search needs)
+    (λ c. search needs)
+    (λ c. search needs)
+    (λ c. search needs)
+    (λ c. search needs)
+    (λ c. search needs)
+    (λ c. search needs)
+    (λ c. search needs)
+    (λ c. search needs)
+    (λ c. search needs)
+    (λ c. search needs)
+    (λ c. search needs)
+    (λ c. search needs)
+    (λ c. search needs)
     put-group-requires
-    enum-known-v
+    (λ c. search needs)
     same-length
     returns
-    enum-told
+    (λ c. search needs)
     add-total
     add-g
     loop-less
     loop-again
-    same-length-2
+    (λ c. search needs)
     returns-2)

@@ -6,26 +6,8 @@ use borrow.Author.Needs.{needs}
 use Rattle.run_write.proofs.write_sheet.Statement.{statement}
 use Rattle.run_write.proofs.write_sheet.Tie as tie
 
-sheet-long-requires : tie.Need-sheet-long-requires
-sheet-long-requires c κs = search needs
-
-slice-aggregate-put-groups : tie.Need-slice-aggregate-put-groups
-slice-aggregate-put-groups c = search needs
-
-put-groups-requires : tie.Need-put-groups-requires
-put-groups-requires c κs = search needs
-
-enum-known-v : tie.Need-enum-known-v
-enum-known-v c = search needs
-
-enum-told : tie.Need-enum-told
-enum-told c = search needs
-
 returns : tie.Need-returns
 returns c = search (needs, wrote-short)
-
-array-share-prefix-room : tie.Need-array-share-prefix-room
-array-share-prefix-room c = search needs
 
 slice-aggregate-store-bytes : tie.Need-slice-aggregate-store-bytes
 slice-aggregate-store-bytes c = search (needs, room-taken)
@@ -33,23 +15,14 @@ slice-aggregate-store-bytes c = search (needs, room-taken)
 store-bytes-requires : tie.Need-store-bytes-requires
 store-bytes-requires c κs = search (needs, room-count)
 
-same-length : tie.Need-same-length
-same-length c = search needs
-
 returns-2 : tie.Need-returns-2
 returns-2 c =
     let s = c .before .before .before .before .before .before .before .before .before .before .before .before .before .before in
     let pre = s .pre in
     wrote-copy _ (c .before .before .before .before .before .before .before .before .before .before .before .before .sheet-long .ensures) (pre .0) (pre .1 .0) (pre .1 .1) (c .before .before .before .before .before .before .before .before .before .before .put-groups .ensures) _ (c .before .before .before .before .before .before .before .enum-told .given .1) (search needs) (length-replicate {A = ℕ} 196448 0) (c .before .before .before .before .before .if2 .taken) (c .before .before .store-bytes .ensures)
 
-put-groups-requires-2 : tie.Need-put-groups-requires-2
-put-groups-requires-2 c κs = search needs
-
 returns-3 : tie.Need-returns-3
 returns-3 c = search (needs, wrote-refused)
-
-same-length-2 : tie.Need-same-length-2
-same-length-2 c = search needs
 
 returns-4 : tie.Need-returns-4
 returns-4 c = search (needs, wrote-again)
@@ -58,18 +31,18 @@ pub write-sheet-spec : {M : Type 1} → statement M
 write-sheet-spec =
     tie.close
     (tie.spec
-    sheet-long-requires
-    slice-aggregate-put-groups
-    put-groups-requires
-    enum-known-v
-    enum-told
+    (λ c κs. search needs)
+    (λ c. search needs)
+    (λ c κs. search needs)
+    (λ c. search needs)
+    (λ c. search needs)
     returns
-    array-share-prefix-room
+    (λ c. search needs)
     slice-aggregate-store-bytes
     store-bytes-requires
-    same-length
+    (λ c. search needs)
     returns-2
-    put-groups-requires-2
+    (λ c κs. search needs)
     returns-3
-    same-length-2
+    (λ c. search needs)
     returns-4)

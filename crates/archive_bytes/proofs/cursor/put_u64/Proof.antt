@@ -5,28 +5,16 @@ use native.Mathlib.Omega.{arith}
 use borrow.Author.Needs.{needs}
 use Rattle.archive_bytes.proofs.cursor.put_u64.Statement.{statement}
 use Rattle.archive_bytes.proofs.cursor.put_u64.Tie as tie
-use Rattle.archive_bytes.proofs.cursor.put_u64.Reads as reads
-use Rattle.archive_bytes.proofs.cursor.put_u64.Lts as lts
-use Rattle.archive_bytes.proofs.store_u64.Reads as store-u64-reads
 
 returns : tie.Need-returns
 returns c = (search too-small, refl)
 
-sub-if2 : tie.Need-sub-if2
-sub-if2 c = search needs
-
 returns-2 : tie.Need-returns-2
 returns-2 c = (search too-late, refl)
-
-store-u64-requires : tie.Need-store-u64-requires
-store-u64-requires c κs = search needs
-
-same-length : tie.Need-same-length
-same-length c = search needs
 
 returns-3 : tie.Need-returns-3
 returns-3 c = (search (needs, has-room), c .before .before .store-u64 .ensures)
 
 pub put-u64-spec : {M : Type 1} → statement M
 put-u64-spec =
-    tie.close (tie.spec returns sub-if2 returns-2 store-u64-requires same-length returns-3)
+    tie.close (tie.spec returns (λ c. search needs) returns-2 (λ c κs. search needs) (λ c. search needs) returns-3)

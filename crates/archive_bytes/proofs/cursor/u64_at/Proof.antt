@@ -4,24 +4,15 @@ use Rattle.archive_bytes.proofs.cursor.Answers.{short, long}
 use borrow.Author.Needs.{needs}
 use Rattle.archive_bytes.proofs.cursor.u64_at.Statement.{statement}
 use Rattle.archive_bytes.proofs.cursor.u64_at.Tie as tie
-use Rattle.archive_bytes.proofs.cursor.u64_at.Reads as reads
-use Rattle.archive_bytes.proofs.cursor.u64_at.Lts as lts
-use Rattle.archive_bytes.proofs.load_u64.Reads as load-u64-reads
 
 returns : tie.Need-returns
 returns c = short _ _ 8 (omega arith)
 
-sub-if2 : tie.Need-sub-if2
-sub-if2 c = search needs
-
 returns-2 : tie.Need-returns-2
 returns-2 c = short _ _ 8 (omega arith)
-
-load-u64-requires : tie.Need-load-u64-requires
-load-u64-requires c κs = search needs
 
 returns-3 : tie.Need-returns-3
 returns-3 c = long _ _ 8 (omega arith) (c .load-u64 .ensures)
 
 pub u64-at-spec : {M : Type 1} → statement M
-u64-at-spec = tie.close (tie.spec returns sub-if2 returns-2 load-u64-requires returns-3)
+u64-at-spec = tie.close (tie.spec returns (λ c. search needs) returns-2 (λ c κs. search needs) returns-3)

@@ -6,21 +6,12 @@ use Rattle.archive_bytes.proofs.Cells.{be-one}
 use borrow.Author.Needs.{needs}
 use Rattle.archive_bytes.proofs.cursor.u8_at.Statement.{statement}
 use Rattle.archive_bytes.proofs.cursor.u8_at.Tie as tie
-use Rattle.archive_bytes.proofs.cursor.u8_at.Reads as reads
-use Rattle.archive_bytes.proofs.cursor.u8_at.Lts as lts
-use Rattle.archive_bytes.proofs.wide.Reads as wide-reads
 
 returns : tie.Need-returns
 returns c = short _ _ 1 (omega arith)
-
-shared-slice-read-wide : tie.Need-shared-slice-read-wide
-shared-slice-read-wide c = search needs
-
-wide-requires : tie.Need-wide-requires
-wide-requires c κs = search needs
 
 returns-2 : tie.Need-returns-2
 returns-2 c = long _ _ 1 (omega arith) (c .wide .ensures .0 ∙ sym (be-one _ _))
 
 pub u8-at-spec : {M : Type 1} → statement M
-u8-at-spec = tie.close (tie.spec returns shared-slice-read-wide wide-requires returns-2)
+u8-at-spec = tie.close (tie.spec returns (λ c. search needs) (λ c κs. search needs) returns-2)

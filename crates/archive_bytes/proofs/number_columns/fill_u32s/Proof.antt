@@ -9,9 +9,6 @@ use Rattle.archive_bytes.proofs.number_columns.Turns.{all-loaded, one-l
 use borrow.Author.Needs.{needs}
 use Rattle.archive_bytes.proofs.number_columns.fill_u32s.Statement.{statement}
 use Rattle.archive_bytes.proofs.number_columns.fill_u32s.Tie as tie
-use Rattle.archive_bytes.proofs.number_columns.fill_u32s.Reads as reads
-use Rattle.archive_bytes.proofs.number_columns.fill_u32s.Lts as lts
-use Rattle.archive_bytes.proofs.load_u32.Reads as load-u32-reads
 
 abbrev Inv-loop : tie.InvT-loop
 Inv-loop bytes at n out₀ i₀ p₀ out i p = (i ≤ n) × (p ≡ at + i * 4) × (length out ≡ length out₀) × (sets out₀ 0 (column 4 n bytes at) ≡ sets out i (column 4 (n - i) bytes p))
@@ -22,32 +19,8 @@ abbrev μ-loop : tie.MeasureT-loop
 loop-holds : tie.Need-loop-holds Inv-loop μ-loop
 loop-holds c = (search needs, search needs, search needs, rw sub-zero)
 
-load-u32-requires : tie.Need-load-u32-requires Inv-loop μ-loop
-load-u32-requires c κs = search needs
-
-cast-out : tie.Need-cast-out Inv-loop μ-loop
-cast-out c = search needs
-
-mul-out : tie.Need-mul-out Inv-loop μ-loop
-mul-out c = search needs
-
-slice-write-out : tie.Need-slice-write-out Inv-loop μ-loop
-slice-write-out c = search needs
-
-add-i : tie.Need-add-i Inv-loop μ-loop
-add-i c = search needs
-
-add-p : tie.Need-add-p Inv-loop μ-loop
-add-p c = search needs
-
-loop-less : tie.Need-loop-less Inv-loop μ-loop
-loop-less c = search needs
-
 loop-again : tie.Need-loop-again Inv-loop μ-loop
 loop-again c = search (needs, one-loaded)
-
-same-length : tie.Need-same-length Inv-loop μ-loop
-same-length c = search needs
 
 returns : tie.Need-returns Inv-loop μ-loop
 returns c = search (needs, all-loaded)
@@ -59,13 +32,13 @@ fill-u32s-spec =
     Inv-loop
     μ-loop
     loop-holds
-    load-u32-requires
-    cast-out
-    mul-out
-    slice-write-out
-    add-i
-    add-p
-    loop-less
+    (λ c κs. search needs)
+    (λ c. search needs)
+    (λ c. search needs)
+    (λ c. search needs)
+    (λ c. search needs)
+    (λ c. search needs)
+    (λ c. search needs)
     loop-again
-    same-length
+    (λ c. search needs)
     returns)

@@ -9,9 +9,6 @@ use Rattle.archive_bytes.proofs.number_columns.Turns.{all-loaded, one-l
 use borrow.Author.Needs.{needs}
 use Rattle.archive_bytes.proofs.number_columns.fill_u64s.Statement.{statement}
 use Rattle.archive_bytes.proofs.number_columns.fill_u64s.Tie as tie
-use Rattle.archive_bytes.proofs.number_columns.fill_u64s.Reads as reads
-use Rattle.archive_bytes.proofs.number_columns.fill_u64s.Lts as lts
-use Rattle.archive_bytes.proofs.load_u64.Reads as load-u64-reads
 
 abbrev Inv-loop : tie.InvT-loop
 Inv-loop bytes at n out₀ i₀ p₀ out i p = (i ≤ n) × (p ≡ at + i * 8) × (length out ≡ length out₀) × (sets out₀ 0 (column 8 n bytes at) ≡ sets out i (column 8 (n - i) bytes p))
@@ -22,29 +19,8 @@ abbrev μ-loop : tie.MeasureT-loop
 loop-holds : tie.Need-loop-holds Inv-loop μ-loop
 loop-holds c = (search needs, search needs, search needs, rw sub-zero)
 
-load-u64-requires : tie.Need-load-u64-requires Inv-loop μ-loop
-load-u64-requires c κs = search needs
-
-mul-out : tie.Need-mul-out Inv-loop μ-loop
-mul-out c = search needs
-
-slice-write-out : tie.Need-slice-write-out Inv-loop μ-loop
-slice-write-out c = search needs
-
-add-i : tie.Need-add-i Inv-loop μ-loop
-add-i c = search needs
-
-add-p : tie.Need-add-p Inv-loop μ-loop
-add-p c = search needs
-
-loop-less : tie.Need-loop-less Inv-loop μ-loop
-loop-less c = search needs
-
 loop-again : tie.Need-loop-again Inv-loop μ-loop
 loop-again c = search (needs, one-loaded)
-
-same-length : tie.Need-same-length Inv-loop μ-loop
-same-length c = search needs
 
 returns : tie.Need-returns Inv-loop μ-loop
 returns c = search (needs, all-loaded)
@@ -56,12 +32,12 @@ fill-u64s-spec =
     Inv-loop
     μ-loop
     loop-holds
-    load-u64-requires
-    mul-out
-    slice-write-out
-    add-i
-    add-p
-    loop-less
+    (λ c κs. search needs)
+    (λ c. search needs)
+    (λ c. search needs)
+    (λ c. search needs)
+    (λ c. search needs)
+    (λ c. search needs)
     loop-again
-    same-length
+    (λ c. search needs)
     returns)

@@ -3,17 +3,12 @@ use Rattle.archive_bytes.proofs.number_columns.Turns.{no-start, by-divi
 use borrow.Author.Needs.{needs}
 use Rattle.archive_bytes.proofs.number_columns.fits.Statement.{statement}
 use Rattle.archive_bytes.proofs.number_columns.fits.Tie as tie
-use Rattle.archive_bytes.proofs.number_columns.fits.Reads as reads
-use Rattle.archive_bytes.proofs.number_columns.fits.Lts as lts
 
 returns : tie.Need-returns
 returns c = search no-start
-
-div-result : tie.Need-div-result
-div-result c = search needs
 
 returns-2 : tie.Need-returns-2
 returns-2 c = search by-division
 
 pub fits-spec : {M : Type 1} → statement M
-fits-spec = tie.close (tie.spec returns div-result returns-2)
+fits-spec = tie.close (tie.spec returns (λ c. search needs) returns-2)

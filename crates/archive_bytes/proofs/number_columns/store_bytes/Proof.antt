@@ -7,8 +7,6 @@ use Rattle.archive_bytes.proofs.number_columns.Turns.{all-copied, one-c
 use borrow.Author.Needs.{needs}
 use Rattle.archive_bytes.proofs.number_columns.store_bytes.Statement.{statement}
 use Rattle.archive_bytes.proofs.number_columns.store_bytes.Tie as tie
-use Rattle.archive_bytes.proofs.number_columns.store_bytes.Reads as reads
-use Rattle.archive_bytes.proofs.number_columns.store_bytes.Lts as lts
 
 abbrev Inv-loop : tie.InvT-loop
 Inv-loop s out₀ at i₀ out i = (i ≤ length s) × (length out ≡ length out₀) × (sets out₀ at s ≡ sets out (at + i) (drop i s))
@@ -19,26 +17,8 @@ abbrev μ-loop : tie.MeasureT-loop
 loop-holds : tie.Need-loop-holds Inv-loop μ-loop
 loop-holds c = search (needs, copy-starts)
 
-shared-slice-read-out : tie.Need-shared-slice-read-out Inv-loop μ-loop
-shared-slice-read-out c = search needs
-
-add-out : tie.Need-add-out Inv-loop μ-loop
-add-out c = search needs
-
-slice-write-out : tie.Need-slice-write-out Inv-loop μ-loop
-slice-write-out c = search needs
-
-add-i : tie.Need-add-i Inv-loop μ-loop
-add-i c = search needs
-
-loop-less : tie.Need-loop-less Inv-loop μ-loop
-loop-less c = search needs
-
 loop-again : tie.Need-loop-again Inv-loop μ-loop
 loop-again c = search (needs, one-copied)
-
-same-length : tie.Need-same-length Inv-loop μ-loop
-same-length c = search needs
 
 returns : tie.Need-returns Inv-loop μ-loop
 returns c = search (needs, all-copied)
@@ -50,11 +30,11 @@ store-bytes-spec =
     Inv-loop
     μ-loop
     loop-holds
-    shared-slice-read-out
-    add-out
-    slice-write-out
-    add-i
-    loop-less
+    (λ c. search needs)
+    (λ c. search needs)
+    (λ c. search needs)
+    (λ c. search needs)
+    (λ c. search needs)
     loop-again
-    same-length
+    (λ c. search needs)
     returns)

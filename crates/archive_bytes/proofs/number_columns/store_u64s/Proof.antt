@@ -9,9 +9,6 @@ use Rattle.archive_bytes.proofs.number_columns.Turns.{all-stored, one-s
 use borrow.Author.Needs.{needs}
 use Rattle.archive_bytes.proofs.number_columns.store_u64s.Statement.{statement}
 use Rattle.archive_bytes.proofs.number_columns.store_u64s.Tie as tie
-use Rattle.archive_bytes.proofs.number_columns.store_u64s.Reads as reads
-use Rattle.archive_bytes.proofs.number_columns.store_u64s.Lts as lts
-use Rattle.archive_bytes.proofs.store_u64.Reads as store-u64-reads
 
 abbrev Inv-loop : tie.InvT-loop
 Inv-loop xs n out₀ at i₀ p₀ out i p = (i ≤ n) × (p ≡ at + i * 8) × (length out ≡ length out₀) × (sets out₀ at (flat (bytesOf 8) (slice 0 n xs)) ≡ sets out p (flat (bytesOf 8) (slice i n xs)))
@@ -19,32 +16,8 @@ Inv-loop xs n out₀ at i₀ p₀ out i p = (i ≤ n) × (p ≡ at + i * 8) × (
 abbrev μ-loop : tie.MeasureT-loop
 μ-loop xs n out₀ at i₀ p₀ out i p = n - i
 
-loop-holds : tie.Need-loop-holds Inv-loop μ-loop
-loop-holds c = search needs
-
-mul-store-u64 : tie.Need-mul-store-u64 Inv-loop μ-loop
-mul-store-u64 c = search needs
-
-shared-slice-read-store-u64 : tie.Need-shared-slice-read-store-u64 Inv-loop μ-loop
-shared-slice-read-store-u64 c = search needs
-
-store-u64-requires : tie.Need-store-u64-requires Inv-loop μ-loop
-store-u64-requires c κs = search needs
-
-add-i : tie.Need-add-i Inv-loop μ-loop
-add-i c = search needs
-
-add-p : tie.Need-add-p Inv-loop μ-loop
-add-p c = search needs
-
-loop-less : tie.Need-loop-less Inv-loop μ-loop
-loop-less c = search needs
-
 loop-again : tie.Need-loop-again Inv-loop μ-loop
 loop-again c = (search needs, search needs, search needs, search (needs, one-stored))
-
-same-length : tie.Need-same-length Inv-loop μ-loop
-same-length c = search needs
 
 returns : tie.Need-returns Inv-loop μ-loop
 returns c = search (needs, all-stored)
@@ -55,13 +28,13 @@ store-u64s-spec =
     (tie.spec
     Inv-loop
     μ-loop
-    loop-holds
-    mul-store-u64
-    shared-slice-read-store-u64
-    store-u64-requires
-    add-i
-    add-p
-    loop-less
+    (λ c. search needs)
+    (λ c. search needs)
+    (λ c. search needs)
+    (λ c κs. search needs)
+    (λ c. search needs)
+    (λ c. search needs)
+    (λ c. search needs)
     loop-again
-    same-length
+    (λ c. search needs)
     returns)

@@ -3,8 +3,6 @@ use Rattle.archive_read.proofs.bodies.AtHead.{flag-one, flag-wrong, low
 use borrow.Author.Needs.{needs}
 use Rattle.archive_read.proofs.bodies.depth_ok.Statement.{statement}
 use Rattle.archive_read.proofs.bodies.depth_ok.Tie as tie
-use Rattle.archive_read.proofs.bodies.depth_ok.Reads as reads
-use Rattle.archive_read.proofs.bodies.depth_ok.Lts as lts
 
 returns : tie.Need-returns
 returns c = search flag-one

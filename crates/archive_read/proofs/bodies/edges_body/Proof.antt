@@ -3,18 +3,6 @@ use Rattle.archive_read.proofs.bodies.AtSets.{none1, none2, none3, inex
 use borrow.Author.Needs.{needs}
 use Rattle.archive_read.proofs.bodies.edges_body.Statement.{statement}
 use Rattle.archive_read.proofs.bodies.edges_body.Tie as tie
-use Rattle.archive_read.proofs.bodies.edges_body.Reads as reads
-use Rattle.archive_read.proofs.bodies.edges_body.Lts as lts
-use Rattle.archive_read.proofs.bodies.set_at.Reads as set-at-reads
-
-set-at-requires : tie.Need-set-at-requires
-set-at-requires c κs = search needs
-
-enum-known-x : tie.Need-enum-known-x
-enum-known-x c = search needs
-
-enum-told : tie.Need-enum-told
-enum-told c = search needs
 
 returns : tie.Need-returns
 returns c = (search none1, tt)
@@ -22,23 +10,11 @@ returns c = (search none1, tt)
 set-at-requires-2 : tie.Need-set-at-requires-2
 set-at-requires-2 c κs = (search needs, search ends-inside)
 
-enum-known-y : tie.Need-enum-known-y
-enum-known-y c = search needs
-
-enum-told-2 : tie.Need-enum-told-2
-enum-told-2 c = search needs
-
 returns-2 : tie.Need-returns-2
 returns-2 c = (search none2, tt)
 
 set-at-requires-3 : tie.Need-set-at-requires-3
 set-at-requires-3 c κs = (search needs, search ends-inside)
-
-enum-known-z : tie.Need-enum-known-z
-enum-known-z c = search needs
-
-enum-told-3 : tie.Need-enum-told-3
-enum-told-3 c = search needs
 
 returns-3 : tie.Need-returns-3
 returns-3 c = (search none3, tt)
@@ -53,17 +29,17 @@ pub edges-body-spec : {M : Type 1} → statement M
 edges-body-spec =
     tie.close
     (tie.spec
-    set-at-requires
-    enum-known-x
-    enum-told
+    (λ c κs. search needs)
+    (λ c. search needs)
+    (λ c. search needs)
     returns
     set-at-requires-2
-    enum-known-y
-    enum-told-2
+    (λ c. search needs)
+    (λ c. search needs)
     returns-2
     set-at-requires-3
-    enum-known-z
-    enum-told-3
+    (λ c. search needs)
+    (λ c. search needs)
     returns-3
     returns-4
     returns-5)

@@ -10,8 +10,6 @@ use Rattle.archive_read.proofs.bodies.AtTables.{flags-done, flag-bad, f
 use borrow.Author.Needs.{needs}
 use Rattle.archive_read.proofs.bodies.flags_ok.Statement.{statement}
 use Rattle.archive_read.proofs.bodies.flags_ok.Tie as tie
-use Rattle.archive_read.proofs.bodies.flags_ok.Reads as reads
-use Rattle.archive_read.proofs.bodies.flags_ok.Lts as lts
 
 abbrev Inv-loop : tie.InvT-loop
 Inv-loop b n i₀ p₀ i p = (i ≤ n) × (p ≡ i * 9) × (all (λ flag. leb flag 1) (several 9 (λ l. getD l 0 0) n b) ≡ all (λ flag. leb flag 1) (several 9 (λ l. getD l 0 0) (n - i) (drop p b)))
@@ -22,20 +20,8 @@ abbrev μ-loop : tie.MeasureT-loop
 loop-holds : tie.Need-loop-holds Inv-loop μ-loop
 loop-holds c = (search needs, search needs, rw sub-zero)
 
-shared-slice-read-if1 : tie.Need-shared-slice-read-if1 Inv-loop μ-loop
-shared-slice-read-if1 c = search needs
-
 returns : tie.Need-returns Inv-loop μ-loop
 returns c = search (needs, flag-bad)
-
-add-i : tie.Need-add-i Inv-loop μ-loop
-add-i c = search needs
-
-add-p : tie.Need-add-p Inv-loop μ-loop
-add-p c = search needs
-
-loop-less : tie.Need-loop-less Inv-loop μ-loop
-loop-less c = search needs
 
 loop-again : tie.Need-loop-again Inv-loop μ-loop
 loop-again c = search (needs, flag-good)
@@ -50,10 +36,10 @@ flags-ok-spec =
     Inv-loop
     μ-loop
     loop-holds
-    shared-slice-read-if1
+    (λ c. search needs)
     returns
-    add-i
-    add-p
-    loop-less
+    (λ c. search needs)
+    (λ c. search needs)
+    (λ c. search needs)
     loop-again
     returns-2)

@@ -3,32 +3,12 @@ use Rattle.archive_read.proofs.bodies.AtTables.{roots-short, roots-othe
 use borrow.Author.Needs.{needs}
 use Rattle.archive_read.proofs.bodies.roots_body.Statement.{statement}
 use Rattle.archive_read.proofs.bodies.roots_body.Tie as tie
-use Rattle.archive_read.proofs.bodies.roots_body.Reads as reads
-use Rattle.archive_read.proofs.bodies.roots_body.Lts as lts
-use Rattle.arrays.proofs.index.Reads as index-reads
-use Rattle.archive_read.proofs.bodies.rows_rise.Reads as rows-rise-reads
-use Rattle.archive_bytes.proofs.load_u32.Reads as load-u32-reads
 
 returns : tie.Need-returns
 returns c = (search roots-short, tt)
 
-load-u32-requires : tie.Need-load-u32-requires
-load-u32-requires c κs = search needs
-
-index-requires : tie.Need-index-requires
-index-requires c κs = search needs
-
-mul-if2 : tie.Need-mul-if2
-mul-if2 c = search needs
-
-add-if2 : tie.Need-add-if2
-add-if2 c = search needs
-
 returns-2 : tie.Need-returns-2
 returns-2 c = (search (needs, roots-other), tt)
-
-rows-rise-requires : tie.Need-rows-rise-requires
-rows-rise-requires c κs = search needs
 
 returns-3 : tie.Need-returns-3
 returns-3 c = (search (needs, roots-fall), tt)
@@ -41,11 +21,11 @@ roots-body-spec =
     tie.close
     (tie.spec
     returns
-    load-u32-requires
-    index-requires
-    mul-if2
-    add-if2
+    (λ c κs. search needs)
+    (λ c κs. search needs)
+    (λ c. search needs)
+    (λ c. search needs)
     returns-2
-    rows-rise-requires
+    (λ c κs. search needs)
     returns-3
     returns-4)

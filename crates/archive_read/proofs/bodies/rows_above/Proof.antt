@@ -10,9 +10,6 @@ use Rattle.archive_read.proofs.bodies.AtTables.{first-root, above-done,
 use borrow.Author.Needs.{needs}
 use Rattle.archive_read.proofs.bodies.rows_above.Statement.{statement}
 use Rattle.archive_read.proofs.bodies.rows_above.Tie as tie
-use Rattle.archive_read.proofs.bodies.rows_above.Reads as reads
-use Rattle.archive_read.proofs.bodies.rows_above.Lts as lts
-use Rattle.archive_bytes.proofs.load_u64.Reads as load-u64-reads
 
 abbrev Inv-loop : tie.InvT-loop
 Inv-loop b n i₀ p₀ last₀ i p last = (i ≤ n) × (p ≡ 4 + i * 16) × (rising (map (λ t. t .row) (several 16 rootAt n (drop 4 b))) ≡ risesAbove last (map (λ t. t .row) (several 16 rootAt (n - i) (drop p b))))
@@ -20,26 +17,11 @@ Inv-loop b n i₀ p₀ last₀ i p last = (i ≤ n) × (p ≡ 4 + i * 16) × (ri
 abbrev μ-loop : tie.MeasureT-loop
 μ-loop b n i₀ p₀ last₀ i p last = n - i
 
-load-u64-requires : tie.Need-load-u64-requires Inv-loop μ-loop
-load-u64-requires c κs = search needs
-
 loop-holds : tie.Need-loop-holds Inv-loop μ-loop
 loop-holds c = (search needs, search needs, search (needs, first-root))
 
-load-u64-requires-2 : tie.Need-load-u64-requires-2 Inv-loop μ-loop
-load-u64-requires-2 c κs = search needs
-
 returns : tie.Need-returns Inv-loop μ-loop
 returns c = search (needs, not-above)
-
-add-i : tie.Need-add-i Inv-loop μ-loop
-add-i c = search needs
-
-add-p : tie.Need-add-p Inv-loop μ-loop
-add-p c = search needs
-
-loop-less : tie.Need-loop-less Inv-loop μ-loop
-loop-less c = search needs
 
 loop-again : tie.Need-loop-again Inv-loop μ-loop
 loop-again c = search (needs, is-above)
@@ -53,12 +35,12 @@ rows-above-spec =
     (tie.spec
     Inv-loop
     μ-loop
-    load-u64-requires
+    (λ c κs. search needs)
     loop-holds
-    load-u64-requires-2
+    (λ c κs. search needs)
     returns
-    add-i
-    add-p
-    loop-less
+    (λ c. search needs)
+    (λ c. search needs)
+    (λ c. search needs)
     loop-again
     returns-2)

@@ -3,32 +3,12 @@ use Rattle.archive_read.proofs.bodies.AtTables.{unresolved-short, unres
 use borrow.Author.Needs.{needs}
 use Rattle.archive_read.proofs.bodies.unresolved_body.Statement.{statement}
 use Rattle.archive_read.proofs.bodies.unresolved_body.Tie as tie
-use Rattle.archive_read.proofs.bodies.unresolved_body.Reads as reads
-use Rattle.archive_read.proofs.bodies.unresolved_body.Lts as lts
-use Rattle.archive_read.proofs.bodies.children_ok.Reads as children-ok-reads
-use Rattle.arrays.proofs.index.Reads as index-reads
-use Rattle.archive_bytes.proofs.load_u32.Reads as load-u32-reads
 
 returns : tie.Need-returns
 returns c = (search unresolved-short, tt)
 
-load-u32-requires : tie.Need-load-u32-requires
-load-u32-requires c κs = search needs
-
-index-requires : tie.Need-index-requires
-index-requires c κs = search needs
-
-mul-if2 : tie.Need-mul-if2
-mul-if2 c = search needs
-
-add-if2 : tie.Need-add-if2
-add-if2 c = search needs
-
 returns-2 : tie.Need-returns-2
 returns-2 c = (search (needs, unresolved-other), tt)
-
-children-ok-requires : tie.Need-children-ok-requires
-children-ok-requires c κs = search needs
 
 returns-3 : tie.Need-returns-3
 returns-3 c = (search (needs, unresolved-fall), tt)
@@ -41,11 +21,11 @@ unresolved-body-spec =
     tie.close
     (tie.spec
     returns
-    load-u32-requires
-    index-requires
-    mul-if2
-    add-if2
+    (λ c κs. search needs)
+    (λ c κs. search needs)
+    (λ c. search needs)
+    (λ c. search needs)
     returns-2
-    children-ok-requires
+    (λ c κs. search needs)
     returns-3
     returns-4)

@@ -9,10 +9,6 @@ use Rattle.archive_read.proofs.AtFiles.{sums-start, sums-done, sums-bro
 use borrow.Author.Needs.{needs}
 use Rattle.archive_read.proofs.files.sum_up.Statement.{statement}
 use Rattle.archive_read.proofs.files.sum_up.Tie as tie
-use Rattle.archive_read.proofs.files.sum_up.Reads as reads
-use Rattle.archive_read.proofs.files.sum_up.Lts as lts
-use Rattle.archive_read.proofs.records.file_at.Reads as file-at-reads
-use Rattle.archive_read.proofs.files.with_file.Reads as with-file-reads
 
 abbrev Inv-loop : tie.InvT-loop
 Inv-loop bytes t₀ p₀ t p = Below t p × (p ≤ length bytes) × (totalsOf (parse bytes) ≡ plus t (totalsOf (files (length bytes - t .files) bytes p)))
@@ -22,15 +18,6 @@ abbrev μ-loop : tie.MeasureT-loop
 
 loop-holds : tie.Need-loop-holds Inv-loop μ-loop
 loop-holds c = ((search needs, search needs, search needs, search needs, search needs, search needs, search needs, search needs, search needs), search needs, search sums-start)
-
-file-at-requires : tie.Need-file-at-requires Inv-loop μ-loop
-file-at-requires c κs = search needs
-
-enum-known-x : tie.Need-enum-known-x Inv-loop μ-loop
-enum-known-x c = search needs
-
-enum-told : tie.Need-enum-told Inv-loop μ-loop
-enum-told c = search needs
 
 returns : tie.Need-returns Inv-loop μ-loop
 returns c = search sums-broken
@@ -60,9 +47,9 @@ sum-up-spec =
     Inv-loop
     μ-loop
     loop-holds
-    file-at-requires
-    enum-known-x
-    enum-told
+    (λ c κs. search needs)
+    (λ c. search needs)
+    (λ c. search needs)
     returns
     with-file-requires
     loop-less

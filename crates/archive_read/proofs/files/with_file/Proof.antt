@@ -5,20 +5,6 @@ use Rattle.archive_read.specs.Sums.{withFile}
 use borrow.Author.Needs.{needs}
 use Rattle.archive_read.proofs.files.with_file.Statement.{statement}
 use Rattle.archive_read.proofs.files.with_file.Tie as tie
-use Rattle.archive_read.proofs.files.with_file.Reads as reads
-use Rattle.archive_read.proofs.files.with_file.Lts as lts
-
-add-t10 : tie.Need-add-t10
-add-t10 c = search needs
-
-cast-t11 : tie.Need-cast-t11
-cast-t11 c = search needs
-
-add-t12 : tie.Need-add-t12
-add-t12 c = search needs
-
-add-t13 : tie.Need-add-t13
-add-t13 c = search needs
 
 add-t14 : tie.Need-add-t14
 add-t14 c = let q = c .before .before .before .before .before .before .before .before .before .before .before .before .before .pre in
@@ -52,10 +38,10 @@ pub with-file-spec : {M : Type 1} → statement M
 with-file-spec =
     tie.close
     (tie.spec
-    add-t10
-    cast-t11
-    add-t12
-    add-t13
+    (λ c. search needs)
+    (λ c. search needs)
+    (λ c. search needs)
+    (λ c. search needs)
     add-t14
     add-t15
     add-t16

@@ -23,29 +23,8 @@ returns c = search (needs, run-over)
 loop-holds : tie.Need-loop-holds Inv-loop μ-loop
 loop-holds c = (search needs, search needs, search needs, search needs, search starts)
 
-file-at-requires : tie.Need-file-at-requires Inv-loop μ-loop
-file-at-requires c κs = search needs
-
-enum-known-x : tie.Need-enum-known-x Inv-loop μ-loop
-enum-known-x c = search needs
-
-enum-told : tie.Need-enum-told Inv-loop μ-loop
-enum-told c = search needs
-
 returns-2 : tie.Need-returns-2 Inv-loop μ-loop
 returns-2 c = search (needs, no-file)
-
-slice-aggregate-with-group : tie.Need-slice-aggregate-with-group Inv-loop μ-loop
-slice-aggregate-with-group c = search needs
-
-group-of-requires : tie.Need-group-of-requires Inv-loop μ-loop
-group-of-requires c κs = search needs
-
-with-group-requires : tie.Need-with-group-requires Inv-loop μ-loop
-with-group-requires c κs = search needs
-
-add-if2 : tie.Need-add-if2 Inv-loop μ-loop
-add-if2 c = search needs
 
 returns-3 : tie.Need-returns-3 Inv-loop μ-loop
 returns-3 c =
@@ -56,9 +35,6 @@ returns-3 c =
     let i = f .before .before .loop .inv in
     over-now _ _ _ _ _ _ (i .2) (i .3) (i .4) _ _ (f .before .loop-test .taken) (i .1) (f .file-at .ensures .0) (x .x .given .1) (w .with-group .ensures .0) (g .group-of .ensures)
     (w .with-group .ensures .1 .0) (w .with-group .ensures .1 .1) (c .if2 .taken)
-
-add-m : tie.Need-add-m Inv-loop μ-loop
-add-m c = search needs
 
 loop-less : tie.Need-loop-less Inv-loop μ-loop
 loop-less c = search less-left
@@ -77,16 +53,16 @@ groups-over-spec =
     μ-loop
     returns
     loop-holds
-    file-at-requires
-    enum-known-x
-    enum-told
+    (λ c κs. search needs)
+    (λ c. search needs)
+    (λ c. search needs)
     returns-2
-    slice-aggregate-with-group
-    group-of-requires
-    with-group-requires
-    add-if2
+    (λ c. search needs)
+    (λ c κs. search needs)
+    (λ c κs. search needs)
+    (λ c. search needs)
     returns-3
-    add-m
+    (λ c. search needs)
     loop-less
     loop-again
     returns-4)

@@ -4,19 +4,6 @@ use Rattle.archive_read.proofs.AtRecords.{starts-before, body-past, bod
 use borrow.Author.Needs.{needs}
 use Rattle.archive_read.proofs.records.third_record.Statement.{statement}
 use Rattle.archive_read.proofs.records.third_record.Tie as tie
-use Rattle.archive_read.proofs.records.third_record.Reads as reads
-use Rattle.archive_read.proofs.records.third_record.Lts as lts
-use Rattle.archive_read.proofs.bodies.find_body.Reads as find-body-reads
-use Rattle.archive_read.proofs.bodies.rows_body.Reads as rows-body-reads
-
-find-body-requires : tie.Need-find-body-requires
-find-body-requires c κs = search needs
-
-enum-known-x : tie.Need-enum-known-x
-enum-known-x c = search needs
-
-enum-told : tie.Need-enum-told
-enum-told c = search needs
 
 returns : tie.Need-returns
 returns c = (search none-third, tt)
@@ -39,9 +26,6 @@ part-rows-body-end c =
     let g = body-fits _ _ _ (c .before .before .before .find-body .ensures .1) (c .before .x .given .1) in
     search needs
 
-rows-body-requires : tie.Need-rows-body-requires
-rows-body-requires c κs = search needs
-
 returns-2 : tie.Need-returns-2
 returns-2 c = (search bad-third, tt)
 
@@ -49,4 +33,4 @@ returns-3 : tie.Need-returns-3
 returns-3 c = (search is-third, ((search body-past, search body-fits), search few-rows, search holds-rows))
 
 pub third-record-spec : {M : Type 1} → statement M
-third-record-spec = tie.close (tie.spec find-body-requires enum-known-x enum-told returns sub-rows-body part-rows-body-start part-rows-body-end rows-body-requires returns-2 returns-3)
+third-record-spec = tie.close (tie.spec (λ c κs. search needs) (λ c. search needs) (λ c. search needs) returns sub-rows-body part-rows-body-start part-rows-body-end (λ c κs. search needs) returns-2 returns-3)

@@ -17,35 +17,8 @@ Inv-loop out₀ at flags tags i₀ p₀ out i p = (i ≤ length tags) × (p ≡ 
 abbrev μ-loop : tie.MeasureT-loop
 μ-loop out₀ at flags tags i₀ p₀ out i p = length tags - i
 
-loop-holds : tie.Need-loop-holds Inv-loop μ-loop
-loop-holds c = search needs
-
-shared-slice-read-store-row : tie.Need-shared-slice-read-store-row Inv-loop μ-loop
-shared-slice-read-store-row c = search needs
-
-mul-store-row : tie.Need-mul-store-row Inv-loop μ-loop
-mul-store-row c = search needs
-
-shared-slice-read-store-row-2 : tie.Need-shared-slice-read-store-row-2 Inv-loop μ-loop
-shared-slice-read-store-row-2 c = search needs
-
-store-row-requires : tie.Need-store-row-requires Inv-loop μ-loop
-store-row-requires c κs = search needs
-
-add-i : tie.Need-add-i Inv-loop μ-loop
-add-i c = search needs
-
-add-p : tie.Need-add-p Inv-loop μ-loop
-add-p c = search needs
-
-loop-less : tie.Need-loop-less Inv-loop μ-loop
-loop-less c = search needs
-
 loop-again : tie.Need-loop-again Inv-loop μ-loop
 loop-again c = (search needs, search needs, search needs, search (needs, row-next))
-
-same-length : tie.Need-same-length Inv-loop μ-loop
-same-length c = search needs
 
 returns : tie.Need-returns Inv-loop μ-loop
 returns c = search (needs, rows-done)
@@ -56,14 +29,14 @@ store-rows-spec =
     (tie.spec
     Inv-loop
     μ-loop
-    loop-holds
-    shared-slice-read-store-row
-    mul-store-row
-    shared-slice-read-store-row-2
-    store-row-requires
-    add-i
-    add-p
-    loop-less
+    (λ c. search needs)
+    (λ c. search needs)
+    (λ c. search needs)
+    (λ c. search needs)
+    (λ c κs. search needs)
+    (λ c. search needs)
+    (λ c. search needs)
+    (λ c. search needs)
     loop-again
-    same-length
+    (λ c. search needs)
     returns)

@@ -4,9 +4,6 @@ use borrow.Author.Needs.{needs}
 use Rattle.archive_write.proofs.rules.cover_rules.Statement.{statement}
 use Rattle.archive_write.proofs.rules.cover_rules.Tie as tie
 
-nine-over-requires : tie.Need-nine-over-requires
-nine-over-requires c κs = search needs
-
 returns : tie.Need-returns
 returns c = search (needs, over)
 
@@ -16,9 +13,6 @@ low-cover-requires c κs = search (needs, records-few)
 returns-2 : tie.Need-returns-2
 returns-2 c = search (needs, too-low)
 
-same-cover-requires : tie.Need-same-cover-requires
-same-cover-requires c κs = search needs
-
 returns-3 : tie.Need-returns-3
 returns-3 c = search (needs, unfit)
 
@@ -26,4 +20,4 @@ returns-4 : tie.Need-returns-4
 returns-4 c = search (needs, fit)
 
 pub cover-rules-spec : {M : Type 1} → statement M
-cover-rules-spec = tie.close (tie.spec nine-over-requires returns low-cover-requires returns-2 same-cover-requires returns-3 returns-4)
+cover-rules-spec = tie.close (tie.spec (λ c κs. search needs) returns low-cover-requires returns-2 (λ c κs. search needs) returns-3 returns-4)

@@ -4,9 +4,6 @@ use borrow.Author.Needs.{needs}
 use Rattle.archive_write.proofs.rules.edges_rules.Statement.{statement}
 use Rattle.archive_write.proofs.rules.edges_rules.Tie as tie
 
-six-many-requires : tie.Need-six-many-requires
-six-many-requires c κs = search needs
-
 returns : tie.Need-returns
 returns c = search (needs, many)
 
@@ -16,9 +13,6 @@ low-sets-requires c κs = search (needs, numbers-few)
 returns-2 : tie.Need-returns-2
 returns-2 c = search (needs, low-numbers)
 
-same-three-requires : tie.Need-same-three-requires
-same-three-requires c κs = search needs
-
 returns-3 : tie.Need-returns-3
 returns-3 c = search (needs, unfit-numbers)
 
@@ -26,4 +20,4 @@ returns-4 : tie.Need-returns-4
 returns-4 c = search (needs, fit-numbers)
 
 pub edges-rules-spec : {M : Type 1} → statement M
-edges-rules-spec = tie.close (tie.spec six-many-requires returns low-sets-requires returns-2 same-three-requires returns-3 returns-4)
+edges-rules-spec = tie.close (tie.spec (λ c κs. search needs) returns low-sets-requires returns-2 (λ c κs. search needs) returns-3 returns-4)

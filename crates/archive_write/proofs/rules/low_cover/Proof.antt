@@ -8,14 +8,8 @@ use Rattle.archive_write.proofs.rules.low_cover.Tie as tie
 cover-body-requires : tie.Need-cover-body-requires
 cover-body-requires c κs = let k = cover-fits _ _ _ _ _ _ _ _ _ (c .pre) in omega arith
 
-add-low : tie.Need-add-low
-add-low c = search needs
-
-low-requires : tie.Need-low-requires
-low-requires c κs = search needs
-
 returns : tie.Need-returns
 returns c = search (needs, sized)
 
 pub low-cover-spec : {M : Type 1} → statement M
-low-cover-spec = tie.close (tie.spec cover-body-requires add-low low-requires returns)
+low-cover-spec = tie.close (tie.spec cover-body-requires (λ c. search needs) (λ c κs. search needs) returns)

@@ -8,14 +8,8 @@ use Rattle.archive_write.proofs.rules.low_sets.Tie as tie
 sets-size-requires : tie.Need-sets-size-requires
 sets-size-requires c κs = let k = sets-fit _ _ _ _ _ _ (c .pre) in omega arith
 
-add-low : tie.Need-add-low
-add-low c = search needs
-
-low-requires : tie.Need-low-requires
-low-requires c κs = search needs
-
 returns : tie.Need-returns
 returns c = search (needs, sized)
 
 pub low-sets-spec : {M : Type 1} → statement M
-low-sets-spec = tie.close (tie.spec sets-size-requires add-low low-requires returns)
+low-sets-spec = tie.close (tie.spec sets-size-requires (λ c. search needs) (λ c κs. search needs) returns)

@@ -10,11 +10,8 @@ returns c = search any-here
 returns-2 : tie.Need-returns-2
 returns-2 c = search (any-on, any-here)
 
-seven-over-requires : tie.Need-seven-over-requires
-seven-over-requires c κs = search needs
-
 returns-3 : tie.Need-returns-3
 returns-3 c = search any-on
 
 pub nine-over-spec : {M : Type 1} → statement M
-nine-over-spec = tie.close (tie.spec returns returns-2 seven-over-requires returns-3)
+nine-over-spec = tie.close (tie.spec returns returns-2 (λ c κs. search needs) returns-3)

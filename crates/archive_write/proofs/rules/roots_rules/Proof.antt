@@ -4,9 +4,6 @@ use borrow.Author.Needs.{needs}
 use Rattle.archive_write.proofs.rules.roots_rules.Statement.{statement}
 use Rattle.archive_write.proofs.rules.roots_rules.Tie as tie
 
-two-over-requires : tie.Need-two-over-requires
-two-over-requires c κs = search needs
-
 returns : tie.Need-returns
 returns c = search (needs, over)
 
@@ -16,9 +13,6 @@ low-roots-requires c κs = search (needs, first-of-two)
 returns-2 : tie.Need-returns-2
 returns-2 c = search (needs, too-low)
 
-same-two-requires : tie.Need-same-two-requires
-same-two-requires c κs = search needs
-
 returns-3 : tie.Need-returns-3
 returns-3 c = search (needs, unfit)
 
@@ -26,4 +20,4 @@ returns-4 : tie.Need-returns-4
 returns-4 c = search (needs, fit)
 
 pub roots-rules-spec : {M : Type 1} → statement M
-roots-rules-spec = tie.close (tie.spec two-over-requires returns low-roots-requires returns-2 same-two-requires returns-3 returns-4)
+roots-rules-spec = tie.close (tie.spec (λ c κs. search needs) returns low-roots-requires returns-2 (λ c κs. search needs) returns-3 returns-4)

@@ -7,20 +7,14 @@ use Rattle.archive_write.proofs.rules.same_cover.Tie as tie
 returns : tie.Need-returns
 returns c = search labels-differ
 
-same-three-requires : tie.Need-same-three-requires
-same-three-requires c κs = search needs
-
 returns-2 : tie.Need-returns-2
 returns-2 c = search ranges-differ
 
 returns-3 : tie.Need-returns-3
 returns-3 c = search links-differ
 
-same-three-requires-2 : tie.Need-same-three-requires-2
-same-three-requires-2 c κs = search needs
-
 returns-4 : tie.Need-returns-4
 returns-4 c = search links-same
 
 pub same-cover-spec : {M : Type 1} → statement M
-same-cover-spec = tie.close (tie.spec returns same-three-requires returns-2 returns-3 same-three-requires-2 returns-4)
+same-cover-spec = tie.close (tie.spec returns (λ c κs. search needs) returns-2 returns-3 (λ c κs. search needs) returns-4)

@@ -13,11 +13,8 @@ returns-2 c = search (any-on, any-here)
 returns-3 : tie.Need-returns-3
 returns-3 c = search (any-on, any-here)
 
-three-many-requires : tie.Need-three-many-requires
-three-many-requires c κs = search needs
-
 returns-4 : tie.Need-returns-4
 returns-4 c = search any-on
 
 pub six-many-spec : {M : Type 1} → statement M
-six-many-spec = tie.close (tie.spec returns returns-2 returns-3 three-many-requires returns-4)
+six-many-spec = tie.close (tie.spec returns returns-2 returns-3 (λ c κs. search needs) returns-4)

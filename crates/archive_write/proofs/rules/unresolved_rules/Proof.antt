@@ -4,9 +4,6 @@ use borrow.Author.Needs.{needs}
 use Rattle.archive_write.proofs.rules.unresolved_rules.Statement.{statement}
 use Rattle.archive_write.proofs.rules.unresolved_rules.Tie as tie
 
-three-over-requires : tie.Need-three-over-requires
-three-over-requires c κs = search needs
-
 returns : tie.Need-returns
 returns c = search (needs, over)
 
@@ -16,9 +13,6 @@ low-unresolved-requires c κs = search (needs, first-of-three)
 returns-2 : tie.Need-returns-2
 returns-2 c = search (needs, too-low)
 
-same-three-requires : tie.Need-same-three-requires
-same-three-requires c κs = search needs
-
 returns-3 : tie.Need-returns-3
 returns-3 c = search (needs, unfit)
 
@@ -26,4 +20,4 @@ returns-4 : tie.Need-returns-4
 returns-4 c = search (needs, fit)
 
 pub unresolved-rules-spec : {M : Type 1} → statement M
-unresolved-rules-spec = tie.close (tie.spec three-over-requires returns low-unresolved-requires returns-2 same-three-requires returns-3 returns-4)
+unresolved-rules-spec = tie.close (tie.spec (λ c κs. search needs) returns low-unresolved-requires returns-2 (λ c κs. search needs) returns-3 returns-4)

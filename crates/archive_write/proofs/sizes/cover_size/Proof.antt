@@ -4,12 +4,6 @@ use borrow.Author.Needs.{needs}
 use Rattle.archive_write.proofs.sizes.cover_size.Statement.{statement}
 use Rattle.archive_write.proofs.sizes.cover_size.Tie as tie
 
-cover-body-requires : tie.Need-cover-body-requires
-cover-body-requires c κs = search needs
-
-add-result : tie.Need-add-result
-add-result c = search needs
-
 returns : tie.Need-returns
 returns c = (search (needs, with-cover), search needs)
 
@@ -17,4 +11,4 @@ returns-2 : tie.Need-returns-2
 returns-2 c = (search without-cover, search needs)
 
 pub cover-size-spec : {M : Type 1} → statement M
-cover-size-spec = tie.close (tie.spec cover-body-requires add-result returns returns-2)
+cover-size-spec = tie.close (tie.spec (λ c κs. search needs) (λ c. search needs) returns returns-2)

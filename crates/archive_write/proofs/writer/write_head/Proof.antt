@@ -5,26 +5,14 @@ use borrow.Author.Needs.{needs}
 use Rattle.archive_write.proofs.writer.write_head.Statement.{statement}
 use Rattle.archive_write.proofs.writer.write_head.Tie as tie
 
-head-rules-requires : tie.Need-head-rules-requires
-head-rules-requires c κs = search needs
-
-enum-known-v : tie.Need-enum-known-v
-enum-known-v c = search needs
-
-enum-told : tie.Need-enum-told
-enum-told c = search needs
-
 record-head-requires : tie.Need-record-head-requires
 record-head-requires c κs = (search (needs, fine-room), search (needs, subject-fits))
 
 returns : tie.Need-returns
 returns c = (search refused-told, search refused-kept)
 
-same-length : tie.Need-same-length
-same-length c = search needs
-
 returns-2 : tie.Need-returns-2
 returns-2 c = (search (needs, head-ends), search (needs, written))
 
 pub write-head-spec : {M : Type 1} → statement M
-write-head-spec = tie.close (tie.spec head-rules-requires enum-known-v enum-told record-head-requires returns same-length returns-2)
+write-head-spec = tie.close (tie.spec (λ c κs. search needs) (λ c. search needs) (λ c. search needs) record-head-requires returns (λ c. search needs) returns-2)

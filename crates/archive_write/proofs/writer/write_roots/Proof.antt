@@ -5,26 +5,14 @@ use borrow.Author.Needs.{needs}
 use Rattle.archive_write.proofs.writer.write_roots.Statement.{statement}
 use Rattle.archive_write.proofs.writer.write_roots.Tie as tie
 
-roots-rules-requires : tie.Need-roots-rules-requires
-roots-rules-requires c κs = search needs
-
-enum-known-v : tie.Need-enum-known-v
-enum-known-v c = search needs
-
-enum-told : tie.Need-enum-told
-enum-told c = search needs
-
 record-roots-requires : tie.Need-record-roots-requires
 record-roots-requires c κs = (search (needs, roots-even), search (needs, fine-room), search (needs, roots-short))
 
 returns : tie.Need-returns
 returns c = (search refused-told, search refused-kept)
 
-same-length : tie.Need-same-length
-same-length c = search needs
-
 returns-2 : tie.Need-returns-2
 returns-2 c = (search (needs, roots-end), search (needs, written))
 
 pub write-roots-spec : {M : Type 1} → statement M
-write-roots-spec = tie.close (tie.spec roots-rules-requires enum-known-v enum-told record-roots-requires returns same-length returns-2)
+write-roots-spec = tie.close (tie.spec (λ c κs. search needs) (λ c. search needs) (λ c. search needs) record-roots-requires returns (λ c. search needs) returns-2)

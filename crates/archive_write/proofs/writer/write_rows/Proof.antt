@@ -5,26 +5,14 @@ use borrow.Author.Needs.{needs}
 use Rattle.archive_write.proofs.writer.write_rows.Statement.{statement}
 use Rattle.archive_write.proofs.writer.write_rows.Tie as tie
 
-rows-rules-requires : tie.Need-rows-rules-requires
-rows-rules-requires c κs = search needs
-
-enum-known-v : tie.Need-enum-known-v
-enum-known-v c = search needs
-
-enum-told : tie.Need-enum-told
-enum-told c = search needs
-
 record-rows-requires : tie.Need-record-rows-requires
 record-rows-requires c κs = (search (needs, rows-even), search (needs, fine-room), search (needs, rows-short))
 
 returns : tie.Need-returns
 returns c = (search refused-told, search refused-kept)
 
-same-length : tie.Need-same-length
-same-length c = search needs
-
 returns-2 : tie.Need-returns-2
 returns-2 c = (search (needs, rows-end), search (needs, written))
 
 pub write-rows-spec : {M : Type 1} → statement M
-write-rows-spec = tie.close (tie.spec rows-rules-requires enum-known-v enum-told record-rows-requires returns same-length returns-2)
+write-rows-spec = tie.close (tie.spec (λ c κs. search needs) (λ c. search needs) (λ c. search needs) record-rows-requires returns (λ c. search needs) returns-2)

@@ -5,26 +5,14 @@ use borrow.Author.Needs.{needs}
 use Rattle.archive_write.proofs.writer.write_unresolved.Statement.{statement}
 use Rattle.archive_write.proofs.writer.write_unresolved.Tie as tie
 
-unresolved-rules-requires : tie.Need-unresolved-rules-requires
-unresolved-rules-requires c κs = search needs
-
-enum-known-v : tie.Need-enum-known-v
-enum-known-v c = search needs
-
-enum-told : tie.Need-enum-told
-enum-told c = search needs
-
 record-unresolved-requires : tie.Need-record-unresolved-requires
 record-unresolved-requires c κs = ((search (needs, kinds-even), search (needs, handles-even)), (search (needs, fine-room), search (needs, unresolved-short)))
 
 returns : tie.Need-returns
 returns c = (search refused-told, search refused-kept)
 
-same-length : tie.Need-same-length
-same-length c = search needs
-
 returns-2 : tie.Need-returns-2
 returns-2 c = (search (needs, unresolved-end), search (needs, written))
 
 pub write-unresolved-spec : {M : Type 1} → statement M
-write-unresolved-spec = tie.close (tie.spec unresolved-rules-requires enum-known-v enum-told record-unresolved-requires returns same-length returns-2)
+write-unresolved-spec = tie.close (tie.spec (λ c κs. search needs) (λ c. search needs) (λ c. search needs) record-unresolved-requires returns (λ c. search needs) returns-2)

@@ -4,26 +4,11 @@ use Rattle.columns.proofs.Signs.{sound-up, none-up, sound-down, none-do
 use Rattle.columns.proofs.delta.is_sound.Statement.{statement}
 use Rattle.columns.proofs.delta.is_sound.Tie as tie
 
-magnitude-requires : tie.Need-magnitude-requires
-magnitude-requires c κs = search needs
-
-sub-if2 : tie.Need-sub-if2
-sub-if2 c = search needs
-
-add-is-allowed : tie.Need-add-is-allowed
-add-is-allowed c = search needs
-
-is-allowed-requires : tie.Need-is-allowed-requires
-is-allowed-requires c κs = search needs
-
 returns : tie.Need-returns
 returns c = search sound-up
 
 returns-2 : tie.Need-returns-2
 returns-2 c = search none-up
-
-is-allowed-requires-2 : tie.Need-is-allowed-requires-2
-is-allowed-requires-2 c κs = search needs
 
 returns-3 : tie.Need-returns-3
 returns-3 c = search sound-down
@@ -35,12 +20,12 @@ pub is-sound-spec : {M : Type 1} → statement M
 is-sound-spec =
     tie.close
     (tie.spec
-    magnitude-requires
-    sub-if2
-    add-is-allowed
-    is-allowed-requires
+    (λ c κs. search needs)
+    (λ c. search needs)
+    (λ c. search needs)
+    (λ c κs. search needs)
     returns
     returns-2
-    is-allowed-requires-2
+    (λ c κs. search needs)
     returns-3
     returns-4)

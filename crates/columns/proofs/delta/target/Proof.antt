@@ -4,9 +4,6 @@ use Rattle.columns.proofs.Signs.{fits-up, stands-up, within-down, stand
 use Rattle.columns.proofs.delta.target.Statement.{statement}
 use Rattle.columns.proofs.delta.target.Tie as tie
 
-magnitude-requires : tie.Need-magnitude-requires
-magnitude-requires c κs = search needs
-
 add-result : tie.Need-add-result
 add-result c = search fits-up
 
@@ -20,4 +17,4 @@ returns-2 : tie.Need-returns-2
 returns-2 c = search stands-down
 
 pub target-spec : {M : Type 1} → statement M
-target-spec = tie.close (tie.spec magnitude-requires add-result returns sub-result returns-2)
+target-spec = tie.close (tie.spec (λ c κs. search needs) add-result returns sub-result returns-2)

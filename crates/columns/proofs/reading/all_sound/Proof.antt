@@ -15,26 +15,8 @@ Inv-loop set end event deltas from to i₀ i = all (sound set end event) (slice 
 abbrev μ-loop : tie.MeasureT-loop
 μ-loop set end event deltas from to i₀ i = to - i
 
-loop-holds : tie.Need-loop-holds Inv-loop μ-loop
-loop-holds c = search needs
-
-mul-is-sound : tie.Need-mul-is-sound Inv-loop μ-loop
-mul-is-sound c = search needs
-
-shared-slice-copy-out-is-sound : tie.Need-shared-slice-copy-out-is-sound Inv-loop μ-loop
-shared-slice-copy-out-is-sound c = search needs
-
-is-sound-requires : tie.Need-is-sound-requires Inv-loop μ-loop
-is-sound-requires c κs = search needs
-
 returns : tie.Need-returns Inv-loop μ-loop
 returns c = search sound-stop
-
-add-i : tie.Need-add-i Inv-loop μ-loop
-add-i c = search needs
-
-loop-less : tie.Need-loop-less Inv-loop μ-loop
-loop-less c = search needs
 
 loop-again : tie.Need-loop-again Inv-loop μ-loop
 loop-again c = search sound-on
@@ -48,12 +30,12 @@ all-sound-spec =
     (tie.spec
     Inv-loop
     μ-loop
-    loop-holds
-    mul-is-sound
-    shared-slice-copy-out-is-sound
-    is-sound-requires
+    (λ c. search needs)
+    (λ c. search needs)
+    (λ c. search needs)
+    (λ c κs. search needs)
     returns
-    add-i
-    loop-less
+    (λ c. search needs)
+    (λ c. search needs)
     loop-again
     returns-2)

@@ -20,29 +20,11 @@ abbrev μ-loop : tie.MeasureT-loop
 loop-holds : tie.Need-loop-holds Inv-loop μ-loop
 loop-holds c = search (needs, some-offset)
 
-add-loop : tie.Need-add-loop Inv-loop μ-loop
-add-loop c = search needs
-
-is-row-sound-requires : tie.Need-is-row-sound-requires Inv-loop μ-loop
-is-row-sound-requires c κs = search needs
-
 returns : tie.Need-returns Inv-loop μ-loop
 returns c = search rows-stop
 
-add-slot : tie.Need-add-slot Inv-loop μ-loop
-add-slot c = search needs
-
-loop-less : tie.Need-loop-less Inv-loop μ-loop
-loop-less c = search needs
-
 loop-again : tie.Need-loop-again Inv-loop μ-loop
 loop-again c = search (needs, rows-on)
-
-add-if2 : tie.Need-add-if2 Inv-loop μ-loop
-add-if2 c = search needs
-
-is-slot-sound-requires : tie.Need-is-slot-sound-requires Inv-loop μ-loop
-is-slot-sound-requires c κs = search needs
 
 returns-2 : tie.Need-returns-2 Inv-loop μ-loop
 returns-2 c = search slots-last
@@ -57,13 +39,13 @@ are-sound-spec =
     Inv-loop
     μ-loop
     loop-holds
-    add-loop
-    is-row-sound-requires
+    (λ c. search needs)
+    (λ c κs. search needs)
     returns
-    add-slot
-    loop-less
+    (λ c. search needs)
+    (λ c. search needs)
     loop-again
-    add-if2
-    is-slot-sound-requires
+    (λ c. search needs)
+    (λ c κs. search needs)
     returns-2
     returns-3)

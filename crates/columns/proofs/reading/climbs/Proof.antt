@@ -14,23 +14,8 @@ Inv-loop high offsets low₀ i₀ low i = climbsTo high 0 (drop 1 offsets) ≡ c
 abbrev μ-loop : tie.MeasureT-loop
 μ-loop high offsets low₀ i₀ low i = length offsets - i
 
-loop-holds : tie.Need-loop-holds Inv-loop μ-loop
-loop-holds c = search needs
-
-mul-next : tie.Need-mul-next Inv-loop μ-loop
-mul-next c = search needs
-
-shared-slice-read-next : tie.Need-shared-slice-read-next Inv-loop μ-loop
-shared-slice-read-next c = search needs
-
 returns : tie.Need-returns Inv-loop μ-loop
 returns c = search climb-falls
-
-add-i : tie.Need-add-i Inv-loop μ-loop
-add-i c = search needs
-
-loop-less : tie.Need-loop-less Inv-loop μ-loop
-loop-less c = search needs
 
 loop-again : tie.Need-loop-again Inv-loop μ-loop
 loop-again c = search climb-on
@@ -44,11 +29,11 @@ climbs-spec =
     (tie.spec
     Inv-loop
     μ-loop
-    loop-holds
-    mul-next
-    shared-slice-read-next
+    (λ c. search needs)
+    (λ c. search needs)
+    (λ c. search needs)
     returns
-    add-i
-    loop-less
+    (λ c. search needs)
+    (λ c. search needs)
     loop-again
     returns-2)

@@ -4,20 +4,8 @@ use Rattle.columns.proofs.Checks.{readable, set-counted, set-written, s
 use Rattle.columns.proofs.reading.decode_csr.Statement.{statement}
 use Rattle.columns.proofs.reading.decode_csr.Tie as tie
 
-csr-rules-requires : tie.Need-csr-rules-requires
-csr-rules-requires c κs = search needs
-
-enum-told : tie.Need-enum-told
-enum-told c = search needs
-
 write-csr-requires : tie.Need-write-csr-requires
 write-csr-requires c κs = search readable
-
-enum-known-rules : tie.Need-enum-known-rules
-enum-known-rules c = search needs
-
-same-length : tie.Need-same-length
-same-length c = search needs
 
 returns : tie.Need-returns
 returns c = (search set-counted, search set-written)
@@ -29,10 +17,10 @@ pub decode-csr-spec : {M : Type 1} → statement M
 decode-csr-spec =
     tie.close
     (tie.spec
-    csr-rules-requires
-    enum-told
+    (λ c κs. search needs)
+    (λ c. search needs)
     write-csr-requires
-    enum-known-rules
-    same-length
+    (λ c. search needs)
+    (λ c. search needs)
     returns
     returns-2)

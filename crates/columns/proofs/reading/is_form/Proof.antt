@@ -10,14 +10,8 @@ returns c = search even-offsets
 returns-2 : tie.Need-returns-2
 returns-2 c = search other-rows
 
-shared-slice-read-if3 : tie.Need-shared-slice-read-if3
-shared-slice-read-if3 c = search needs
-
 returns-3 : tie.Need-returns-3
 returns-3 c = search starts-late
-
-climbs-requires : tie.Need-climbs-requires
-climbs-requires c κs = search needs
 
 returns-4 : tie.Need-returns-4
 returns-4 c = search then-climbs
@@ -25,4 +19,4 @@ returns-4 c = search then-climbs
 pub is-form-spec : {M : Type 1} → statement M
 is-form-spec =
     tie.close
-    (tie.spec returns returns-2 shared-slice-read-if3 returns-3 climbs-requires returns-4)
+    (tie.spec returns returns-2 (λ c. search needs) returns-3 (λ c κs. search needs) returns-4)

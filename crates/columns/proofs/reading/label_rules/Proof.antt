@@ -10,14 +10,8 @@ returns c = search bad-chains
 returns-2 : tie.Need-returns-2
 returns-2 c = search bad-seqs
 
-all-short-requires : tie.Need-all-short-requires
-all-short-requires c κs = search needs
-
 returns-3 : tie.Need-returns-3
 returns-3 c = search long-chain
-
-all-short-requires-2 : tie.Need-all-short-requires-2
-all-short-requires-2 c κs = search needs
 
 returns-4 : tie.Need-returns-4
 returns-4 c = search long-seq
@@ -31,8 +25,8 @@ label-rules-spec =
     (tie.spec
     returns
     returns-2
-    all-short-requires
+    (λ c κs. search needs)
     returns-3
-    all-short-requires-2
+    (λ c κs. search needs)
     returns-4
     returns-5)

@@ -4,9 +4,6 @@ use Rattle.columns.proofs.Turns.{bad-form, no-edges, bad-count, deltas-
 use Rattle.columns.proofs.reading.set_rules.Statement.{statement}
 use Rattle.columns.proofs.reading.set_rules.Tie as tie
 
-is-form-requires : tie.Need-is-form-requires
-is-form-requires c κs = search needs
-
 returns : tie.Need-returns
 returns c = search bad-form
 
@@ -28,4 +25,4 @@ returns-5 c = search all-kept
 pub set-rules-spec : {M : Type 1} → statement M
 set-rules-spec =
     tie.close
-    (tie.spec is-form-requires returns returns-2 returns-3 are-sound-requires returns-4 returns-5)
+    (tie.spec (λ c κs. search needs) returns returns-2 returns-3 are-sound-requires returns-4 returns-5)

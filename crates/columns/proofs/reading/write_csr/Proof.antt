@@ -11,11 +11,8 @@ returns c = (search none-counted, search none-written)
 write-set-requires : tie.Need-write-set-requires
 write-set-requires c κs = search edged
 
-same-length : tie.Need-same-length
-same-length c = search needs
-
 returns-2 : tie.Need-returns-2
 returns-2 c = (search csr-counted, search csr-written)
 
 pub write-csr-spec : {M : Type 1} → statement M
-write-csr-spec = tie.close (tie.spec returns write-set-requires same-length returns-2)
+write-csr-spec = tie.close (tie.spec returns write-set-requires (λ c. search needs) returns-2)

@@ -11,29 +11,8 @@ Inv-loop event deltas from to out₀ at past₀ i₀ out past i = Writing event 
 abbrev μ-loop : tie.MeasureT-loop
 μ-loop event deltas from to out₀ at past₀ i₀ out past i = to - i
 
-loop-holds : tie.Need-loop-holds Inv-loop μ-loop
-loop-holds c = search needs
-
-mul-target : tie.Need-mul-target Inv-loop μ-loop
-mul-target c = search needs
-
-shared-slice-copy-out-target : tie.Need-shared-slice-copy-out-target Inv-loop μ-loop
-shared-slice-copy-out-target c = search needs
-
 target-requires : tie.Need-target-requires Inv-loop μ-loop
 target-requires c κs = search this-named
-
-put-requires : tie.Need-put-requires Inv-loop μ-loop
-put-requires c κs = search needs
-
-add-past : tie.Need-add-past Inv-loop μ-loop
-add-past c = search needs
-
-add-i : tie.Need-add-i Inv-loop μ-loop
-add-i c = search needs
-
-loop-less : tie.Need-loop-less Inv-loop μ-loop
-loop-less c = search needs
 
 loop-again : tie.Need-loop-again Inv-loop μ-loop
 loop-again c =
@@ -41,9 +20,6 @@ loop-again c =
     let told = after .before .before in
     let turn = told .before .before in
     target-put _ _ _ _ _ _ _ _ _ (turn .before .loop .inv) (turn .loop-test .taken) (turn .before .before .before .pre .0 .1 .0) (record { sfits = told .target-arg .given }) _ (after .before .target .ensures) _ (after .put .ensures)
-
-same-length : tie.Need-same-length Inv-loop μ-loop
-same-length c = search needs
 
 returns : tie.Need-returns Inv-loop μ-loop
 returns c = (search needs, search targets-done)
@@ -54,14 +30,14 @@ write-targets-spec =
     (tie.spec
     Inv-loop
     μ-loop
-    loop-holds
-    mul-target
-    shared-slice-copy-out-target
+    (λ c. search needs)
+    (λ c. search needs)
+    (λ c. search needs)
     target-requires
-    put-requires
-    add-past
-    add-i
-    loop-less
+    (λ c κs. search needs)
+    (λ c. search needs)
+    (λ c. search needs)
+    (λ c. search needs)
     loop-again
-    same-length
+    (λ c. search needs)
     returns)

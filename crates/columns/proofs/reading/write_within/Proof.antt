@@ -11,38 +11,11 @@ Inv-loop event deltas from to out₀ at past₀ i₀ out past i = Writing event 
 abbrev μ-loop : tie.MeasureT-loop
 μ-loop event deltas from to out₀ at past₀ i₀ out past i = to - i
 
-loop-holds : tie.Need-loop-holds Inv-loop μ-loop
-loop-holds c = search needs
-
-mul-target : tie.Need-mul-target Inv-loop μ-loop
-mul-target c = search needs
-
-shared-slice-copy-out-target : tie.Need-shared-slice-copy-out-target Inv-loop μ-loop
-shared-slice-copy-out-target c = search needs
-
 target-requires : tie.Need-target-requires Inv-loop μ-loop
 target-requires c κs = search this-named
 
-mul-out : tie.Need-mul-out Inv-loop μ-loop
-mul-out c = search needs
-
-slice-write-out : tie.Need-slice-write-out Inv-loop μ-loop
-slice-write-out c = search needs
-
-add-past : tie.Need-add-past Inv-loop μ-loop
-add-past c = search needs
-
-add-i : tie.Need-add-i Inv-loop μ-loop
-add-i c = search needs
-
-loop-less : tie.Need-loop-less Inv-loop μ-loop
-loop-less c = search needs
-
 loop-again : tie.Need-loop-again Inv-loop μ-loop
 loop-again c = search (needs, target-put)
-
-same-length : tie.Need-same-length Inv-loop μ-loop
-same-length c = search needs
 
 returns : tie.Need-returns Inv-loop μ-loop
 returns c = (search needs, search targets-done)
@@ -53,15 +26,15 @@ write-within-spec =
     (tie.spec
     Inv-loop
     μ-loop
-    loop-holds
-    mul-target
-    shared-slice-copy-out-target
+    (λ c. search needs)
+    (λ c. search needs)
+    (λ c. search needs)
     target-requires
-    mul-out
-    slice-write-out
-    add-past
-    add-i
-    loop-less
+    (λ c. search needs)
+    (λ c. search needs)
+    (λ c. search needs)
+    (λ c. search needs)
+    (λ c. search needs)
     loop-again
-    same-length
+    (λ c. search needs)
     returns)

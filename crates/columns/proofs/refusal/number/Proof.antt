@@ -1,8 +1,6 @@
 use borrow.Author.Needs.{needs}
 use Rattle.columns.proofs.refusal.number.Statement.{statement}
 use Rattle.columns.proofs.refusal.number.Tie as tie
-use Rattle.columns.proofs.refusal.number.Reads as reads
-use Rattle.columns.proofs.refusal.number.Lts as lts
 
 -- src/refusal.rt:44:35
 enum-told : tie.Need-enum-told

@@ -8,9 +8,6 @@ use Rattle.columns_build.proofs.RootRows.{every-done, one-outside, ever
 use borrow.Author.Needs.{needs}
 use Rattle.columns_build.proofs.roots.all_in_file.Statement.{statement}
 use Rattle.columns_build.proofs.roots.all_in_file.Tie as tie
-use Rattle.columns_build.proofs.roots.all_in_file.Reads as reads
-use Rattle.columns_build.proofs.roots.all_in_file.Lts as lts
-use Rattle.columns_rules.proofs.records.parts.is_in_file.Reads as is-in-file-reads
 
 abbrev Inv-loop : tie.InvT-loop
 Inv-loop first rows events i₀ i =
@@ -19,26 +16,8 @@ Inv-loop first rows events i₀ i =
 abbrev μ-loop : tie.MeasureT-loop
 μ-loop first rows events i₀ i = length events - i
 
-loop-holds : tie.Need-loop-holds Inv-loop μ-loop
-loop-holds c = search needs
-
-mul-is-in-file : tie.Need-mul-is-in-file Inv-loop μ-loop
-mul-is-in-file c = search needs
-
-shared-slice-read-is-in-file : tie.Need-shared-slice-read-is-in-file Inv-loop μ-loop
-shared-slice-read-is-in-file c = search needs
-
-is-in-file-requires : tie.Need-is-in-file-requires Inv-loop μ-loop
-is-in-file-requires c κs = search needs
-
 returns : tie.Need-returns Inv-loop μ-loop
 returns c = search (needs, one-outside)
-
-add-i : tie.Need-add-i Inv-loop μ-loop
-add-i c = search needs
-
-loop-less : tie.Need-loop-less Inv-loop μ-loop
-loop-less c = search needs
 
 loop-again : tie.Need-loop-again Inv-loop μ-loop
 loop-again c = search (needs, every-on)
@@ -52,12 +31,12 @@ all-in-file-spec =
     (tie.spec
     Inv-loop
     μ-loop
-    loop-holds
-    mul-is-in-file
-    shared-slice-read-is-in-file
-    is-in-file-requires
+    (λ c. search needs)
+    (λ c. search needs)
+    (λ c. search needs)
+    (λ c κs. search needs)
     returns
-    add-i
-    loop-less
+    (λ c. search needs)
+    (λ c. search needs)
     loop-again
     returns-2)

@@ -5,10 +5,6 @@ use Rattle.columns_build.proofs.RootRows.{answer-refused, out-refused, 
 use borrow.Author.Needs.{needs}
 use Rattle.columns_build.proofs.roots.state_root_entries.Statement.{statement}
 use Rattle.columns_build.proofs.roots.state_root_entries.Tie as tie
-use Rattle.columns_build.proofs.roots.state_root_entries.Reads as reads
-use Rattle.columns_build.proofs.roots.state_root_entries.Lts as lts
-use Rattle.columns_build.proofs.roots.all_in_file.Reads as all-in-file-reads
-use Rattle.columns_build.proofs.roots.write_rows.Reads as write-rows-reads
 
 returns : tie.Need-returns
 returns c = (search (answer-refused OverRecords, many-rows), sym (search (out-refused OverRecords, many-rows)))
@@ -19,17 +15,11 @@ returns-2 c = (search (answer-refused OverRecords, many-events), sym (search (ou
 returns-3 : tie.Need-returns-3
 returns-3 c = (search (answer-refused SliceShort, short-out), sym (search (out-refused SliceShort, short-out)))
 
-all-in-file-requires : tie.Need-all-in-file-requires
-all-in-file-requires c κs = search needs
-
 returns-4 : tie.Need-returns-4
 returns-4 c = (search (answer-refused RootOutside, root-outside), sym (search (out-refused RootOutside, root-outside)))
 
 write-rows-requires : tie.Need-write-rows-requires
 write-rows-requires c κs = (search needs, search roots-inside)
-
-same-length : tie.Need-same-length
-same-length c = search needs
 
 returns-5 : tie.Need-returns-5
 returns-5 c = (search roots-answer, search roots-out)
@@ -41,8 +31,8 @@ state-root-entries-spec =
     returns
     returns-2
     returns-3
-    all-in-file-requires
+    (λ c κs. search needs)
     returns-4
     write-rows-requires
-    same-length
+    (λ c. search needs)
     returns-5)

@@ -11,8 +11,6 @@ use Rattle.columns_build.proofs.RootRows.{this-from-first, rest-inside,
 use borrow.Author.Needs.{needs}
 use Rattle.columns_build.proofs.roots.write_rows.Statement.{statement}
 use Rattle.columns_build.proofs.roots.write_rows.Tie as tie
-use Rattle.columns_build.proofs.roots.write_rows.Reads as reads
-use Rattle.columns_build.proofs.roots.write_rows.Lts as lts
 
 abbrev Inv-loop : tie.InvT-loop
 Inv-loop first rows events out₀ i₀ out i =
@@ -22,35 +20,11 @@ Inv-loop first rows events out₀ i₀ out i =
 abbrev μ-loop : tie.MeasureT-loop
 μ-loop first rows events out₀ i₀ out i = length events - i
 
-loop-holds : tie.Need-loop-holds Inv-loop μ-loop
-loop-holds c = search needs
-
-mul-out : tie.Need-mul-out Inv-loop μ-loop
-mul-out c = search needs
-
-shared-slice-read-out : tie.Need-shared-slice-read-out Inv-loop μ-loop
-shared-slice-read-out c = search needs
-
 sub-out : tie.Need-sub-out Inv-loop μ-loop
 sub-out c = search (needs, this-from-first)
 
-mul-out-2 : tie.Need-mul-out-2 Inv-loop μ-loop
-mul-out-2 c = search needs
-
-slice-write-out : tie.Need-slice-write-out Inv-loop μ-loop
-slice-write-out c = search needs
-
-add-i : tie.Need-add-i Inv-loop μ-loop
-add-i c = search needs
-
-loop-less : tie.Need-loop-less Inv-loop μ-loop
-loop-less c = search needs
-
 loop-again : tie.Need-loop-again Inv-loop μ-loop
 loop-again c = search (needs, rest-inside, row-more)
-
-same-length : tie.Need-same-length Inv-loop μ-loop
-same-length c = search needs
 
 returns : tie.Need-returns Inv-loop μ-loop
 returns c = search (needs, rows-done)
@@ -61,14 +35,14 @@ write-rows-spec =
     (tie.spec
     Inv-loop
     μ-loop
-    loop-holds
-    mul-out
-    shared-slice-read-out
+    (λ c. search needs)
+    (λ c. search needs)
+    (λ c. search needs)
     sub-out
-    mul-out-2
-    slice-write-out
-    add-i
-    loop-less
+    (λ c. search needs)
+    (λ c. search needs)
+    (λ c. search needs)
+    (λ c. search needs)
     loop-again
-    same-length
+    (λ c. search needs)
     returns)

@@ -4,17 +4,11 @@ use borrow.Author.Needs.{needs}
 use Rattle.columns_encode.proofs.early.are_columns_over.Statement.{statement}
 use Rattle.columns_encode.proofs.early.are_columns_over.Tie as tie
 
-is-any-over-requires : tie.Need-is-any-over-requires
-is-any-over-requires c κs = search needs
-
 returns : tie.Need-returns
 returns c = search four-over
 
 returns-2 : tie.Need-returns-2
 returns-2 c = search fifth-over
-
-is-over-requires : tie.Need-is-over-requires
-is-over-requires c κs = search needs
 
 returns-3 : tie.Need-returns-3
 returns-3 c = search labels-over
@@ -25,4 +19,4 @@ returns-4 c = search none-over
 pub are-columns-over-spec : {M : Type 1} → statement M
 are-columns-over-spec =
     tie.close
-    (tie.spec is-any-over-requires returns returns-2 is-over-requires returns-3 returns-4)
+    (tie.spec (λ c κs. search needs) returns returns-2 (λ c κs. search needs) returns-3 returns-4)

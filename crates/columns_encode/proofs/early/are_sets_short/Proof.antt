@@ -4,20 +4,11 @@ use borrow.Author.Needs.{needs}
 use Rattle.columns_encode.proofs.early.are_sets_short.Statement.{statement}
 use Rattle.columns_encode.proofs.early.are_sets_short.Tie as tie
 
-is-set-short-requires : tie.Need-is-set-short-requires
-is-set-short-requires c κs = search needs
-
 returns : tie.Need-returns
 returns c = search forward-short
 
-is-set-short-requires-2 : tie.Need-is-set-short-requires-2
-is-set-short-requires-2 c κs = search needs
-
 returns-2 : tie.Need-returns-2
 returns-2 c = search reverse-short
-
-is-set-short-requires-3 : tie.Need-is-set-short-requires-3
-is-set-short-requires-3 c κs = search needs
 
 returns-3 : tie.Need-returns-3
 returns-3 c = search inbound-short
@@ -26,9 +17,9 @@ pub are-sets-short-spec : {M : Type 1} → statement M
 are-sets-short-spec =
     tie.close
     (tie.spec
-    is-set-short-requires
+    (λ c κs. search needs)
     returns
-    is-set-short-requires-2
+    (λ c κs. search needs)
     returns-2
-    is-set-short-requires-3
+    (λ c κs. search needs)
     returns-3)

@@ -8,27 +8,12 @@ use Rattle.columns_encode.proofs.kept.encode_kept.Tie as tie
 late-rules-requires : tie.Need-late-rules-requires
 late-rules-requires c κs = (search needs, (search needs, (search needs, search needs)))
 
-enum-known-r : tie.Need-enum-known-r
-enum-known-r c = search needs
-
-enum-told : tie.Need-enum-told
-enum-told c = search needs
-
-mul-index : tie.Need-mul-index
-mul-index c = search needs
-
-mul-index-2 : tie.Need-mul-index-2
-mul-index-2 c = search needs
-
 slice-read-index : tie.Need-slice-read-index
 slice-read-index c =
     let late = c .before .before .before .before .before .before .before .before .before .late-rules .ensures in
     let kept = c .before .enum-told .given .1 in
     let long = late .1 kept .long in
     search needs
-
-index-requires : tie.Need-index-requires
-index-requires c κs = search needs
 
 write-sets-requires : tie.Need-write-sets-requires
 write-sets-requires c κs =
@@ -41,44 +26,8 @@ write-sets-requires c κs =
       ((omega (arith, work .0, c .before .before .before .before .before .before .before .before .before .before .before .before .before .before .before .before .before .offs .given), omega (arith, work .1 .0, c .before .before .before .before .before .before .before .before .before .before .before .before .before .before .before .list .given)), s .pre .1 .0),
     )
 
-same-length : tie.Need-same-length
-same-length c = search needs
-
-same-length-2 : tie.Need-same-length-2
-same-length-2 c = search needs
-
-same-length-3 : tie.Need-same-length-3
-same-length-3 c = search needs
-
 returns : tie.Need-returns
 returns c = (search late-refused, (search offsets-as-were, (search deltas-as-were, (search offsets-as-were, (search deltas-as-were, (search offsets-as-were, search deltas-as-were))))))
-
-same-length-4 : tie.Need-same-length-4
-same-length-4 c = search needs
-
-same-length-5 : tie.Need-same-length-5
-same-length-5 c = search needs
-
-same-length-6 : tie.Need-same-length-6
-same-length-6 c = search needs
-
-same-length-7 : tie.Need-same-length-7
-same-length-7 c = search needs
-
-same-length-8 : tie.Need-same-length-8
-same-length-8 c = search needs
-
-same-length-9 : tie.Need-same-length-9
-same-length-9 c = search needs
-
-same-length-10 : tie.Need-same-length-10
-same-length-10 c = search needs
-
-same-length-11 : tie.Need-same-length-11
-same-length-11 c = search needs
-
-same-length-12 : tie.Need-same-length-12
-same-length-12 c = search needs
 
 returns-2 : tie.Need-returns-2
 returns-2 c =
@@ -101,24 +50,24 @@ encode-kept-spec =
     tie.close
     (tie.spec
     late-rules-requires
-    enum-known-r
-    enum-told
-    mul-index
-    mul-index-2
+    (λ c. search needs)
+    (λ c. search needs)
+    (λ c. search needs)
+    (λ c. search needs)
     slice-read-index
-    index-requires
+    (λ c κs. search needs)
     write-sets-requires
-    same-length
-    same-length-2
-    same-length-3
+    (λ c. search needs)
+    (λ c. search needs)
+    (λ c. search needs)
     returns
-    same-length-4
-    same-length-5
-    same-length-6
-    same-length-7
-    same-length-8
-    same-length-9
-    same-length-10
-    same-length-11
-    same-length-12
+    (λ c. search needs)
+    (λ c. search needs)
+    (λ c. search needs)
+    (λ c. search needs)
+    (λ c. search needs)
+    (λ c. search needs)
+    (λ c. search needs)
+    (λ c. search needs)
+    (λ c. search needs)
     returns-2)

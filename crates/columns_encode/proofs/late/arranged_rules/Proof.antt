@@ -12,15 +12,6 @@ table-rules-requires c κs =
     let t = c .before .before .before .before .before .before .before .before .arrange .ensures in
     ((search needs, search needs), ((arrived-long _ _ _ _ _ _ (t .0) _ _ (t .1 .0) _ _ (t .1 .1 .0), arrived-many _ _ _ _ _ _ (t .0) _ _ (t .1 .0) _ _ (t .1 .1 .0)), (search needs, (lent-form _ _ _ _ _ _ (t .0) _ _ (t .1 .0) _ _ (t .1 .1 .0), lent-level _ _ _ _ _ _ (t .0) _ _ (t .1 .0) _ _ (t .1 .1 .0)))))
 
-same-length : tie.Need-same-length
-same-length c = search needs
-
-same-length-2 : tie.Need-same-length-2
-same-length-2 c = search needs
-
-same-length-3 : tie.Need-same-length-3
-same-length-3 c = search needs
-
 returns : tie.Need-returns
 returns c = (search arranged-says, search arranged)
 
@@ -30,7 +21,7 @@ arranged-rules-spec =
     (tie.spec
     arrange-requires
     table-rules-requires
-    same-length
-    same-length-2
-    same-length-3
+    (λ c. search needs)
+    (λ c. search needs)
+    (λ c. search needs)
     returns)

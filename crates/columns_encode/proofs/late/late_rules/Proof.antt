@@ -4,15 +4,6 @@ use borrow.Author.Needs.{needs}
 use Rattle.columns_encode.proofs.late.late_rules.Statement.{statement}
 use Rattle.columns_encode.proofs.late.late_rules.Tie as tie
 
-inbound-rules-requires : tie.Need-inbound-rules-requires
-inbound-rules-requires c κs = search needs
-
-enum-known-r : tie.Need-enum-known-r
-enum-known-r c = search needs
-
-enum-told : tie.Need-enum-told
-enum-told c = search needs
-
 arranged-rules-requires : tie.Need-arranged-rules-requires
 arranged-rules-requires c κs =
     let rules = c .before .before .before .before .before .inbound-rules .ensures in
@@ -22,15 +13,6 @@ arranged-rules-requires c κs =
 returns : tie.Need-returns
 returns c = (search late-stops, λ z. never-kept z)
 
-same-length : tie.Need-same-length
-same-length c = search needs
-
-same-length-2 : tie.Need-same-length-2
-same-length-2 c = search needs
-
-same-length-3 : tie.Need-same-length-3
-same-length-3 c = search needs
-
 returns-2 : tie.Need-returns-2
 returns-2 c = (search late-then, λ z. search needs)
 
@@ -38,12 +20,12 @@ pub late-rules-spec : {M : Type 1} → statement M
 late-rules-spec =
     tie.close
     (tie.spec
-    inbound-rules-requires
-    enum-known-r
-    enum-told
+    (λ c κs. search needs)
+    (λ c. search needs)
+    (λ c. search needs)
     arranged-rules-requires
     returns
-    same-length
-    same-length-2
-    same-length-3
+    (λ c. search needs)
+    (λ c. search needs)
+    (λ c. search needs)
     returns-2)

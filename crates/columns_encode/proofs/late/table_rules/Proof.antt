@@ -5,12 +5,6 @@ use borrow.Author.Needs.{needs}
 use Rattle.columns_encode.proofs.late.table_rules.Statement.{statement}
 use Rattle.columns_encode.proofs.late.table_rules.Tie as tie
 
-mul-k : tie.Need-mul-k
-mul-k c = search needs
-
-add-k : tie.Need-add-k
-add-k c = search needs
-
 slice-aggregate-no-repeats : tie.Need-slice-aggregate-no-repeats
 slice-aggregate-no-repeats c = search (needs, prefix-count)
 
@@ -39,8 +33,8 @@ pub table-rules-spec : {M : Type 1} → statement M
 table-rules-spec =
     tie.close
     (tie.spec
-    mul-k
-    add-k
+    (λ c. search needs)
+    (λ c. search needs)
     slice-aggregate-no-repeats
     slice-aggregate-no-repeats-2
     no-repeats-requires

@@ -17,30 +17,6 @@ write-turned-requires c κs =
     let rooms = s .pre .1 .1 in
     (ready .reverse, ((starts-room _ _ _ _ _ _ _ _ _ ready _ (rooms .reverse-offsets), rooms .reverse-deltas), s .pre .1 .0))
 
-same-length : tie.Need-same-length
-same-length c = search needs
-
-same-length-2 : tie.Need-same-length-2
-same-length-2 c = search needs
-
-same-length-3 : tie.Need-same-length-3
-same-length-3 c = search needs
-
-same-length-4 : tie.Need-same-length-4
-same-length-4 c = search needs
-
-same-length-5 : tie.Need-same-length-5
-same-length-5 c = search needs
-
-same-length-6 : tie.Need-same-length-6
-same-length-6 c = search needs
-
-same-length-7 : tie.Need-same-length-7
-same-length-7 c = search needs
-
-same-length-8 : tie.Need-same-length-8
-same-length-8 c = search needs
-
 returns : tie.Need-returns
 returns c = (search three-counted, (search needs, (search needs, (search needs, (search needs, (search needs, search needs))))))
 
@@ -51,12 +27,12 @@ write-sets-spec =
     write-set-requires
     write-table-requires
     write-turned-requires
-    same-length
-    same-length-2
-    same-length-3
-    same-length-4
-    same-length-5
-    same-length-6
-    same-length-7
-    same-length-8
+    (λ c. search needs)
+    (λ c. search needs)
+    (λ c. search needs)
+    (λ c. search needs)
+    (λ c. search needs)
+    (λ c. search needs)
+    (λ c. search needs)
+    (λ c. search needs)
     returns)

@@ -10,21 +10,6 @@ collect-requires c κs = (search needs, (search needs, search in-buf))
 gather-requires : tie.Need-gather-requires
 gather-requires c κs = ((search keys-more, search keys-upto), (search keys-room, search keys-work))
 
-same-length : tie.Need-same-length
-same-length c = search needs
-
-same-length-2 : tie.Need-same-length-2
-same-length-2 c = search needs
-
-same-length-3 : tie.Need-same-length-3
-same-length-3 c = search needs
-
-same-length-4 : tie.Need-same-length-4
-same-length-4 c = search needs
-
-same-length-5 : tie.Need-same-length-5
-same-length-5 c = search needs
-
 returns : tie.Need-returns
 returns c = let q = c .before .before .before .before .before .before .before .before .before .before .before .before .before .before .before .before .before .before .before .before .before .before .before .before .before .before .pre .1 .1 .1 in let t = c .before .before .before .before .before .before .before .before .before .before .before .before .before .before .before .before .before .before .before .before .before .before .before .before .before .before .pre .1 .1 .0 in let k = c .before .before .before .before .before .before .before .before .before .before .before .before .before .before .collect .ensures .1 in let x = c .before .before .before .before .gather .ensures .1 in ((end-below _ _ _ _ _ _ _ k (c .before .before .before .before .before .before .before .before .before .before .before .before .before .before .before .before .before .before .before .before .before .before .before .before .before .before .pre .0 .1 .0) (c .before .before .before .before .gather .ensures .0 .0), c .before .before .before .before .gather .ensures .0 .1), (level-laid _ _ _ (c .before .before .before .before .before .before .before .before .before .before .before .before .before .before .before .before .before .before .before .before .before .before .before .before .before .before .args .lo) _ _ _ _ _ _ _ _ _ _ q k t _ _ x, (c .before .before .before .before .before .before .before .before .before .before .before .before .before .before .collect .ensures .0, level-seen _ _ _ (c .before .before .before .before .before .before .before .before .before .before .before .before .before .before .before .before .before .before .before .before .before .before .before .before .before .before .args .lo) _ _ _ _ _ _ _ _ _ _ q k t _ _ x (c .before .before .before .before .gather .ensures .0 .1))))
 
@@ -34,9 +19,9 @@ advance-spec =
     (tie.spec
     collect-requires
     gather-requires
-    same-length
-    same-length-2
-    same-length-3
-    same-length-4
-    same-length-5
+    (λ c. search needs)
+    (λ c. search needs)
+    (λ c. search needs)
+    (λ c. search needs)
+    (λ c. search needs)
     returns)

@@ -17,35 +17,8 @@ Inv-loop list lo hi keys₀ links₀ heads₀ n first kind offsets targets m₀ 
 abbrev μ-loop : tie.MeasureT-loop
 μ-loop list lo hi keys₀ links₀ heads₀ n first kind offsets targets m₀ i₀ keys links heads m i = hi - i
 
-loop-holds : tie.Need-loop-holds Inv-loop μ-loop
-loop-holds c = search needs
-
-mul-expand : tie.Need-mul-expand Inv-loop μ-loop
-mul-expand c = search needs
-
-shared-slice-read-expand : tie.Need-shared-slice-read-expand Inv-loop μ-loop
-shared-slice-read-expand c = search needs
-
-expand-requires : tie.Need-expand-requires Inv-loop μ-loop
-expand-requires c κs = search needs
-
-add-i : tie.Need-add-i Inv-loop μ-loop
-add-i c = search needs
-
-loop-less : tie.Need-loop-less Inv-loop μ-loop
-loop-less c = search needs
-
 loop-again : tie.Need-loop-again Inv-loop μ-loop
 loop-again c = (search needs, search needs, search needs, search needs, search collect-one)
-
-same-length : tie.Need-same-length Inv-loop μ-loop
-same-length c = search needs
-
-same-length-2 : tie.Need-same-length-2 Inv-loop μ-loop
-same-length-2 c = search needs
-
-same-length-3 : tie.Need-same-length-3 Inv-loop μ-loop
-same-length-3 c = search needs
 
 returns : tie.Need-returns Inv-loop μ-loop
 returns c = (search needs, search collect-done)
@@ -56,14 +29,14 @@ collect-spec =
     (tie.spec
     Inv-loop
     μ-loop
-    loop-holds
-    mul-expand
-    shared-slice-read-expand
-    expand-requires
-    add-i
-    loop-less
+    (λ c. search needs)
+    (λ c. search needs)
+    (λ c. search needs)
+    (λ c κs. search needs)
+    (λ c. search needs)
+    (λ c. search needs)
     loop-again
-    same-length
-    same-length-2
-    same-length-3
+    (λ c. search needs)
+    (λ c. search needs)
+    (λ c. search needs)
     returns)

@@ -25,32 +25,11 @@ loop-holds c = (search needs, search needs, search needs, search needs, search n
 advance-requires : tie.Need-advance-requires Inv-loop μ-loop
 advance-requires c κs = ((search needs, (c .before .before .before .before .before .before .loop .inv .3, c .before .before .before .before .before .before .before .before .before .before .before .before .before .before .before .pre .0 .0)), ((search needs, search needs), (c .before .before .before .before .before .before .loop .inv .11, c .before .before .before .before .before .before .loop .inv .12)))
 
-same-length : tie.Need-same-length Inv-loop μ-loop
-same-length c = search needs
-
-same-length-2 : tie.Need-same-length-2 Inv-loop μ-loop
-same-length-2 c = search needs
-
-same-length-3 : tie.Need-same-length-3 Inv-loop μ-loop
-same-length-3 c = search needs
-
-same-length-4 : tie.Need-same-length-4 Inv-loop μ-loop
-same-length-4 c = search needs
-
-same-length-5 : tie.Need-same-length-5 Inv-loop μ-loop
-same-length-5 c = search needs
-
-same-length-6 : tie.Need-same-length-6 Inv-loop μ-loop
-same-length-6 c = search needs
-
 returns : tie.Need-returns Inv-loop μ-loop
 returns c = run-stop _ _ _ _ (c .before .before .before .before .before .before .before .before .before .before .before .before .before .before .before .before .before .before .loop .lo) _ _ _ _ _ _ (c .before .before .before .before .before .before .before .before .before .before .before .before .before .before .before .before .before .before .loop .inv .14) (c .before .before .before .before .before .before .before .before .before .before .before .advance .ensures .1 .0) (c .if1 .taken) (c .before .before .before .before .before .before .before .before .before .before .before .before .before .before .before .before .before .before .loop .inv .2) _ _ _ _ _ _ _ (c .before .before .before .before .before .before .before .before .before .before .before .before .before .before .before .before .before .before .loop .inv .11) (c .before .before .before .before .before .before .before .before .before .before .before .before .before .before .before .before .before .before .loop .inv .3) (c .before .before .before .before .before .before .before .before .before .before .before .before .before .before .before .before .before .before .loop .inv .7) (c .before .before .before .before .before .before .before .before .before .before .before .before .before .before .before .before .before .before .loop .inv .6) (c .before .before .before .before .before .before .before .before .before .before .before .before .before .before .before .before .before .before .before .before .before .before .before .before .before .before .before .pre .1 .0 .1 .1) (c .before .before .before .before .before .before .before .before .before .before .before .before .before .before .before .before .before .before .loop .inv .13)
 
 sub-wide : tie.Need-sub-wide Inv-loop μ-loop
 sub-wide c = search (needs, end-from)
-
-wide-requires : tie.Need-wide-requires Inv-loop μ-loop
-wide-requires c κs = search needs
 
 mul-ends : tie.Need-mul-ends Inv-loop μ-loop
 mul-ends c = let u = ends-room (c .before .before .before .before .before .before .before .before .before .before .before .before .before .before .before .before .before .before .before .loop .k) _ _ _ _ _ (c .before .before .before .before .before .before .before .before .before .before .before .before .before .before .before .before .before .before .before .loop .ends) _ _ _ _ _ _ (c .before .before .before .before .before .before .before .before .before .before .before .before .advance .ensures .1 .0) (c .before .if1 .left) (c .before .before .before .before .before .before .before .before .before .before .before .before .before .before .before .before .before .before .before .loop .inv .2) (c .before .before .before .before .before .before .before .before .before .before .before .before .advance .ensures .1 .1 .0) (c .before .before .before .before .before .before .before .before .before .before .before .before .advance .ensures .0 .0) (search needs) (c .before .before .before .before .before .before .before .before .before .before .before .before .before .before .before .before .before .before .before .loop .inv .6) (c .before .before .before .before .before .before .before .before .before .before .before .before .before .before .before .before .before .before .before .before .before .before .before .before .before .before .before .before .pre .1 .0 .1 .1) in let g = c .before .before .before .before .before .before .before .before .before .before .before .before .before .before .before .before .before .before .before .before .before .before .before .before .before .before .before .before .good .1 .0 in let e = c .before .before .before .before .before .before .before .before .before .before .before .before .before .before .before .before .before .before .before .loop .inv .6 in search needs
@@ -58,38 +37,14 @@ mul-ends c = let u = ends-room (c .before .before .before .before .before .befor
 slice-write-ends : tie.Need-slice-write-ends Inv-loop μ-loop
 slice-write-ends c = let u = ends-room (c .before .before .before .before .before .before .before .before .before .before .before .before .before .before .before .before .before .before .before .loop .k) _ _ _ _ _ (c .before .before .before .before .before .before .before .before .before .before .before .before .before .before .before .before .before .before .before .loop .ends) _ _ _ _ _ _ (c .before .before .before .before .before .before .before .before .before .before .before .before .advance .ensures .1 .0) (c .before .if1 .left) (c .before .before .before .before .before .before .before .before .before .before .before .before .before .before .before .before .before .before .before .loop .inv .2) (c .before .before .before .before .before .before .before .before .before .before .before .before .advance .ensures .1 .1 .0) (c .before .before .before .before .before .before .before .before .before .before .before .before .advance .ensures .0 .0) (search needs) (c .before .before .before .before .before .before .before .before .before .before .before .before .before .before .before .before .before .before .before .loop .inv .6) (c .before .before .before .before .before .before .before .before .before .before .before .before .before .before .before .before .before .before .before .before .before .before .before .before .before .before .before .before .pre .1 .0 .1 .1) in search needs
 
-add-k : tie.Need-add-k Inv-loop μ-loop
-add-k c = search needs
-
 sub-left : tie.Need-sub-left Inv-loop μ-loop
 sub-left c = laid-more _ _ _ _ _ (c .before .before .before .before .before .before .before .before .before .before .before .before .advance .ensures .1 .0)
 
 sub-left-2 : tie.Need-sub-left-2 Inv-loop μ-loop
 sub-left-2 c = laid-left _ _ _ _ _ _ (c .before .before .before .before .before .before .before .before .before .before .before .before .advance .ensures .1 .0) (c .before .before .before .before .before .before .before .before .before .before .before .before .advance .ensures .0 .1)
 
-loop-less : tie.Need-loop-less Inv-loop μ-loop
-loop-less c = search needs
-
 loop-again : tie.Need-loop-again Inv-loop μ-loop
 loop-again c = (end-above _ _ _ _ _ (c .before .before .before .before .before .before .before .before .before .before .before .before .advance .ensures .1 .0) (c .before .if1 .left), end-from _ _ _ _ _ _ (c .before .before .before .before .before .before .before .before .before .before .before .before .advance .ensures .1 .0) (c .before .before .before .before .before .before .before .before .before .before .before .before .before .before .before .before .before .before .before .loop .inv .2), end-more _ _ _ _ _ _ (c .before .before .before .before .before .before .before .before .before .before .before .before .advance .ensures .1 .0) (c .before .if1 .left) (c .before .before .before .before .before .before .before .before .before .before .before .before .before .before .before .before .before .before .before .loop .inv .2), c .before .before .before .before .before .before .before .before .before .before .before .before .advance .ensures .0 .0, end-left _ _ _ _ _ _ _ (c .before .before .before .before .before .before .before .before .before .before .before .before .advance .ensures .1 .0) (c .before .before .before .before .before .before .before .before .before .before .before .before .advance .ensures .0 .1) (c .before .before .before .before .before .before .before .before .before .before .before .before .before .before .before .before .before .before .before .loop .inv .4), search needs, search needs, search needs, search needs, search needs, search needs, c .before .before .before .before .before .before .before .before .before .before .before .before .advance .ensures .1 .1 .0, c .before .before .before .before .before .before .before .before .before .before .before .before .advance .ensures .1 .1 .1, ends-past (c .before .before .before .before .before .before .before .before .before .before .before .before .before .before .before .before .before .before .before .loop .k) (c .wide .result) (c .before .before .before .before .before .before .before .before .before .before .before .before .before .before .before .before .before .before .before .loop .ends) (c .before .before .before .before .before .before .before .before .before .before .before .before .before .before .before .before .before .before .before .before .before .before .before .before .before .before .before .before .args .ends .now) (c .before .before .before .before .before .before .before .before .before .before .before .before .before .before .before .before .before .before .before .loop .inv .13), run-turn _ _ _ _ (c .before .before .before .before .before .before .before .before .before .before .before .before .before .before .before .before .before .before .before .loop .lo) _ _ _ _ _ _ (c .before .before .before .before .before .before .before .before .before .before .before .before .before .before .before .before .before .before .before .loop .inv .14) (c .before .before .before .before .before .before .before .before .before .before .before .before .advance .ensures .1 .0) (c .before .if1 .left) (c .before .before .before .before .before .before .before .before .before .before .before .before .advance .ensures .0 .1) (c .before .before .before .before .before .before .before .before .before .before .before .before .before .before .before .before .before .before .before .loop .inv .4) (c .before .before .before .before .before .before .before .before .before .before .before .before .before .before .before .before .before .before .before .loop .inv .2) _ (c .wide .ensures) _ _ _ _ _ _ (c .before .before .before .before .before .before .before .before .before .before .before .before .advance .ensures .1 .1 .0) (c .before .before .before .before .before .before .before .before .before .before .before .before .advance .ensures .0 .0) (search needs) (c .before .before .before .before .before .before .before .before .before .before .before .before .before .before .before .before .before .before .before .loop .inv .6) (c .before .before .before .before .before .before .before .before .before .before .before .before .before .before .before .before .before .before .before .before .before .before .before .before .before .before .before .before .pre .1 .0 .1 .1))
-
-same-length-7 : tie.Need-same-length-7 Inv-loop μ-loop
-same-length-7 c = search needs
-
-same-length-8 : tie.Need-same-length-8 Inv-loop μ-loop
-same-length-8 c = search needs
-
-same-length-9 : tie.Need-same-length-9 Inv-loop μ-loop
-same-length-9 c = search needs
-
-same-length-10 : tie.Need-same-length-10 Inv-loop μ-loop
-same-length-10 c = search needs
-
-same-length-11 : tie.Need-same-length-11 Inv-loop μ-loop
-same-length-11 c = search needs
-
-same-length-12 : tie.Need-same-length-12 Inv-loop μ-loop
-same-length-12 c = search needs
 
 returns-2 : tie.Need-returns-2 Inv-loop μ-loop
 returns-2 c = absurd (omega arith)
@@ -102,26 +57,26 @@ run-spec =
     μ-loop
     loop-holds
     advance-requires
-    same-length
-    same-length-2
-    same-length-3
-    same-length-4
-    same-length-5
-    same-length-6
+    (λ c. search needs)
+    (λ c. search needs)
+    (λ c. search needs)
+    (λ c. search needs)
+    (λ c. search needs)
+    (λ c. search needs)
     returns
     sub-wide
-    wide-requires
+    (λ c κs. search needs)
     mul-ends
     slice-write-ends
-    add-k
+    (λ c. search needs)
     sub-left
     sub-left-2
-    loop-less
+    (λ c. search needs)
     loop-again
-    same-length-7
-    same-length-8
-    same-length-9
-    same-length-10
-    same-length-11
-    same-length-12
+    (λ c. search needs)
+    (λ c. search needs)
+    (λ c. search needs)
+    (λ c. search needs)
+    (λ c. search needs)
+    (λ c. search needs)
     returns-2)

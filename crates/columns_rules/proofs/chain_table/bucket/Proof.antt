@@ -4,11 +4,8 @@ use borrow.Author.Needs.{needs}
 use Rattle.columns_rules.proofs.chain_table.bucket.Statement.{statement}
 use Rattle.columns_rules.proofs.chain_table.bucket.Tie as tie
 
-rem-result : tie.Need-rem-result
-rem-result c = search needs
-
 returns : tie.Need-returns
 returns c = search (needs, mod-lt)
 
 pub bucket-spec : {M : Type 1} → statement M
-bucket-spec = tie.close (tie.spec rem-result returns)
+bucket-spec = tie.close (tie.spec (λ c. search needs) returns)

@@ -24,32 +24,8 @@ loop-holds : tie.Need-loop-holds Inv-loop μ-loop
 unfolding earlierLabels
 loop-holds c = (search needs, search needs, no-rows _ 1024 1031 (search needs) (search needs), search needs)
 
-slice-aggregate-follows-linked : tie.Need-slice-aggregate-follows-linked Inv-loop μ-loop
-slice-aggregate-follows-linked c = search needs
-
-slice-aggregate-follows-linked-2 : tie.Need-slice-aggregate-follows-linked-2 Inv-loop μ-loop
-slice-aggregate-follows-linked-2 c = search needs
-
-follows-linked-requires : tie.Need-follows-linked-requires Inv-loop μ-loop
-follows-linked-requires c κs = search needs
-
 returns : tie.Need-returns Inv-loop μ-loop
 returns c = search (needs, seq-falls)
-
-slice-aggregate-put : tie.Need-slice-aggregate-put Inv-loop μ-loop
-slice-aggregate-put c = search needs
-
-slice-aggregate-put-2 : tie.Need-slice-aggregate-put-2 Inv-loop μ-loop
-slice-aggregate-put-2 c = search needs
-
-put-requires : tie.Need-put-requires Inv-loop μ-loop
-put-requires c κs = search needs
-
-add-n : tie.Need-add-n Inv-loop μ-loop
-add-n c = search needs
-
-loop-less : tie.Need-loop-less Inv-loop μ-loop
-loop-less c = search needs
 
 loop-again : tie.Need-loop-again Inv-loop μ-loop
 loop-again c =
@@ -66,14 +42,14 @@ seqs-rise-spec =
     Inv-loop
     μ-loop
     loop-holds
-    slice-aggregate-follows-linked
-    slice-aggregate-follows-linked-2
-    follows-linked-requires
+    (λ c. search needs)
+    (λ c. search needs)
+    (λ c κs. search needs)
     returns
-    slice-aggregate-put
-    slice-aggregate-put-2
-    put-requires
-    add-n
-    loop-less
+    (λ c. search needs)
+    (λ c. search needs)
+    (λ c κs. search needs)
+    (λ c. search needs)
+    (λ c. search needs)
     loop-again
     returns-2)

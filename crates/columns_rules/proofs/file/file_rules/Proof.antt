@@ -3,27 +3,12 @@ use Rattle.columns_rules.proofs.FileOrder.{subject-bad, entries-bad, nu
 use borrow.Author.Needs.{needs}
 use Rattle.columns_rules.proofs.file.file_rules.Statement.{statement}
 use Rattle.columns_rules.proofs.file.file_rules.Tie as tie
-use Rattle.columns_rules.proofs.file.file_rules.Reads as reads
-use Rattle.columns_rules.proofs.file.file_rules.Lts as lts
-use Rattle.columns_rules.proofs.file.numbers_fit.Reads as numbers-fit-reads
-use Rattle.columns_rules.proofs.file.subject_fits.Reads as subject-fits-reads
-use Rattle.columns_rules.proofs.slots.entries_form.Reads as entries-form-reads
-use Rattle.columns_rules.proofs.slots.slot_rules.Reads as slot-rules-reads
-
-subject-fits-requires : tie.Need-subject-fits-requires
-subject-fits-requires c κs = search needs
 
 returns : tie.Need-returns
 returns c = search subject-bad
 
-entries-form-requires : tie.Need-entries-form-requires
-entries-form-requires c κs = search needs
-
 returns-2 : tie.Need-returns-2
 returns-2 c = search entries-bad
-
-numbers-fit-requires : tie.Need-numbers-fit-requires
-numbers-fit-requires c κs = search needs
 
 returns-3 : tie.Need-returns-3
 returns-3 c = search numbers-bad
@@ -38,11 +23,11 @@ pub file-rules-spec : {M : Type 1} → statement M
 file-rules-spec =
     tie.close
     (tie.spec
-    subject-fits-requires
+    (λ c κs. search needs)
     returns
-    entries-form-requires
+    (λ c κs. search needs)
     returns-2
-    numbers-fit-requires
+    (λ c κs. search needs)
     returns-3
     slot-rules-requires
     returns-4)

@@ -2,8 +2,6 @@
 use Rattle.columns_rules.proofs.FileOrder.{no-subject, some-subject}
 use Rattle.columns_rules.proofs.file.subject_fits.Statement.{statement}
 use Rattle.columns_rules.proofs.file.subject_fits.Tie as tie
-use Rattle.columns_rules.proofs.file.subject_fits.Reads as reads
-use Rattle.columns_rules.proofs.file.subject_fits.Lts as lts
 
 returns : tie.Need-returns
 returns c = search no-subject

@@ -7,8 +7,6 @@ use Rattle.columns_rules.proofs.SlotTables.{climb-end, climb-falls, cli
 use borrow.Author.Needs.{needs}
 use Rattle.columns_rules.proofs.slots.climbs_to.Statement.{statement}
 use Rattle.columns_rules.proofs.slots.climbs_to.Tie as tie
-use Rattle.columns_rules.proofs.slots.climbs_to.Reads as reads
-use Rattle.columns_rules.proofs.slots.climbs_to.Lts as lts
 
 abbrev Inv-loop : tie.InvT-loop
 Inv-loop high offsets low₀ i₀ low i =
@@ -17,26 +15,8 @@ Inv-loop high offsets low₀ i₀ low i =
 abbrev μ-loop : tie.MeasureT-loop
 μ-loop high offsets low₀ i₀ low i = length offsets - i
 
-shared-slice-read-low : tie.Need-shared-slice-read-low Inv-loop μ-loop
-shared-slice-read-low c = search needs
-
-loop-holds : tie.Need-loop-holds Inv-loop μ-loop
-loop-holds c = search needs
-
-mul-x : tie.Need-mul-x Inv-loop μ-loop
-mul-x c = search needs
-
-shared-slice-read-x : tie.Need-shared-slice-read-x Inv-loop μ-loop
-shared-slice-read-x c = search needs
-
 returns : tie.Need-returns Inv-loop μ-loop
 returns c = search (needs, climb-falls)
-
-add-i : tie.Need-add-i Inv-loop μ-loop
-add-i c = search needs
-
-loop-less : tie.Need-loop-less Inv-loop μ-loop
-loop-less c = search needs
 
 loop-again : tie.Need-loop-again Inv-loop μ-loop
 loop-again c = search (needs, climb-on)
@@ -50,12 +30,12 @@ climbs-to-spec =
     (tie.spec
     Inv-loop
     μ-loop
-    shared-slice-read-low
-    loop-holds
-    mul-x
-    shared-slice-read-x
+    (λ c. search needs)
+    (λ c. search needs)
+    (λ c. search needs)
+    (λ c. search needs)
     returns
-    add-i
-    loop-less
+    (λ c. search needs)
+    (λ c. search needs)
     loop-again
     returns-2)

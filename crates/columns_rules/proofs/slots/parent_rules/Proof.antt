@@ -9,9 +9,6 @@ use Rattle.columns_rules.proofs.ParentTurns.{parents-done, parent-late,
 use borrow.Author.Needs.{needs}
 use Rattle.columns_rules.proofs.slots.parent_rules.Statement.{statement}
 use Rattle.columns_rules.proofs.slots.parent_rules.Tie as tie
-use Rattle.columns_rules.proofs.slots.parent_rules.Reads as reads
-use Rattle.columns_rules.proofs.slots.parent_rules.Lts as lts
-use Rattle.columns_rules.proofs.slots.among.Reads as among-reads
 
 abbrev Inv-loop : tie.InvT-loop
 Inv-loop event targets from to j₀ j =
@@ -23,26 +20,11 @@ abbrev μ-loop : tie.MeasureT-loop
 loop-holds : tie.Need-loop-holds Inv-loop μ-loop
 loop-holds c = search (needs, none-yet)
 
-mul-p : tie.Need-mul-p Inv-loop μ-loop
-mul-p c = search needs
-
-shared-slice-read-p : tie.Need-shared-slice-read-p Inv-loop μ-loop
-shared-slice-read-p c = search needs
-
 returns : tie.Need-returns Inv-loop μ-loop
 returns c = search (needs, parent-late)
 
-among-requires : tie.Need-among-requires Inv-loop μ-loop
-among-requires c κs = search needs
-
 returns-2 : tie.Need-returns-2 Inv-loop μ-loop
 returns-2 c = search (needs, parent-again)
-
-add-j : tie.Need-add-j Inv-loop μ-loop
-add-j c = search needs
-
-loop-less : tie.Need-loop-less Inv-loop μ-loop
-loop-less c = search needs
 
 loop-again : tie.Need-loop-again Inv-loop μ-loop
 loop-again c = search (needs, parents-on)
@@ -57,12 +39,12 @@ parent-rules-spec =
     Inv-loop
     μ-loop
     loop-holds
-    mul-p
-    shared-slice-read-p
+    (λ c. search needs)
+    (λ c. search needs)
     returns
-    among-requires
+    (λ c κs. search needs)
     returns-2
-    add-j
-    loop-less
+    (λ c. search needs)
+    (λ c. search needs)
     loop-again
     returns-3)

@@ -9,9 +9,6 @@ use Rattle.columns_rules.proofs.ParentTurns.{slots-done, slots-stop, sl
 use borrow.Author.Needs.{needs}
 use Rattle.columns_rules.proofs.slots.slot_rules.Statement.{statement}
 use Rattle.columns_rules.proofs.slots.slot_rules.Tie as tie
-use Rattle.columns_rules.proofs.slots.slot_rules.Reads as reads
-use Rattle.columns_rules.proofs.slots.slot_rules.Lts as lts
-use Rattle.columns_rules.proofs.slots.slot_rule.Reads as slot-rule-reads
 
 abbrev Inv-loop : tie.InvT-loop
 Inv-loop first rows offsets targets s₀ s =
@@ -20,29 +17,8 @@ Inv-loop first rows offsets targets s₀ s =
 abbrev μ-loop : tie.MeasureT-loop
 μ-loop first rows offsets targets s₀ s = 2 * rows - s
 
-loop-holds : tie.Need-loop-holds Inv-loop μ-loop
-loop-holds c = search needs
-
-mul-loop : tie.Need-mul-loop Inv-loop μ-loop
-mul-loop c = search needs
-
-slot-rule-requires : tie.Need-slot-rule-requires Inv-loop μ-loop
-slot-rule-requires c κs = search needs
-
-enum-known-r : tie.Need-enum-known-r Inv-loop μ-loop
-enum-known-r c = search needs
-
 returns : tie.Need-returns Inv-loop μ-loop
 returns c = search (needs, slots-stop)
-
-enum-told : tie.Need-enum-told Inv-loop μ-loop
-enum-told c = search needs
-
-add-s : tie.Need-add-s Inv-loop μ-loop
-add-s c = search needs
-
-loop-less : tie.Need-loop-less Inv-loop μ-loop
-loop-less c = search needs
 
 loop-again : tie.Need-loop-again Inv-loop μ-loop
 loop-again c = search (needs, slots-on)
@@ -56,13 +32,13 @@ slot-rules-spec =
     (tie.spec
     Inv-loop
     μ-loop
-    loop-holds
-    mul-loop
-    slot-rule-requires
-    enum-known-r
+    (λ c. search needs)
+    (λ c. search needs)
+    (λ c κs. search needs)
+    (λ c. search needs)
     returns
-    enum-told
-    add-s
-    loop-less
+    (λ c. search needs)
+    (λ c. search needs)
+    (λ c. search needs)
     loop-again
     returns-2)

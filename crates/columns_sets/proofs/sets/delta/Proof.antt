@@ -3,20 +3,12 @@ use Rattle.columns_sets.proofs.sets.SpanWrites.{down-fits, down-is, up-
 use borrow.Author.Needs.{needs}
 use Rattle.columns_sets.proofs.sets.delta.Statement.{statement}
 use Rattle.columns_sets.proofs.sets.delta.Tie as tie
-use Rattle.columns_sets.proofs.sets.delta.Reads as reads
-use Rattle.columns_sets.proofs.sets.delta.Lts as lts
 
 cast-result : tie.Need-cast-result
 cast-result c = search down-fits
 
 returns : tie.Need-returns
 returns c = search down-is
-
-sub-past : tie.Need-sub-past
-sub-past c = search needs
-
-sub-past-2 : tie.Need-sub-past-2
-sub-past-2 c = search needs
 
 cast-result-2 : tie.Need-cast-result-2
 cast-result-2 c = search up-fits
@@ -29,4 +21,4 @@ returns-2 c = search up-is
 
 pub delta-spec : {M : Type 1} → statement M
 delta-spec =
-    tie.close (tie.spec cast-result returns sub-past sub-past-2 cast-result-2 sub-result returns-2)
+    tie.close (tie.spec cast-result returns (λ c. search needs) (λ c. search needs) cast-result-2 sub-result returns-2)

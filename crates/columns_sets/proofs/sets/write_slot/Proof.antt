@@ -11,9 +11,6 @@ use Rattle.columns_sets.proofs.sets.SpanWrites.{span-this, span-rest, s
 use borrow.Author.Needs.{needs}
 use Rattle.columns_sets.proofs.sets.write_slot.Statement.{statement}
 use Rattle.columns_sets.proofs.sets.write_slot.Tie as tie
-use Rattle.columns_sets.proofs.sets.write_slot.Reads as reads
-use Rattle.columns_sets.proofs.sets.write_slot.Lts as lts
-use Rattle.columns_sets.proofs.sets.delta.Reads as delta-reads
 
 abbrev Inv-loop : tie.InvT-loop
 Inv-loop event targets a b base out₀ j₀ out j =
@@ -23,38 +20,11 @@ Inv-loop event targets a b base out₀ j₀ out j =
 abbrev μ-loop : tie.MeasureT-loop
 μ-loop event targets a b base out₀ j₀ out j = b - j
 
-loop-holds : tie.Need-loop-holds Inv-loop μ-loop
-loop-holds c = search needs
-
-mul-delta : tie.Need-mul-delta Inv-loop μ-loop
-mul-delta c = search needs
-
-shared-slice-read-delta : tie.Need-shared-slice-read-delta Inv-loop μ-loop
-shared-slice-read-delta c = search needs
-
 delta-requires : tie.Need-delta-requires Inv-loop μ-loop
 delta-requires c κs = search span-this
 
-sub-t13 : tie.Need-sub-t13 Inv-loop μ-loop
-sub-t13 c = search needs
-
-mul-t14 : tie.Need-mul-t14 Inv-loop μ-loop
-mul-t14 c = search needs
-
-slice-set-from-out : tie.Need-slice-set-from-out Inv-loop μ-loop
-slice-set-from-out c = search needs
-
-add-j : tie.Need-add-j Inv-loop μ-loop
-add-j c = search needs
-
-loop-less : tie.Need-loop-less Inv-loop μ-loop
-loop-less c = search needs
-
 loop-again : tie.Need-loop-again Inv-loop μ-loop
 loop-again c = (search needs, search needs, search needs, search span-rest, search slot-more)
-
-same-length : tie.Need-same-length Inv-loop μ-loop
-same-length c = search needs
 
 returns : tie.Need-returns Inv-loop μ-loop
 returns c = search (needs, slot-written)
@@ -65,15 +35,15 @@ write-slot-spec =
     (tie.spec
     Inv-loop
     μ-loop
-    loop-holds
-    mul-delta
-    shared-slice-read-delta
+    (λ c. search needs)
+    (λ c. search needs)
+    (λ c. search needs)
     delta-requires
-    sub-t13
-    mul-t14
-    slice-set-from-out
-    add-j
-    loop-less
+    (λ c. search needs)
+    (λ c. search needs)
+    (λ c. search needs)
+    (λ c. search needs)
+    (λ c. search needs)
     loop-again
-    same-length
+    (λ c. search needs)
     returns)

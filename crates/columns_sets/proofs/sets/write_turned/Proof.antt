@@ -13,18 +13,6 @@ write-table-requires c κs =
     let given = c .before .before .before .before .before .before .before .before .before .before .before .before .before .before .before .before .pre .0 in
     ((turned-offsets _ _ _ _ _ _ given _ (t .0) _ _ (t .1 .0) _ _ (t .1 .1 .0), turned-many _ _ _ _ _ _ given _ (t .0) _ _ (t .1 .0) _ _ (t .1 .1 .0)), (turned-reached _ _ _ _ _ _ given _ (t .0) _ _ (t .1 .0) _ _ (t .1 .1 .0), (search needs, turned-room _ _ _ _ _ _ given _ (t .0) _ _ (t .1 .0) _ _ (t .1 .1 .0) _ (t .1 .1 .1) (search needs))))
 
-same-length : tie.Need-same-length
-same-length c = search needs
-
-same-length-2 : tie.Need-same-length-2
-same-length-2 c = search needs
-
-same-length-3 : tie.Need-same-length-3
-same-length-3 c = search needs
-
-same-length-4 : tie.Need-same-length-4
-same-length-4 c = search needs
-
 returns : tie.Need-returns
 returns c = (search turned-counted, (search turned-starts, search turned-deltas))
 
@@ -34,8 +22,8 @@ write-turned-spec =
     (tie.spec
     turn-requires
     write-table-requires
-    same-length
-    same-length-2
-    same-length-3
-    same-length-4
+    (λ c. search needs)
+    (λ c. search needs)
+    (λ c. search needs)
+    (λ c. search needs)
     returns)

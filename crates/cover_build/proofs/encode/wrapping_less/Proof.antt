@@ -4,12 +4,9 @@ use borrow.Author.Needs.{needs}
 use Rattle.cover_build.proofs.encode.wrapping_less.Statement.{statement}
 use Rattle.cover_build.proofs.encode.wrapping_less.Tie as tie
 
-wrapping-sub-u32-requires : tie.Need-wrapping-sub-u32-requires
-wrapping-sub-u32-requires c κs = search needs
-
 returns : tie.Need-returns
 unfolding wrappingLess
 returns c = omega arith
 
 pub wrapping-less-spec : {M : Type 1} → statement M
-wrapping-less-spec = tie.close (tie.spec wrapping-sub-u32-requires returns)
+wrapping-less-spec = tie.close (tie.spec (λ c κs. search needs) returns)

@@ -14,38 +14,8 @@ Inv-loop from chains rows₀ k₀ p₀ i₀ rows k p i = (i ≤ length chains) �
 abbrev μ-loop : tie.MeasureT-loop
 μ-loop from chains rows₀ k₀ p₀ i₀ rows k p i = length chains - i
 
-loop-holds : tie.Need-loop-holds Inv-loop μ-loop
-loop-holds c = search needs
-
-mul-chain : tie.Need-mul-chain Inv-loop μ-loop
-mul-chain c = search needs
-
-shared-slice-read-chain : tie.Need-shared-slice-read-chain Inv-loop μ-loop
-shared-slice-read-chain c = search needs
-
-first-from-requires : tie.Need-first-from-requires Inv-loop μ-loop
-first-from-requires c κs = search needs
-
-put-run-requires : tie.Need-put-run-requires Inv-loop μ-loop
-put-run-requires c κs = search needs
-
-sub-k : tie.Need-sub-k Inv-loop μ-loop
-sub-k c = search needs
-
-add-k : tie.Need-add-k Inv-loop μ-loop
-add-k c = search needs
-
-add-i : tie.Need-add-i Inv-loop μ-loop
-add-i c = search needs
-
-loop-less : tie.Need-loop-less Inv-loop μ-loop
-loop-less c = search needs
-
 loop-again : tie.Need-loop-again Inv-loop μ-loop
 loop-again c = (search needs, search needs, search needs, search needs, search chosen-more)
-
-same-length : tie.Need-same-length Inv-loop μ-loop
-same-length c = search needs
 
 returns : tie.Need-returns Inv-loop μ-loop
 returns c = (search needs, (search needs, search chosen-all))
@@ -56,15 +26,15 @@ choose-spec =
     (tie.spec
     Inv-loop
     μ-loop
-    loop-holds
-    mul-chain
-    shared-slice-read-chain
-    first-from-requires
-    put-run-requires
-    sub-k
-    add-k
-    add-i
-    loop-less
+    (λ c. search needs)
+    (λ c. search needs)
+    (λ c. search needs)
+    (λ c κs. search needs)
+    (λ c κs. search needs)
+    (λ c. search needs)
+    (λ c. search needs)
+    (λ c. search needs)
+    (λ c. search needs)
     loop-again
-    same-length
+    (λ c. search needs)
     returns)

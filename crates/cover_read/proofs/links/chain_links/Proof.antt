@@ -4,17 +4,11 @@ use borrow.Author.Needs.{needs}
 use Rattle.cover_read.proofs.links.chain_links.Statement.{statement}
 use Rattle.cover_read.proofs.links.chain_links.Tie as tie
 
-four-over-requires : tie.Need-four-over-requires
-four-over-requires c κs = search needs
-
 returns : tie.Need-returns
 returns c = (search over-told, search over-kept)
 
 returns-2 : tie.Need-returns-2
 returns-2 c = (search many-told, search many-kept)
-
-four-short-requires : tie.Need-four-short-requires
-four-short-requires c κs = search needs
 
 returns-3 : tie.Need-returns-3
 returns-3 c = (search short-told, search short-kept)
@@ -34,18 +28,6 @@ write-chosen-requires c κs = let formed = c .before .before .before .before in
       four-rooms _ _ _ _ _ few within _ _ _ _ _ rooms (formed .before .before .if3 .left),
     )
 
-same-length : tie.Need-same-length
-same-length c = search needs
-
-same-length-2 : tie.Need-same-length-2
-same-length-2 c = search needs
-
-same-length-3 : tie.Need-same-length-3
-same-length-3 c = search needs
-
-same-length-4 : tie.Need-same-length-4
-same-length-4 c = search needs
-
 returns-5 : tie.Need-returns-5
 returns-5 c = (search found-told, search found-written)
 
@@ -53,16 +35,16 @@ pub chain-links-spec : {M : Type 1} → statement M
 chain-links-spec =
     tie.close
     (tie.spec
-    four-over-requires
+    (λ c κs. search needs)
     returns
     returns-2
-    four-short-requires
+    (λ c κs. search needs)
     returns-3
     links-fit-requires
     returns-4
     write-chosen-requires
-    same-length
-    same-length-2
-    same-length-3
-    same-length-4
+    (λ c. search needs)
+    (λ c. search needs)
+    (λ c. search needs)
+    (λ c. search needs)
     returns-5)

@@ -9,26 +9,14 @@ place-in-narrow-requires c κs = search fit-level
 returns : tie.Need-returns
 returns c = search window-past
 
-mul-if2 : tie.Need-mul-if2
-mul-if2 c = search needs
-
-shared-slice-read-if2 : tie.Need-shared-slice-read-if2
-shared-slice-read-if2 c = search needs
-
 returns-2 : tie.Need-returns-2
 returns-2 c = search window-other
-
-mul-if3 : tie.Need-mul-if3
-mul-if3 c = search needs
 
 shared-slice-read-if3 : tie.Need-shared-slice-read-if3
 shared-slice-read-if3 c = search in-minima
 
 returns-3 : tie.Need-returns-3
 returns-3 c = search window-under
-
-mul-result : tie.Need-mul-result
-mul-result c = search needs
 
 shared-slice-read-result : tie.Need-shared-slice-read-result
 shared-slice-read-result c = search in-maxima
@@ -42,12 +30,12 @@ holds-spec =
     (tie.spec
     place-in-narrow-requires
     returns
-    mul-if2
-    shared-slice-read-if2
+    (λ c. search needs)
+    (λ c. search needs)
     returns-2
-    mul-if3
+    (λ c. search needs)
     shared-slice-read-if3
     returns-3
-    mul-result
+    (λ c. search needs)
     shared-slice-read-result
     returns-4)

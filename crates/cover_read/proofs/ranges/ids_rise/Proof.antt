@@ -6,15 +6,9 @@ use Rattle.cover_read.proofs.ranges.ids_rise.Tie as tie
 returns : tie.Need-returns
 returns c = search rising-none
 
-shared-slice-read-rise-from : tie.Need-shared-slice-read-rise-from
-shared-slice-read-rise-from c = search needs
-
-rise-from-requires : tie.Need-rise-from-requires
-rise-from-requires c κs = search needs
-
 returns-2 : tie.Need-returns-2
 returns-2 c = search rising-first
 
 pub ids-rise-spec : {M : Type 1} → statement M
 ids-rise-spec =
-    tie.close (tie.spec returns shared-slice-read-rise-from rise-from-requires returns-2)
+    tie.close (tie.spec returns (λ c. search needs) (λ c κs. search needs) returns-2)

@@ -9,18 +9,12 @@ returns c = search few-minima
 returns-2 : tie.Need-returns-2
 returns-2 c = search few-maxima
 
-ids-rise-requires : tie.Need-ids-rise-requires
-ids-rise-requires c κs = search needs
-
 returns-3 : tie.Need-returns-3
 returns-3 c = search ids-fall
-
-in-order-requires : tie.Need-in-order-requires
-in-order-requires c κs = search needs
 
 returns-4 : tie.Need-returns-4
 returns-4 c = search then-ordered
 
 pub ranges-fit-spec : {M : Type 1} → statement M
 ranges-fit-spec =
-    tie.close (tie.spec returns returns-2 ids-rise-requires returns-3 in-order-requires returns-4)
+    tie.close (tie.spec returns returns-2 (λ c κs. search needs) returns-3 (λ c κs. search needs) returns-4)

@@ -3,14 +3,8 @@ use borrow.Author.Needs.{needs}
 use Rattle.cover_read.proofs.window.may_hold_chain.Statement.{statement}
 use Rattle.cover_read.proofs.window.may_hold_chain.Tie as tie
 
-three-over-requires : tie.Need-three-over-requires
-three-over-requires c κs = search needs
-
 returns : tie.Need-returns
 returns c = search window-over
-
-ranges-fit-requires : tie.Need-ranges-fit-requires
-ranges-fit-requires c κs = search needs
 
 returns-2 : tie.Need-returns-2
 returns-2 c = search window-form
@@ -24,4 +18,4 @@ returns-3 c = search window-told
 pub may-hold-chain-spec : {M : Type 1} → statement M
 may-hold-chain-spec =
     tie.close
-    (tie.spec three-over-requires returns ranges-fit-requires returns-2 holds-requires returns-3)
+    (tie.spec (λ c κs. search needs) returns (λ c κs. search needs) returns-2 holds-requires returns-3)

@@ -6,11 +6,8 @@ use Rattle.cover_rows.proofs.limits.four_over.Tie as tie
 returns : tie.Need-returns
 returns c = search any-here
 
-three-over-requires : tie.Need-three-over-requires
-three-over-requires c κs = search needs
-
 returns-2 : tie.Need-returns-2
 returns-2 c = search any-on
 
 pub four-over-spec : {M : Type 1} → statement M
-four-over-spec = tie.close (tie.spec returns three-over-requires returns-2)
+four-over-spec = tie.close (tie.spec returns (λ c κs. search needs) returns-2)

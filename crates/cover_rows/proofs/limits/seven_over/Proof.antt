@@ -12,11 +12,8 @@ returns-2 c = search (any-on, any-here)
 returns-3 : tie.Need-returns-3
 returns-3 c = search (any-on, any-here)
 
-four-over-requires : tie.Need-four-over-requires
-four-over-requires c κs = search needs
-
 returns-4 : tie.Need-returns-4
 returns-4 c = search any-on
 
 pub seven-over-spec : {M : Type 1} → statement M
-seven-over-spec = tie.close (tie.spec returns returns-2 returns-3 four-over-requires returns-4)
+seven-over-spec = tie.close (tie.spec returns returns-2 returns-3 (λ c κs. search needs) returns-4)

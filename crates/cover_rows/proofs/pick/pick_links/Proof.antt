@@ -3,9 +3,6 @@ use borrow.Author.Needs.{needs}
 use Rattle.cover_rows.proofs.pick.pick_links.Statement.{statement}
 use Rattle.cover_rows.proofs.pick.pick_links.Tie as tie
 
-pick-requires : tie.Need-pick-requires
-pick-requires c κs = search needs
-
 pick-requires-2 : tie.Need-pick-requires-2
 pick-requires-2 c κs = (search needs, search in-range)
 
@@ -15,18 +12,6 @@ pick-requires-3 c κs = (search needs, search in-range)
 pick-requires-4 : tie.Need-pick-requires-4
 pick-requires-4 c κs = (search needs, search in-range)
 
-same-length : tie.Need-same-length
-same-length c = search needs
-
-same-length-2 : tie.Need-same-length-2
-same-length-2 c = search needs
-
-same-length-3 : tie.Need-same-length-3
-same-length-3 c = search needs
-
-same-length-4 : tie.Need-same-length-4
-same-length-4 c = search needs
-
 returns : tie.Need-returns
 returns c = search links-picked
 
@@ -34,12 +19,12 @@ pub pick-links-spec : {M : Type 1} → statement M
 pick-links-spec =
     tie.close
     (tie.spec
-    pick-requires
+    (λ c κs. search needs)
     pick-requires-2
     pick-requires-3
     pick-requires-4
-    same-length
-    same-length-2
-    same-length-3
-    same-length-4
+    (λ c. search needs)
+    (λ c. search needs)
+    (λ c. search needs)
+    (λ c. search needs)
     returns)

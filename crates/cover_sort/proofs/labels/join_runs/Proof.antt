@@ -6,21 +6,6 @@ use Rattle.cover_sort.proofs.labels.join_runs.Tie as tie
 returns : tie.Need-returns
 returns c = (search none-count, search none-put)
 
-shared-slice-read-join-from : tie.Need-shared-slice-read-join-from
-shared-slice-read-join-from c = search needs
-
-join-from-requires : tie.Need-join-from-requires
-join-from-requires c κs = search needs
-
-same-length : tie.Need-same-length
-same-length c = search needs
-
-same-length-2 : tie.Need-same-length-2
-same-length-2 c = search needs
-
-same-length-3 : tie.Need-same-length-3
-same-length-3 c = search needs
-
 returns-2 : tie.Need-returns-2
 returns-2 c = (search some-count, search some-put)
 
@@ -29,9 +14,9 @@ join-runs-spec =
     tie.close
     (tie.spec
     returns
-    shared-slice-read-join-from
-    join-from-requires
-    same-length
-    same-length-2
-    same-length-3
+    (λ c. search needs)
+    (λ c κs. search needs)
+    (λ c. search needs)
+    (λ c. search needs)
+    (λ c. search needs)
     returns-2)

@@ -4,29 +4,11 @@ use borrow.Author.Needs.{needs}
 use Rattle.cover_sort.proofs.labels.ranges_of.Statement.{statement}
 use Rattle.cover_sort.proofs.labels.ranges_of.Tie as tie
 
-slice-aggregate-put-sorted-keys : tie.Need-slice-aggregate-put-sorted-keys
-slice-aggregate-put-sorted-keys c = search needs
-
-put-sorted-keys-requires : tie.Need-put-sorted-keys-requires
-put-sorted-keys-requires c κs = search needs
-
-array-share-prefix-keys : tie.Need-array-share-prefix-keys
-array-share-prefix-keys c = search needs
-
 slice-aggregate-join-runs : tie.Need-slice-aggregate-join-runs
 slice-aggregate-join-runs c = search front-count
 
 join-runs-requires : tie.Need-join-runs-requires
 join-runs-requires c κs = (search front-room, (search front-room, search front-room))
-
-same-length : tie.Need-same-length
-same-length c = search needs
-
-same-length-2 : tie.Need-same-length-2
-same-length-2 c = search needs
-
-same-length-3 : tie.Need-same-length-3
-same-length-3 c = search needs
 
 returns : tie.Need-returns
 returns c =
@@ -42,12 +24,12 @@ pub ranges-of-spec : {M : Type 1} → statement M
 ranges-of-spec =
     tie.close
     (tie.spec
-    slice-aggregate-put-sorted-keys
-    put-sorted-keys-requires
-    array-share-prefix-keys
+    (λ c. search needs)
+    (λ c κs. search needs)
+    (λ c. search needs)
     slice-aggregate-join-runs
     join-runs-requires
-    same-length
-    same-length-2
-    same-length-3
+    (λ c. search needs)
+    (λ c. search needs)
+    (λ c. search needs)
     returns)

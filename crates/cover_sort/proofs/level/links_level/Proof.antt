@@ -18,23 +18,8 @@ abbrev μ-loop : tie.MeasureT-loop
 loop-holds : tie.Need-loop-holds Inv-loop μ-loop
 loop-holds c = (search needs, search level-start)
 
-add-loop : tie.Need-add-loop Inv-loop μ-loop
-add-loop c = search needs
-
-add-row-less : tie.Need-add-row-less Inv-loop μ-loop
-add-row-less c = search needs
-
-row-less-requires : tie.Need-row-less-requires Inv-loop μ-loop
-row-less-requires c κs = search needs
-
 returns : tie.Need-returns Inv-loop μ-loop
 returns c = search level-not
-
-add-i : tie.Need-add-i Inv-loop μ-loop
-add-i c = search needs
-
-loop-less : tie.Need-loop-less Inv-loop μ-loop
-loop-less c = search needs
 
 loop-again : tie.Need-loop-again Inv-loop μ-loop
 loop-again c = (search needs, search level-on)
@@ -49,11 +34,11 @@ links-level-spec =
     Inv-loop
     μ-loop
     loop-holds
-    add-loop
-    add-row-less
-    row-less-requires
+    (λ c. search needs)
+    (λ c. search needs)
+    (λ c κs. search needs)
     returns
-    add-i
-    loop-less
+    (λ c. search needs)
+    (λ c. search needs)
     loop-again
     returns-2)

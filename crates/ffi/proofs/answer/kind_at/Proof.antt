@@ -4,9 +4,6 @@ use Rattle.ffi.proofs.Told.{kind-auth, kind-prev}
 use Rattle.ffi.proofs.answer.kind_at.Statement.{statement}
 use Rattle.ffi.proofs.answer.kind_at.Tie as tie
 
-flag-at-requires : tie.Need-flag-at-requires
-flag-at-requires c κs = search needs
-
 returns : tie.Need-returns
 returns c = search kind-auth
 
@@ -14,4 +11,4 @@ returns-2 : tie.Need-returns-2
 returns-2 c = search kind-prev
 
 pub kind-at-spec : {M : Type 1} → statement M
-kind-at-spec = tie.close (tie.spec flag-at-requires returns returns-2)
+kind-at-spec = tie.close (tie.spec (λ c κs. search needs) returns returns-2)

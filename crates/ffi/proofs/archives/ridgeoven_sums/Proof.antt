@@ -4,14 +4,8 @@ use Rattle.ffi.proofs.Wrote.{sums-told}
 use Rattle.ffi.proofs.archives.ridgeoven_sums.Statement.{statement}
 use Rattle.ffi.proofs.archives.ridgeoven_sums.Tie as tie
 
-sum-up-requires : tie.Need-sum-up-requires
-sum-up-requires c κs = search needs
-
-sums-of-requires : tie.Need-sums-of-requires
-sums-of-requires c κs = search needs
-
 returns : tie.Need-returns
 returns c = search sums-told
 
 pub ridgeoven-sums-spec : {M : Type 1} → statement M
-ridgeoven-sums-spec = tie.close (tie.spec sum-up-requires sums-of-requires returns)
+ridgeoven-sums-spec = tie.close (tie.spec (λ c κs. search needs) (λ c κs. search needs) returns)

@@ -4,12 +4,6 @@ use Rattle.ffi.specs.Records.{sumsOf}
 use Rattle.ffi.proofs.archives.sums_of.Statement.{statement}
 use Rattle.ffi.proofs.archives.sums_of.Tie as tie
 
-enum-known-summed : tie.Need-enum-known-summed
-enum-known-summed c = search needs
-
-enum-told : tie.Need-enum-told
-enum-told c = search needs
-
 returns : tie.Need-returns
 unfolding sumsOf
 returns c = cc
@@ -19,4 +13,4 @@ unfolding sumsOf
 returns-2 c = cc
 
 pub sums-of-spec : {M : Type 1} → statement M
-sums-of-spec = tie.close (tie.spec enum-known-summed enum-told returns returns-2)
+sums-of-spec = tie.close (tie.spec (λ c. search needs) (λ c. search needs) returns returns-2)

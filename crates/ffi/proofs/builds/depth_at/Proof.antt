@@ -4,9 +4,6 @@ use Rattle.ffi.proofs.Told.{depth-known, depth-unknown}
 use Rattle.ffi.proofs.builds.depth_at.Statement.{statement}
 use Rattle.ffi.proofs.builds.depth_at.Tie as tie
 
-flag-at-requires : tie.Need-flag-at-requires
-flag-at-requires c κs = search needs
-
 returns : tie.Need-returns
 returns c = search depth-known
 
@@ -14,4 +11,4 @@ returns-2 : tie.Need-returns-2
 returns-2 c = search depth-unknown
 
 pub depth-at-spec : {M : Type 1} → statement M
-depth-at-spec = tie.close (tie.spec flag-at-requires returns returns-2)
+depth-at-spec = tie.close (tie.spec (λ c κs. search needs) returns returns-2)

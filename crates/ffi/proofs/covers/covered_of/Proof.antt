@@ -5,15 +5,6 @@ use Rattle.ffi.proofs.Told.{covered-refused}
 use Rattle.ffi.proofs.covers.covered_of.Statement.{statement}
 use Rattle.ffi.proofs.covers.covered_of.Tie as tie
 
-enum-known-built : tie.Need-enum-known-built
-enum-known-built c = search needs
-
-enum-known-built-2 : tie.Need-enum-known-built-2
-enum-known-built-2 c = search needs
-
-number-requires : tie.Need-number-requires
-number-requires c κs = search needs
-
 returns : tie.Need-returns
 unfolding coveredOf
 returns c = cc
@@ -23,4 +14,4 @@ returns-2 c = search covered-refused
 
 pub covered-of-spec : {M : Type 1} → statement M
 covered-of-spec =
-    tie.close (tie.spec enum-known-built enum-known-built-2 number-requires returns returns-2)
+    tie.close (tie.spec (λ c. search needs) (λ c. search needs) (λ c κs. search needs) returns returns-2)

@@ -4,33 +4,6 @@ use Rattle.ffi.proofs.Told.{covered-told}
 use Rattle.ffi.proofs.covers.ridgeoven_cover_build.Statement.{statement}
 use Rattle.ffi.proofs.covers.ridgeoven_cover_build.Tie as tie
 
-build-requires : tie.Need-build-requires
-build-requires c κs = search needs
-
-covered-of-requires : tie.Need-covered-of-requires
-covered-of-requires c κs = search needs
-
-same-length : tie.Need-same-length
-same-length c = search needs
-
-same-length-2 : tie.Need-same-length-2
-same-length-2 c = search needs
-
-same-length-3 : tie.Need-same-length-3
-same-length-3 c = search needs
-
-same-length-4 : tie.Need-same-length-4
-same-length-4 c = search needs
-
-same-length-5 : tie.Need-same-length-5
-same-length-5 c = search needs
-
-same-length-6 : tie.Need-same-length-6
-same-length-6 c = search needs
-
-same-length-7 : tie.Need-same-length-7
-same-length-7 c = search needs
-
 returns : tie.Need-returns
 returns c = (search covered-told, (search needs, search needs))
 
@@ -38,13 +11,13 @@ pub ridgeoven-cover-build-spec : {M : Type 1} → statement M
 ridgeoven-cover-build-spec =
     tie.close
     (tie.spec
-    build-requires
-    covered-of-requires
-    same-length
-    same-length-2
-    same-length-3
-    same-length-4
-    same-length-5
-    same-length-6
-    same-length-7
+    (λ c κs. search needs)
+    (λ c κs. search needs)
+    (λ c. search needs)
+    (λ c. search needs)
+    (λ c. search needs)
+    (λ c. search needs)
+    (λ c. search needs)
+    (λ c. search needs)
+    (λ c. search needs)
     returns)

@@ -5,18 +5,6 @@ use Rattle.ffi.proofs.Told.{label-refused}
 use Rattle.ffi.proofs.edges.label_of.Statement.{statement}
 use Rattle.ffi.proofs.edges.label_of.Tie as tie
 
-enum-known-labelled : tie.Need-enum-known-labelled
-enum-known-labelled c = search needs
-
-enum-told : tie.Need-enum-told
-enum-told c = search needs
-
-enum-known-labelled-2 : tie.Need-enum-known-labelled-2
-enum-known-labelled-2 c = search needs
-
-number-requires : tie.Need-number-requires
-number-requires c κs = search needs
-
 returns : tie.Need-returns
 unfolding labelOf
 returns c = cc
@@ -32,10 +20,10 @@ pub label-of-spec : {M : Type 1} → statement M
 label-of-spec =
     tie.close
     (tie.spec
-    enum-known-labelled
-    enum-told
-    enum-known-labelled-2
-    number-requires
+    (λ c. search needs)
+    (λ c. search needs)
+    (λ c. search needs)
+    (λ c κs. search needs)
     returns
     returns-2
     returns-3)

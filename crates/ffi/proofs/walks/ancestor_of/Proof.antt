@@ -5,18 +5,6 @@ use Rattle.ffi.proofs.Told.{ancestor-refused}
 use Rattle.ffi.proofs.walks.ancestor_of.Statement.{statement}
 use Rattle.ffi.proofs.walks.ancestor_of.Tie as tie
 
-enum-known-shared : tie.Need-enum-known-shared
-enum-known-shared c = search needs
-
-enum-told : tie.Need-enum-told
-enum-told c = search needs
-
-enum-known-shared-2 : tie.Need-enum-known-shared-2
-enum-known-shared-2 c = search needs
-
-number-requires : tie.Need-number-requires
-number-requires c κs = search needs
-
 returns : tie.Need-returns
 unfolding ancestorOf
 returns c = cc
@@ -32,10 +20,10 @@ pub ancestor-of-spec : {M : Type 1} → statement M
 ancestor-of-spec =
     tie.close
     (tie.spec
-    enum-known-shared
-    enum-told
-    enum-known-shared-2
-    number-requires
+    (λ c. search needs)
+    (λ c. search needs)
+    (λ c. search needs)
+    (λ c κs. search needs)
     returns
     returns-2
     returns-3)

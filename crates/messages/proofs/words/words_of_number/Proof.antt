@@ -11,19 +11,13 @@ use Rattle.messages.proofs.words.words_of_number.Tie as tie
 returns : tie.Need-returns
 returns c = search (needs, untold)
 
-index-requires : tie.Need-index-requires
-index-requires c κs = search needs
-
 put-some-requires : tie.Need-put-some-requires
 unfolding joined table wordsOf text
 put-some-requires c κs = (refl, (search (needs, is-number), search needs))
-
-same-length : tie.Need-same-length
-same-length c = search needs
 
 returns-2 : tie.Need-returns-2
 returns-2 c = search (needs, by-number)
 
 pub words-of-number-spec : {M : Type 1} → statement M
 words-of-number-spec =
-    tie.close (tie.spec returns index-requires put-some-requires same-length returns-2)
+    tie.close (tie.spec returns (λ c κs. search needs) put-some-requires (λ c. search needs) returns-2)

@@ -4,9 +4,6 @@ use borrow.Author.Needs.{needs}
 use Rattle.run.proofs.turns.is_holdable.Statement.{statement}
 use Rattle.run.proofs.turns.is_holdable.Tie as tie
 
-ok-requires : tie.Need-ok-requires
-ok-requires c κs = search needs
-
 returns : tie.Need-returns
 returns c = search not-held
 
@@ -17,4 +14,4 @@ returns-2 : tie.Need-returns-2
 returns-2 c = search held-order
 
 pub is-holdable-spec : {M : Type 1} → statement M
-is-holdable-spec = tie.close (tie.spec ok-requires returns is-ordered-requires returns-2)
+is-holdable-spec = tie.close (tie.spec (λ c κs. search needs) returns is-ordered-requires returns-2)

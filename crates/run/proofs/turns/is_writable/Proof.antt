@@ -4,9 +4,6 @@ use borrow.Author.Needs.{needs}
 use Rattle.run.proofs.turns.is_writable.Statement.{statement}
 use Rattle.run.proofs.turns.is_writable.Tie as tie
 
-sheet-ok-requires : tie.Need-sheet-ok-requires
-sheet-ok-requires c κs = search needs
-
 returns : tie.Need-returns
 returns c = search not-sheet
 
@@ -25,4 +22,4 @@ returns-3 c = search then-filled
 pub is-writable-spec : {M : Type 1} → statement M
 is-writable-spec =
     tie.close
-    (tie.spec sheet-ok-requires returns is-ordered-requires returns-2 is-filled-requires returns-3)
+    (tie.spec (λ c κs. search needs) returns is-ordered-requires returns-2 is-filled-requires returns-3)

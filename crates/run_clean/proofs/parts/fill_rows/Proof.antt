@@ -10,8 +10,5 @@ grow-rows-requires c κs = (search may-store, search zero-rows)
 grow-flags-requires : tie.Need-grow-flags-requires
 grow-flags-requires c κs = (search may-store, (search zero-flags, search no-rows))
 
-returns : tie.Need-returns
-returns c = search needs
-
 pub fill-rows-spec : {M : Type 1} → statement M
-fill-rows-spec = tie.close (tie.spec grow-rows-requires grow-flags-requires returns)
+fill-rows-spec = tie.close (tie.spec grow-rows-requires grow-flags-requires (λ c. search needs))

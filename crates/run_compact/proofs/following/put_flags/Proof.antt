@@ -17,27 +17,6 @@ Inv-loop out₀ rows n flags base i₀ out i =
 abbrev μ-loop : tie.MeasureT-loop
 μ-loop out₀ rows n flags base i₀ out i = n - i
 
-loop-holds : tie.Need-loop-holds Inv-loop μ-loop
-loop-holds c = search needs
-
-mul-flag-of : tie.Need-mul-flag-of Inv-loop μ-loop
-mul-flag-of c = search needs
-
-shared-slice-read-flag-of : tie.Need-shared-slice-read-flag-of Inv-loop μ-loop
-shared-slice-read-flag-of c = search needs
-
-flag-of-requires : tie.Need-flag-of-requires Inv-loop μ-loop
-flag-of-requires c κs = search needs
-
-element-write-out : tie.Need-element-write-out Inv-loop μ-loop
-element-write-out c = search needs
-
-add-i : tie.Need-add-i Inv-loop μ-loop
-add-i c = search needs
-
-loop-less : tie.Need-loop-less Inv-loop μ-loop
-loop-less c = search needs
-
 loop-again : tie.Need-loop-again Inv-loop μ-loop
 loop-again c = search (needs, one-flag)
 
@@ -50,12 +29,12 @@ put-flags-spec =
     (tie.spec
     Inv-loop
     μ-loop
-    loop-holds
-    mul-flag-of
-    shared-slice-read-flag-of
-    flag-of-requires
-    element-write-out
-    add-i
-    loop-less
+    (λ c. search needs)
+    (λ c. search needs)
+    (λ c. search needs)
+    (λ c κs. search needs)
+    (λ c. search needs)
+    (λ c. search needs)
+    (λ c. search needs)
     loop-again
     returns)

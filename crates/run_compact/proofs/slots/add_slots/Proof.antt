@@ -22,44 +22,17 @@ Inv-loop flags offsets targets offs₀ all₀ slots end₀ k₀ s₀ offs all en
 abbrev μ-loop : tie.MeasureT-loop
 μ-loop flags offsets targets offs₀ all₀ slots end₀ k₀ s₀ offs all end k s = kinds * length flags - s
 
-mul-slots : tie.Need-mul-slots Inv-loop μ-loop
-mul-slots c = search needs
-
 loop-holds : tie.Need-loop-holds Inv-loop μ-loop
 loop-holds c = (search needs, search needs, search needs, search needs, search needs, search begin-cut, search slots-begin)
-
-shared-slice-read-if1 : tie.Need-shared-slice-read-if1 Inv-loop μ-loop
-shared-slice-read-if1 c = search needs
 
 add-slot-requires : tie.Need-add-slot-requires Inv-loop μ-loop
 add-slot-requires c κs = ((search next-there, search table-form), ((search needs, (search needs, search needs)), search needs))
 
-add-k : tie.Need-add-k Inv-loop μ-loop
-add-k c = search needs
-
-add-s : tie.Need-add-s Inv-loop μ-loop
-add-s c = search needs
-
-loop-less : tie.Need-loop-less Inv-loop μ-loop
-loop-less c = search needs
-
 loop-again : tie.Need-loop-again Inv-loop μ-loop
 loop-again c = (search needs, search needs, search needs, search needs, search needs, search slot-built, search slot-kept)
 
-add-s-2 : tie.Need-add-s-2 Inv-loop μ-loop
-add-s-2 c = search needs
-
-loop-less-2 : tie.Need-loop-less-2 Inv-loop μ-loop
-loop-less-2 c = search needs
-
 loop-again-2 : tie.Need-loop-again-2 Inv-loop μ-loop
 loop-again-2 c = (search needs, search needs, search next-above, search needs, search needs, search needs, search slot-gone)
-
-same-length : tie.Need-same-length Inv-loop μ-loop
-same-length c = search needs
-
-same-length-2 : tie.Need-same-length-2 Inv-loop μ-loop
-same-length-2 c = search needs
 
 returns : tie.Need-returns Inv-loop μ-loop
 returns c = search slots-done
@@ -70,17 +43,17 @@ add-slots-spec =
     (tie.spec
     Inv-loop
     μ-loop
-    mul-slots
+    (λ c. search needs)
     loop-holds
-    shared-slice-read-if1
+    (λ c. search needs)
     add-slot-requires
-    add-k
-    add-s
-    loop-less
+    (λ c. search needs)
+    (λ c. search needs)
+    (λ c. search needs)
     loop-again
-    add-s-2
-    loop-less-2
+    (λ c. search needs)
+    (λ c. search needs)
     loop-again-2
-    same-length
-    same-length-2
+    (λ c. search needs)
+    (λ c. search needs)
     returns)

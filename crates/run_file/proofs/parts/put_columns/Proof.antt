@@ -62,9 +62,6 @@ slice-aggregate-record-cover-9 c = search taken
 record-cover-requires : tie.Need-record-cover-requires
 record-cover-requires c κs = (search cover-room, (search even, search even, search cover-short))
 
-same-length : tie.Need-same-length
-same-length c = search needs
-
 returns : tie.Need-returns
 returns c = (search columns-put, search cover-end)
 
@@ -91,5 +88,5 @@ put-columns-spec =
     array-share-prefix-d
     slice-aggregate-record-cover-9
     record-cover-requires
-    same-length
+    (λ c. search needs)
     returns)

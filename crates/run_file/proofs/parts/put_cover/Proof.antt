@@ -7,9 +7,6 @@ use Rattle.run_file.proofs.parts.put_cover.Tie as tie
 put-columns-requires : tie.Need-put-columns-requires
 put-columns-requires c κs = ((search there-room, search needs), search needs)
 
-same-length : tie.Need-same-length
-same-length c = search needs
-
 returns : tie.Need-returns
 returns c = (search there-put, search there-end)
 
@@ -21,6 +18,6 @@ put-cover-spec =
     tie.close
     (tie.spec
     put-columns-requires
-    same-length
+    (λ c. search needs)
     returns
     returns-2)

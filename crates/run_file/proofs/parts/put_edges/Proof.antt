@@ -4,12 +4,6 @@ use borrow.Author.Needs.{needs}
 use Rattle.run_file.proofs.parts.put_edges.Statement.{statement}
 use Rattle.run_file.proofs.parts.put_edges.Tie as tie
 
-mul-k : tie.Need-mul-k
-mul-k c = search needs
-
-add-k : tie.Need-add-k
-add-k c = search needs
-
 slice-aggregate-record-edges : tie.Need-slice-aggregate-record-edges
 slice-aggregate-record-edges c = search table-taken
 
@@ -31,9 +25,6 @@ slice-aggregate-record-edges-6 c = search taken
 record-edges-requires : tie.Need-record-edges-requires
 record-edges-requires c κs = (search edges-room, search edges-short)
 
-same-length : tie.Need-same-length
-same-length c = search needs
-
 returns : tie.Need-returns
 returns c = (search edges-put, search edges-end)
 
@@ -41,8 +32,8 @@ pub put-edges-spec : {M : Type 1} → statement M
 put-edges-spec =
     tie.close
     (tie.spec
-    mul-k
-    add-k
+    (λ c. search needs)
+    (λ c. search needs)
     slice-aggregate-record-edges
     slice-aggregate-record-edges-2
     slice-aggregate-record-edges-3
@@ -50,5 +41,5 @@ put-edges-spec =
     slice-aggregate-record-edges-5
     slice-aggregate-record-edges-6
     record-edges-requires
-    same-length
+    (λ c. search needs)
     returns)

@@ -16,15 +16,6 @@ array-share-prefix-seqs c = search (needs, front-in)
 slice-aggregate-ranges-of-2 : tie.Need-slice-aggregate-ranges-of-2
 slice-aggregate-ranges-of-2 c = search (needs, front-count)
 
-slice-aggregate-ranges-of-3 : tie.Need-slice-aggregate-ranges-of-3
-slice-aggregate-ranges-of-3 c = search needs
-
-slice-aggregate-ranges-of-4 : tie.Need-slice-aggregate-ranges-of-4
-slice-aggregate-ranges-of-4 c = search needs
-
-slice-aggregate-ranges-of-5 : tie.Need-slice-aggregate-ranges-of-5
-slice-aggregate-ranges-of-5 c = search needs
-
 ranges-of-requires : tie.Need-ranges-of-requires
 ranges-of-requires c κs = ((search (needs, fronts-even), search (needs, front-few)), (search (needs, front-room), (search (needs, front-room), search (needs, front-room))))
 
@@ -39,8 +30,8 @@ label-ranges-spec =
     slice-aggregate-ranges-of
     array-share-prefix-seqs
     slice-aggregate-ranges-of-2
-    slice-aggregate-ranges-of-3
-    slice-aggregate-ranges-of-4
-    slice-aggregate-ranges-of-5
+    (λ c. search needs)
+    (λ c. search needs)
+    (λ c. search needs)
     ranges-of-requires
     returns)

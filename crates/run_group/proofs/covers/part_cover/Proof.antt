@@ -4,17 +4,8 @@ use borrow.Author.Needs.{needs}
 use Rattle.run_group.proofs.covers.part_cover.Statement.{statement}
 use Rattle.run_group.proofs.covers.part_cover.Tie as tie
 
-element-copy-out-if1 : tie.Need-element-copy-out-if1
-element-copy-out-if1 c = search needs
-
-no-cover-requires : tie.Need-no-cover-requires
-no-cover-requires c κs = search needs
-
 returns : tie.Need-returns
 returns c = (search (needs, covers-none), search needs)
-
-whole-cover-requires : tie.Need-whole-cover-requires
-whole-cover-requires c κs = search needs
 
 returns-2 : tie.Need-returns-2
 returns-2 c = (search (needs, covers-some), search needs)
@@ -22,4 +13,4 @@ returns-2 c = (search (needs, covers-some), search needs)
 pub part-cover-spec : {M : Type 1} → statement M
 part-cover-spec =
     tie.close
-    (tie.spec element-copy-out-if1 no-cover-requires returns whole-cover-requires returns-2)
+    (tie.spec (λ c. search needs) (λ c κs. search needs) returns (λ c κs. search needs) returns-2)

@@ -4,21 +4,6 @@ use borrow.Author.Needs.{needs}
 use Rattle.run_group.proofs.covers.stored_links.Statement.{statement}
 use Rattle.run_group.proofs.covers.stored_links.Tie as tie
 
-slice-aggregate-encode-links : tie.Need-slice-aggregate-encode-links
-slice-aggregate-encode-links c = search needs
-
-slice-aggregate-encode-links-2 : tie.Need-slice-aggregate-encode-links-2
-slice-aggregate-encode-links-2 c = search needs
-
-slice-aggregate-encode-links-3 : tie.Need-slice-aggregate-encode-links-3
-slice-aggregate-encode-links-3 c = search needs
-
-slice-aggregate-encode-links-4 : tie.Need-slice-aggregate-encode-links-4
-slice-aggregate-encode-links-4 c = search needs
-
-encode-links-requires : tie.Need-encode-links-requires
-encode-links-requires c κs = search needs
-
 returns : tie.Need-returns
 returns c = (
   links-read _ _ _ _ (search needs) (search needs) (search needs) (search needs) 1024 1024 1024 1024 (search needs) (search needs) (search needs) (search needs)
@@ -30,9 +15,9 @@ pub stored-links-spec : {M : Type 1} → statement M
 stored-links-spec =
     tie.close
     (tie.spec
-    slice-aggregate-encode-links
-    slice-aggregate-encode-links-2
-    slice-aggregate-encode-links-3
-    slice-aggregate-encode-links-4
-    encode-links-requires
+    (λ c. search needs)
+    (λ c. search needs)
+    (λ c. search needs)
+    (λ c. search needs)
+    (λ c κs. search needs)
     returns)

@@ -4,12 +4,6 @@ use borrow.Author.Needs.{needs}
 use Rattle.run_group.proofs.parts.part_roots.Statement.{statement}
 use Rattle.run_group.proofs.parts.part_roots.Tie as tie
 
-place-of-requires : tie.Need-place-of-requires
-place-of-requires c κs = search needs
-
-place-of-requires-2 : tie.Need-place-of-requires-2
-place-of-requires-2 c κs = search needs
-
 sub-roots-from : tie.Need-sub-roots-from
 sub-roots-from c = search (needs, places-rise)
 
@@ -22,4 +16,4 @@ returns c = (search (needs, roots-between), search (needs, roots-few))
 pub part-roots-spec : {M : Type 1} → statement M
 part-roots-spec =
     tie.close
-    (tie.spec place-of-requires place-of-requires-2 sub-roots-from roots-from-requires returns)
+    (tie.spec (λ c κs. search needs) (λ c κs. search needs) sub-roots-from roots-from-requires returns)

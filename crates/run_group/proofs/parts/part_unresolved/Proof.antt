@@ -4,12 +4,6 @@ use borrow.Author.Needs.{needs}
 use Rattle.run_group.proofs.parts.part_unresolved.Statement.{statement}
 use Rattle.run_group.proofs.parts.part_unresolved.Tie as tie
 
-place-of-requires : tie.Need-place-of-requires
-place-of-requires c κs = search needs
-
-place-of-requires-2 : tie.Need-place-of-requires-2
-place-of-requires-2 c κs = search needs
-
 sub-unresolved-from : tie.Need-sub-unresolved-from
 sub-unresolved-from c = search (needs, places-rise)
 
@@ -23,8 +17,8 @@ pub part-unresolved-spec : {M : Type 1} → statement M
 part-unresolved-spec =
     tie.close
     (tie.spec
-    place-of-requires
-    place-of-requires-2
+    (λ c κs. search needs)
+    (λ c κs. search needs)
     sub-unresolved-from
     unresolved-from-requires
     returns)

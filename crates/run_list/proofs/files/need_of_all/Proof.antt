@@ -20,35 +20,14 @@ Inv-loop s n bytes₀ g₀ bytes g =
 abbrev μ-loop : tie.MeasureT-loop
 μ-loop s n bytes₀ g₀ bytes g = n - g
 
-sheet-long-requires : tie.Need-sheet-long-requires Inv-loop μ-loop
-sheet-long-requires c κs = search needs
-
 loop-holds : tie.Need-loop-holds Inv-loop μ-loop
 loop-holds c = search (needs, groups-few, all-rules, all-need)
-
-group-file-requires : tie.Need-group-file-requires Inv-loop μ-loop
-group-file-requires c κs = search needs
-
-enum-known-v : tie.Need-enum-known-v Inv-loop μ-loop
-enum-known-v c = search needs
 
 returns : tie.Need-returns Inv-loop μ-loop
 returns c = search (needs, need-refused, turn-broken)
 
-enum-told : tie.Need-enum-told Inv-loop μ-loop
-enum-told c = search needs
-
 need-of-requires : tie.Need-need-of-requires Inv-loop μ-loop
 need-of-requires c κs = search (needs, turn-counted)
-
-add-bytes : tie.Need-add-bytes Inv-loop μ-loop
-add-bytes c = search needs
-
-add-g : tie.Need-add-g Inv-loop μ-loop
-add-g c = search needs
-
-loop-less : tie.Need-loop-less Inv-loop μ-loop
-loop-less c = search needs
 
 loop-again : tie.Need-loop-again Inv-loop μ-loop
 loop-again c = search (needs, turn-rules, turn-need)
@@ -62,15 +41,15 @@ need-of-all-spec =
     (tie.spec
     Inv-loop
     μ-loop
-    sheet-long-requires
+    (λ c κs. search needs)
     loop-holds
-    group-file-requires
-    enum-known-v
+    (λ c κs. search needs)
+    (λ c. search needs)
     returns
-    enum-told
+    (λ c. search needs)
     need-of-requires
-    add-bytes
-    add-g
-    loop-less
+    (λ c. search needs)
+    (λ c. search needs)
+    (λ c. search needs)
     loop-again
     returns-2)

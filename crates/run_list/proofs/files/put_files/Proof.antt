@@ -25,29 +25,14 @@ Inv-loop s out₀ at n p₀ g₀ out p g =
 abbrev μ-loop : tie.MeasureT-loop
 μ-loop s out₀ at n p₀ g₀ out p g = n - g
 
-sheet-long-requires : tie.Need-sheet-long-requires Inv-loop μ-loop
-sheet-long-requires c κs = search needs
-
 loop-holds : tie.Need-loop-holds Inv-loop μ-loop
 loop-holds c = search (needs, groups-few, no-rules, all-room, all-lines)
-
-group-file-requires : tie.Need-group-file-requires Inv-loop μ-loop
-group-file-requires c κs = search needs
 
 put-lines-requires : tie.Need-put-lines-requires Inv-loop μ-loop
 put-lines-requires c κs = search (needs, file-counted, lines-room)
 
-add-g : tie.Need-add-g Inv-loop μ-loop
-add-g c = search needs
-
-loop-less : tie.Need-loop-less Inv-loop μ-loop
-loop-less c = search needs
-
 loop-again : tie.Need-loop-again Inv-loop μ-loop
 loop-again c = (search needs, search needs, search needs, search (needs, rest-rules), search needs, search (needs, need-left), search (needs, lines-left))
-
-same-length : tie.Need-same-length Inv-loop μ-loop
-same-length c = search needs
 
 returns : tie.Need-returns Inv-loop μ-loop
 returns c = search (needs, lines-done)
@@ -58,12 +43,12 @@ put-files-spec =
     (tie.spec
     Inv-loop
     μ-loop
-    sheet-long-requires
+    (λ c κs. search needs)
     loop-holds
-    group-file-requires
+    (λ c κs. search needs)
     put-lines-requires
-    add-g
-    loop-less
+    (λ c. search needs)
+    (λ c. search needs)
     loop-again
-    same-length
+    (λ c. search needs)
     returns)

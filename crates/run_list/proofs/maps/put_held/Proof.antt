@@ -6,9 +6,6 @@ use borrow.Author.Needs.{needs}
 use Rattle.run_list.proofs.maps.put_held.Statement.{statement}
 use Rattle.run_list.proofs.maps.put_held.Tie as tie
 
-held-long-requires : tie.Need-held-long-requires
-held-long-requires c κs = search needs
-
 array-share-prefix-f : tie.Need-array-share-prefix-f
 array-share-prefix-f c = search flags-room
 
@@ -24,14 +21,8 @@ array-share-prefix-f-2 c = search flags-room
 slice-aggregate-put-rows : tie.Need-slice-aggregate-put-rows
 slice-aggregate-put-rows c = search count-flags
 
-slice-aggregate-put-rows-2 : tie.Need-slice-aggregate-put-rows-2
-slice-aggregate-put-rows-2 c = search needs
-
 put-rows-requires : tie.Need-put-rows-requires
 put-rows-requires c κs = ((search (needs, numbers-room), search flags-end), search (needs, maps-room))
-
-same-length : tie.Need-same-length
-same-length c = search needs
 
 returns : tie.Need-returns
 returns c = search maps-written
@@ -40,13 +31,13 @@ pub put-held-spec : {M : Type 1} → statement M
 put-held-spec =
     tie.close
     (tie.spec
-    held-long-requires
+    (λ c κs. search needs)
     array-share-prefix-f
     slice-aggregate-new-numbers
     new-numbers-requires
     array-share-prefix-f-2
     slice-aggregate-put-rows
-    slice-aggregate-put-rows-2
+    (λ c. search needs)
     put-rows-requires
-    same-length
+    (λ c. search needs)
     returns)

@@ -19,32 +19,8 @@ abbrev μ-loop : tie.MeasureT-loop
 loop-holds : tie.Need-loop-holds Inv-loop μ-loop
 loop-holds c = search (needs, rows-begin)
 
-add-put-map : tie.Need-add-put-map Inv-loop μ-loop
-add-put-map c = search needs
-
-shared-slice-read-put-map : tie.Need-shared-slice-read-put-map Inv-loop μ-loop
-shared-slice-read-put-map c = search needs
-
-mul-put-map : tie.Need-mul-put-map Inv-loop μ-loop
-mul-put-map c = search needs
-
-shared-slice-read-put-map-2 : tie.Need-shared-slice-read-put-map-2 Inv-loop μ-loop
-shared-slice-read-put-map-2 c = search needs
-
-put-map-requires : tie.Need-put-map-requires Inv-loop μ-loop
-put-map-requires c κs = search needs
-
-add-i : tie.Need-add-i Inv-loop μ-loop
-add-i c = search needs
-
-loop-less : tie.Need-loop-less Inv-loop μ-loop
-loop-less c = search needs
-
 loop-again : tie.Need-loop-again Inv-loop μ-loop
 loop-again c = (search needs, search needs, search needs, rows-more _ _ _ _ (c .before .before .before .before .before .before .before .loop .inv .3) (search needs) (c .before .before .put-map .ensures))
-
-same-length : tie.Need-same-length Inv-loop μ-loop
-same-length c = search needs
 
 returns : tie.Need-returns Inv-loop μ-loop
 returns c = search (needs, rows-done)
@@ -56,13 +32,13 @@ put-rows-spec =
     Inv-loop
     μ-loop
     loop-holds
-    add-put-map
-    shared-slice-read-put-map
-    mul-put-map
-    shared-slice-read-put-map-2
-    put-map-requires
-    add-i
-    loop-less
+    (λ c. search needs)
+    (λ c. search needs)
+    (λ c. search needs)
+    (λ c. search needs)
+    (λ c κs. search needs)
+    (λ c. search needs)
+    (λ c. search needs)
     loop-again
-    same-length
+    (λ c. search needs)
     returns)

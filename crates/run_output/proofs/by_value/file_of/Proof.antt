@@ -6,14 +6,8 @@ use borrow.Author.Needs.{needs}
 use Rattle.run_output.proofs.by_value.file_of.Statement.{statement}
 use Rattle.run_output.proofs.by_value.file_of.Tie as tie
 
-sheet-long-requires : tie.Need-sheet-long-requires
-sheet-long-requires c κs = search needs
-
 sub-n : tie.Need-sub-n
 sub-n c = search (needs, span-rises)
-
-roots-of-requires : tie.Need-roots-of-requires
-roots-of-requires c κs = search needs
 
 part-tags-requires : tie.Need-part-tags-requires
 part-tags-requires c κs = search (needs, span-room)
@@ -46,9 +40,9 @@ pub file-of-spec : {M : Type 1} → statement M
 file-of-spec =
     tie.close
     (tie.spec
-    sheet-long-requires
+    (λ c κs. search needs)
     sub-n
-    roots-of-requires
+    (λ c κs. search needs)
     part-tags-requires
     add-part-head
     part-head-requires

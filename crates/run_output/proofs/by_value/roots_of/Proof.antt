@@ -4,9 +4,6 @@ use borrow.Author.Needs.{needs}
 use Rattle.run_output.proofs.by_value.roots_of.Statement.{statement}
 use Rattle.run_output.proofs.by_value.roots_of.Tie as tie
 
-sheet-long-requires : tie.Need-sheet-long-requires
-sheet-long-requires c κs = search needs
-
 part-roots-requires : tie.Need-part-roots-requires
 part-roots-requires c κs = search (needs, roots-within, span-rises)
 
@@ -14,4 +11,4 @@ returns : tie.Need-returns
 returns c = search (needs, roots-made)
 
 pub roots-of-spec : {M : Type 1} → statement M
-roots-of-spec = tie.close (tie.spec sheet-long-requires part-roots-requires returns)
+roots-of-spec = tie.close (tie.spec (λ c κs. search needs) part-roots-requires returns)

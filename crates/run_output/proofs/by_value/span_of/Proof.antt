@@ -4,14 +4,8 @@ use borrow.Author.Needs.{needs}
 use Rattle.run_output.proofs.by_value.span_of.Statement.{statement}
 use Rattle.run_output.proofs.by_value.span_of.Tie as tie
 
-sheet-long-requires : tie.Need-sheet-long-requires
-sheet-long-requires c κs = search needs
-
 group-place-requires : tie.Need-group-place-requires
 group-place-requires c κs = search (needs, rows-within)
-
-add-group-place : tie.Need-add-group-place
-add-group-place c = search needs
 
 group-place-requires-2 : tie.Need-group-place-requires-2
 group-place-requires-2 c κs = search (needs, rows-within)
@@ -23,8 +17,8 @@ pub span-of-spec : {M : Type 1} → statement M
 span-of-spec =
     tie.close
     (tie.spec
-    sheet-long-requires
+    (λ c κs. search needs)
     group-place-requires
-    add-group-place
+    (λ c. search needs)
     group-place-requires-2
     returns)

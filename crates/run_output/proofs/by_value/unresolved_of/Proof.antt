@@ -4,9 +4,6 @@ use borrow.Author.Needs.{needs}
 use Rattle.run_output.proofs.by_value.unresolved_of.Statement.{statement}
 use Rattle.run_output.proofs.by_value.unresolved_of.Tie as tie
 
-sheet-long-requires : tie.Need-sheet-long-requires
-sheet-long-requires c κs = search needs
-
 add-low : tie.Need-add-low
 add-low c = search (needs, start-fits)
 
@@ -21,4 +18,4 @@ returns c = search (needs, unresolved-made)
 
 pub unresolved-of-spec : {M : Type 1} → statement M
 unresolved-of-spec =
-    tie.close (tie.spec sheet-long-requires add-low add-high part-unresolved-requires returns)
+    tie.close (tie.spec (λ c κs. search needs) add-low add-high part-unresolved-requires returns)

@@ -5,14 +5,8 @@ use borrow.Author.Needs.{needs}
 use Rattle.run_resolve.proofs.asked.new_number.Statement.{statement}
 use Rattle.run_resolve.proofs.asked.new_number.Tie as tie
 
-held-long-requires : tie.Need-held-long-requires
-held-long-requires c κs = search needs
-
 returns : tie.Need-returns
 returns c = search mapped-before
-
-index-requires : tie.Need-index-requires
-index-requires c κs = search needs
 
 returns-2 : tie.Need-returns-2
 returns-2 c = search mapped-past
@@ -33,9 +27,9 @@ pub new-number-spec : {M : Type 1} → statement M
 new-number-spec =
     tie.close
     (tie.spec
-    held-long-requires
+    (λ c κs. search needs)
     returns
-    index-requires
+    (λ c κs. search needs)
     returns-2
     array-share-prefix-f
     slice-aggregate-row-number

@@ -4,9 +4,6 @@ use borrow.Author.Needs.{needs}
 use Rattle.run_resolve.proofs.links.add_group.Statement.{statement}
 use Rattle.run_resolve.proofs.links.add_group.Tie as tie
 
-sort-part-requires : tie.Need-sort-part-requires
-sort-part-requires c κs = search needs
-
 fill-requires : tie.Need-fill-requires
 fill-requires c κs = (search part-room, search needs)
 
@@ -17,4 +14,4 @@ returns : tie.Need-returns
 returns c = (search part-few, search links-added)
 
 pub add-group-spec : {M : Type 1} → statement M
-add-group-spec = tie.close (tie.spec sort-part-requires fill-requires add-result returns)
+add-group-spec = tie.close (tie.spec (λ c κs. search needs) fill-requires add-result returns)

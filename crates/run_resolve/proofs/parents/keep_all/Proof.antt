@@ -10,12 +10,6 @@ use borrow.Author.Needs.{needs}
 use Rattle.run_resolve.proofs.parents.keep_all.Statement.{statement}
 use Rattle.run_resolve.proofs.parents.keep_all.Tie as tie
 
-mul-k : tie.Need-mul-k
-mul-k c = search needs
-
-add-k : tie.Need-add-k
-add-k c = search needs
-
 slice-aggregate-put-slots : tie.Need-slice-aggregate-put-slots
 slice-aggregate-put-slots c = search (needs, front-count)
 
@@ -37,8 +31,8 @@ pub keep-all-spec : {M : Type 1} → statement M
 keep-all-spec =
     tie.close
     (tie.spec
-    mul-k
-    add-k
+    (λ c. search needs)
+    (λ c. search needs)
     slice-aggregate-put-slots
     slice-aggregate-put-slots-2
     slice-aggregate-put-slots-3

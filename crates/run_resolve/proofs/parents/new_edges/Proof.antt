@@ -4,15 +4,6 @@ use borrow.Author.Needs.{needs}
 use Rattle.run_resolve.proofs.parents.new_edges.Statement.{statement}
 use Rattle.run_resolve.proofs.parents.new_edges.Tie as tie
 
-renew-requires : tie.Need-renew-requires
-renew-requires c κs = search needs
-
-enum-known-g : tie.Need-enum-known-g
-enum-known-g c = search needs
-
-enum-told : tie.Need-enum-told
-enum-told c = search needs
-
 returns : tie.Need-returns
 returns c = search renewal-upto
 
@@ -20,4 +11,4 @@ returns-2 : tie.Need-returns-2
 returns-2 c = search renewal-full
 
 pub new-edges-spec : {M : Type 1} → statement M
-new-edges-spec = tie.close (tie.spec renew-requires enum-known-g enum-told returns returns-2)
+new-edges-spec = tie.close (tie.spec (λ c κs. search needs) (λ c. search needs) (λ c. search needs) returns returns-2)

@@ -7,12 +7,6 @@ use borrow.Author.Needs.{needs}
 use Rattle.run_resolve.proofs.parents.put_all.Statement.{statement}
 use Rattle.run_resolve.proofs.parents.put_all.Tie as tie
 
-mul-k : tie.Need-mul-k
-mul-k c = search needs
-
-add-k : tie.Need-add-k
-add-k c = search needs
-
 slice-aggregate-new-numbers : tie.Need-slice-aggregate-new-numbers
 slice-aggregate-new-numbers c = search (needs, front-count)
 
@@ -21,9 +15,6 @@ new-numbers-requires c κs = (search front-few, search numbers-fit)
 
 slice-aggregate-put-lists : tie.Need-slice-aggregate-put-lists
 slice-aggregate-put-lists c = search (needs, front-count)
-
-slice-aggregate-put-lists-2 : tie.Need-slice-aggregate-put-lists-2
-slice-aggregate-put-lists-2 c = search needs
 
 slice-aggregate-put-lists-3 : tie.Need-slice-aggregate-put-lists-3
 slice-aggregate-put-lists-3 c = search (needs, table-count)
@@ -41,12 +32,12 @@ pub put-all-spec : {M : Type 1} → statement M
 put-all-spec =
     tie.close
     (tie.spec
-    mul-k
-    add-k
+    (λ c. search needs)
+    (λ c. search needs)
     slice-aggregate-new-numbers
     new-numbers-requires
     slice-aggregate-put-lists
-    slice-aggregate-put-lists-2
+    (λ c. search needs)
     slice-aggregate-put-lists-3
     slice-aggregate-put-lists-4
     put-lists-requires

@@ -7,14 +7,8 @@ use Rattle.run_resolve.proofs.parents.renew.Tie as tie
 put-all-requires : tie.Need-put-all-requires
 put-all-requires c κs = ((search needs, (search needs, search needs)), ((search columns-few, (search needs, search needs)), search columns-table))
 
-enum-known-g : tie.Need-enum-known-g
-enum-known-g c = search needs
-
 keep-all-requires : tie.Need-keep-all-requires
 keep-all-requires c κs = ((search needs, search needs), ((search (needs, built-few), (search needs, search needs)), search (needs, built-table)))
-
-enum-told : tie.Need-enum-told
-enum-told c = search needs
 
 returns : tie.Need-returns
 returns c = search edges-kept
@@ -25,4 +19,4 @@ returns-2 c = search edges-over
 pub renew-spec : {M : Type 1} → statement M
 renew-spec =
     tie.close
-    (tie.spec put-all-requires enum-known-g keep-all-requires enum-told returns returns-2)
+    (tie.spec put-all-requires (λ c. search needs) keep-all-requires (λ c. search needs) returns returns-2)

@@ -7,18 +7,6 @@ use Rattle.run_resolve.proofs.records.renew_unresolved.Tie as tie
 returns : tie.Need-returns
 returns c = (search children-none, search needs)
 
-long64-requires : tie.Need-long64-requires
-long64-requires c κs = search needs
-
-new-numbers-requires : tie.Need-new-numbers-requires
-new-numbers-requires c κs = search needs
-
-keep-unresolved-requires : tie.Need-keep-unresolved-requires
-keep-unresolved-requires c κs = search needs
-
-slice-aggregate-move-rows : tie.Need-slice-aggregate-move-rows
-slice-aggregate-move-rows c = search needs
-
 move-rows-requires : tie.Need-move-rows-requires
 move-rows-requires c κs = (search children-room, search needs)
 
@@ -30,9 +18,9 @@ renew-unresolved-spec =
     tie.close
     (tie.spec
     returns
-    long64-requires
-    new-numbers-requires
-    keep-unresolved-requires
-    slice-aggregate-move-rows
+    (λ c κs. search needs)
+    (λ c κs. search needs)
+    (λ c κs. search needs)
+    (λ c. search needs)
     move-rows-requires
     returns-2)

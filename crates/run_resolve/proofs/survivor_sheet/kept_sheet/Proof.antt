@@ -4,9 +4,6 @@ use borrow.Author.Needs.{needs}
 use Rattle.run_resolve.proofs.survivor_sheet.kept_sheet.Statement.{statement}
 use Rattle.run_resolve.proofs.survivor_sheet.kept_sheet.Tie as tie
 
-sheet-long-requires : tie.Need-sheet-long-requires
-sheet-long-requires c κs = search needs
-
 kept-rows-requires : tie.Need-kept-rows-requires
 kept-rows-requires c κs = (search needs, search part-rows)
 
@@ -38,7 +35,7 @@ pub kept-sheet-spec : {M : Type 1} → statement M
 kept-sheet-spec =
     tie.close
     (tie.spec
-    sheet-long-requires
+    (λ c κs. search needs)
     kept-rows-requires
     new-unresolved-requires
     new-roots-requires

@@ -3,8 +3,6 @@ use Rattle.run_rules.specs.limits.Figures.{figures}
 use borrow.Author.Needs.{needs}
 use Rattle.run_rules.proofs.limits.count.Statement.{statement}
 use Rattle.run_rules.proofs.limits.count.Tie as tie
-use Rattle.run_rules.proofs.limits.count.Reads as reads
-use Rattle.run_rules.proofs.limits.count.Lts as lts
 
 returns : tie.Need-returns
 unfolding figures

@@ -3,8 +3,6 @@ use Rattle.run_rules.proofs.limits.Exits.{over-already, over-with}
 use borrow.Author.Needs.{needs}
 use Rattle.run_rules.proofs.limits.is_over.Statement.{statement}
 use Rattle.run_rules.proofs.limits.is_over.Tie as tie
-use Rattle.run_rules.proofs.limits.is_over.Reads as reads
-use Rattle.run_rules.proofs.limits.is_over.Lts as lts
 
 returns : tie.Need-returns
 returns c = search (needs, over-already)

@@ -3,19 +3,9 @@ use Rattle.run_rules.proofs.limits.Exits.{records-many, numbers-many, l
 use borrow.Author.Needs.{needs}
 use Rattle.run_rules.proofs.limits.limit_rules.Statement.{statement}
 use Rattle.run_rules.proofs.limits.limit_rules.Tie as tie
-use Rattle.run_rules.proofs.limits.limit_rules.Reads as reads
-use Rattle.run_rules.proofs.limits.limit_rules.Lts as lts
-use Rattle.run_rules.proofs.limits.many_numbers.Reads as many-numbers-reads
-use Rattle.run_rules.proofs.limits.many_records.Reads as many-records-reads
-
-many-records-requires : tie.Need-many-records-requires
-many-records-requires c κs = search needs
 
 returns : tie.Need-returns
 returns c = search records-many
-
-many-numbers-requires : tie.Need-many-numbers-requires
-many-numbers-requires c κs = search needs
 
 returns-2 : tie.Need-returns-2
 returns-2 c = search numbers-many
@@ -27,8 +17,8 @@ pub limit-rules-spec : {M : Type 1} → statement M
 limit-rules-spec =
     tie.close
     (tie.spec
-    many-records-requires
+    (λ c κs. search needs)
     returns
-    many-numbers-requires
+    (λ c κs. search needs)
     returns-2
     returns-3)

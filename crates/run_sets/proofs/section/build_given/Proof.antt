@@ -4,41 +4,9 @@ use Rattle.run_sets.proofs.section.PartGraphs.{low-in, high-in, low-hig
 use borrow.Author.Needs.{needs}
 use Rattle.run_sets.proofs.section.build_given.Statement.{statement}
 use Rattle.run_sets.proofs.section.build_given.Tie as tie
-use Rattle.run_sets.proofs.section.build_given.Reads as reads
-use Rattle.run_sets.proofs.section.build_given.Lts as lts
-use Rattle.arrays.proofs.index.Reads as index-reads
-use Rattle.run_sets.proofs.section.build_columns.Reads as build-columns-reads
-use Rattle.run_group.proofs.sections.edges.edges_into.Reads as edges-into-reads
-
-edges-into-requires : tie.Need-edges-into-requires
-edges-into-requires c κs = search needs
-
-add-first : tie.Need-add-first
-add-first c = search needs
-
-mul-index : tie.Need-mul-index
-mul-index c = search needs
-
-mul-index-2 : tie.Need-mul-index-2
-mul-index-2 c = search needs
 
 shared-slice-read-index : tie.Need-shared-slice-read-index
 shared-slice-read-index c = search low-in
-
-index-requires : tie.Need-index-requires
-index-requires c κs = search needs
-
-mul-index-3 : tie.Need-mul-index-3
-mul-index-3 c = search needs
-
-mul-index-4 : tie.Need-mul-index-4
-mul-index-4 c = search needs
-
-add-index : tie.Need-add-index
-add-index c = search needs
-
-mul-index-5 : tie.Need-mul-index-5
-mul-index-5 c = search needs
 
 shared-slice-read-index-2 : tie.Need-shared-slice-read-index-2
 shared-slice-read-index-2 c =
@@ -46,9 +14,6 @@ shared-slice-read-index-2 c =
     let within = s .pre .0 .0 in
     let form = s .pre .1 .0 .1 .0 in
     search high-in
-
-index-requires-2 : tie.Need-index-requires-2
-index-requires-2 c κs = search needs
 
 build-columns-requires : tie.Need-build-columns-requires
 build-columns-requires c κs =
@@ -69,24 +34,6 @@ build-columns-requires c κs =
       (omega (arith, within, few), (long, (low-high-order (x .start) (x .total) (x .offsets .now) (x .targets .now) (x .a) (x .n) within few small form _ _ low high, high-inside (x .start) (x .total) (x .offsets .now) (x .targets .now) (x .a) (x .n) within few small form _ _ low high))),
       (omega (arith, most, children), (omega (arith, most, parents), omega (arith, most, kinds))),
     )
-
-same-length : tie.Need-same-length
-same-length c = search needs
-
-same-length-2 : tie.Need-same-length-2
-same-length-2 c = search needs
-
-same-length-3 : tie.Need-same-length-3
-same-length-3 c = search needs
-
-same-length-4 : tie.Need-same-length-4
-same-length-4 c = search needs
-
-same-length-5 : tie.Need-same-length-5
-same-length-5 c = search needs
-
-same-length-6 : tie.Need-same-length-6
-same-length-6 c = search needs
 
 returns : tie.Need-returns
 returns c =
@@ -114,23 +61,23 @@ pub build-given-spec : {M : Type 1} → statement M
 build-given-spec =
     tie.close
     (tie.spec
-    edges-into-requires
-    add-first
-    mul-index
-    mul-index-2
+    (λ c κs. search needs)
+    (λ c. search needs)
+    (λ c. search needs)
+    (λ c. search needs)
     shared-slice-read-index
-    index-requires
-    mul-index-3
-    mul-index-4
-    add-index
-    mul-index-5
+    (λ c κs. search needs)
+    (λ c. search needs)
+    (λ c. search needs)
+    (λ c. search needs)
+    (λ c. search needs)
     shared-slice-read-index-2
-    index-requires-2
+    (λ c κs. search needs)
     build-columns-requires
-    same-length
-    same-length-2
-    same-length-3
-    same-length-4
-    same-length-5
-    same-length-6
+    (λ c. search needs)
+    (λ c. search needs)
+    (λ c. search needs)
+    (λ c. search needs)
+    (λ c. search needs)
+    (λ c. search needs)
     returns)

@@ -6,8 +6,6 @@ use Rattle.run_state.specs.Valid.{edgesOk, countsOk, below, earlier, rec
 use Rattle.run_state.specs.Blank.{blank}
 use Rattle.run_state.proofs.empty.fresh.Statement.{statement}
 use Rattle.run_state.proofs.empty.fresh.Tie as tie
-use Rattle.run_state.proofs.empty.fresh.Reads as reads
-use Rattle.run_state.proofs.empty.fresh.Lts as lts
 
 returns : tie.Need-returns
 unfolding computes slotsIn sheetIn heldIn edgesOk countsOk below earlier recordsOk sheetOk heldOk blank

@@ -8,8 +8,6 @@ use Rattle.run_state.proofs.order.Turns.{level-done, level-falls, level
 use borrow.Author.Needs.{needs}
 use Rattle.run_state.proofs.order.groups_level.Statement.{statement}
 use Rattle.run_state.proofs.order.groups_level.Tie as tie
-use Rattle.run_state.proofs.order.groups_level.Reads as reads
-use Rattle.run_state.proofs.order.groups_level.Lts as lts
 
 abbrev Inv-loop : tie.InvT-loop
 Inv-loop groups n low₀ i₀ low i =
@@ -21,17 +19,8 @@ abbrev μ-loop : tie.MeasureT-loop
 loop-holds : tie.Need-loop-holds Inv-loop μ-loop
 loop-holds c = search (needs, level-start)
 
-shared-slice-read-g : tie.Need-shared-slice-read-g Inv-loop μ-loop
-shared-slice-read-g c = search needs
-
 returns : tie.Need-returns Inv-loop μ-loop
 returns c = search (needs, level-falls)
-
-add-i : tie.Need-add-i Inv-loop μ-loop
-add-i c = search needs
-
-loop-less : tie.Need-loop-less Inv-loop μ-loop
-loop-less c = search needs
 
 loop-again : tie.Need-loop-again Inv-loop μ-loop
 loop-again c = search (needs, level-on)
@@ -46,9 +35,9 @@ groups-level-spec =
     Inv-loop
     μ-loop
     loop-holds
-    shared-slice-read-g
+    (λ c. search needs)
     returns
-    add-i
-    loop-less
+    (λ c. search needs)
+    (λ c. search needs)
     loop-again
     returns-2)

@@ -10,9 +10,6 @@ use Rattle.run_state.proofs.order.Turns.{group-past, group-there}
 use borrow.Author.Needs.{needs}
 use Rattle.run_state.proofs.order.groups_there.Statement.{statement}
 use Rattle.run_state.proofs.order.groups_there.Tie as tie
-use Rattle.run_state.proofs.order.groups_there.Reads as reads
-use Rattle.run_state.proofs.order.groups_there.Lts as lts
-use Rattle.run_state.proofs.order.number.Reads as number-reads
 
 abbrev Inv-loop : tie.InvT-loop
 Inv-loop groups n count i₀ i =
@@ -21,23 +18,8 @@ Inv-loop groups n count i₀ i =
 abbrev μ-loop : tie.MeasureT-loop
 μ-loop groups n count i₀ i = n - i
 
-loop-holds : tie.Need-loop-holds Inv-loop μ-loop
-loop-holds c = search needs
-
-shared-slice-read-number : tie.Need-shared-slice-read-number Inv-loop μ-loop
-shared-slice-read-number c = search needs
-
-number-requires : tie.Need-number-requires Inv-loop μ-loop
-number-requires c κs = search needs
-
 returns : tie.Need-returns Inv-loop μ-loop
 returns c = search (needs, group-past)
-
-add-i : tie.Need-add-i Inv-loop μ-loop
-add-i c = search needs
-
-loop-less : tie.Need-loop-less Inv-loop μ-loop
-loop-less c = search needs
 
 loop-again : tie.Need-loop-again Inv-loop μ-loop
 loop-again c = search (needs, group-there)
@@ -51,11 +33,11 @@ groups-there-spec =
     (tie.spec
     Inv-loop
     μ-loop
-    loop-holds
-    shared-slice-read-number
-    number-requires
+    (λ c. search needs)
+    (λ c. search needs)
+    (λ c κs. search needs)
     returns
-    add-i
-    loop-less
+    (λ c. search needs)
+    (λ c. search needs)
     loop-again
     returns-2)

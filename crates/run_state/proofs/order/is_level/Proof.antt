@@ -8,8 +8,6 @@ use Rattle.run_state.proofs.order.Turns.{level-done, level-falls, level
 use borrow.Author.Needs.{needs}
 use Rattle.run_state.proofs.order.is_level.Statement.{statement}
 use Rattle.run_state.proofs.order.is_level.Tie as tie
-use Rattle.run_state.proofs.order.is_level.Reads as reads
-use Rattle.run_state.proofs.order.is_level.Lts as lts
 
 abbrev Inv-loop : tie.InvT-loop
 Inv-loop column n low₀ i₀ low i =
@@ -21,20 +19,8 @@ abbrev μ-loop : tie.MeasureT-loop
 loop-holds : tie.Need-loop-holds Inv-loop μ-loop
 loop-holds c = search (needs, level-start)
 
-mul-x : tie.Need-mul-x Inv-loop μ-loop
-mul-x c = search needs
-
-shared-slice-read-x : tie.Need-shared-slice-read-x Inv-loop μ-loop
-shared-slice-read-x c = search needs
-
 returns : tie.Need-returns Inv-loop μ-loop
 returns c = search (needs, level-falls)
-
-add-i : tie.Need-add-i Inv-loop μ-loop
-add-i c = search needs
-
-loop-less : tie.Need-loop-less Inv-loop μ-loop
-loop-less c = search needs
 
 loop-again : tie.Need-loop-again Inv-loop μ-loop
 loop-again c = search (needs, level-on)
@@ -49,10 +35,10 @@ is-level-spec =
     Inv-loop
     μ-loop
     loop-holds
-    mul-x
-    shared-slice-read-x
+    (λ c. search needs)
+    (λ c. search needs)
     returns
-    add-i
-    loop-less
+    (λ c. search needs)
+    (λ c. search needs)
     loop-again
     returns-2)

@@ -9,9 +9,6 @@ use Rattle.run_state.proofs.order.Turns.{reach-done, reach-next, reach-
 use borrow.Author.Needs.{needs}
 use Rattle.run_state.proofs.order.reaches_all.Statement.{statement}
 use Rattle.run_state.proofs.order.reaches_all.Tie as tie
-use Rattle.run_state.proofs.order.reaches_all.Reads as reads
-use Rattle.run_state.proofs.order.reaches_all.Lts as lts
-use Rattle.run_state.proofs.order.number.Reads as number-reads
 
 abbrev Inv-loop : tie.InvT-loop
 Inv-loop groups n count seen₀ i₀ seen i =
@@ -19,24 +16,6 @@ Inv-loop groups n count seen₀ i₀ seen i =
 
 abbrev μ-loop : tie.MeasureT-loop
 μ-loop groups n count seen₀ i₀ seen i = n - i
-
-loop-holds : tie.Need-loop-holds Inv-loop μ-loop
-loop-holds c = search needs
-
-shared-slice-read-number : tie.Need-shared-slice-read-number Inv-loop μ-loop
-shared-slice-read-number c = search needs
-
-number-requires : tie.Need-number-requires Inv-loop μ-loop
-number-requires c κs = search needs
-
-add-seen : tie.Need-add-seen Inv-loop μ-loop
-add-seen c = search needs
-
-add-i : tie.Need-add-i Inv-loop μ-loop
-add-i c = search needs
-
-loop-less : tie.Need-loop-less Inv-loop μ-loop
-loop-less c = search needs
 
 loop-again : tie.Need-loop-again Inv-loop μ-loop
 loop-again c = ⊎-elim (λ w. search (needs, reach-next)) (λ w. search (needs, reach-on)) (c .if1 .came)
@@ -50,11 +29,11 @@ reaches-all-spec =
     (tie.spec
     Inv-loop
     μ-loop
-    loop-holds
-    shared-slice-read-number
-    number-requires
-    add-seen
-    add-i
-    loop-less
+    (λ c. search needs)
+    (λ c. search needs)
+    (λ c κs. search needs)
+    (λ c. search needs)
+    (λ c. search needs)
+    (λ c. search needs)
     loop-again
     returns)

@@ -8,8 +8,6 @@ use Rattle.run_state.proofs.order.Turns.{rise-done, rise-stops, rise-on
 use borrow.Author.Needs.{needs}
 use Rattle.run_state.proofs.order.rises_from.Statement.{statement}
 use Rattle.run_state.proofs.order.rises_from.Tie as tie
-use Rattle.run_state.proofs.order.rises_from.Reads as reads
-use Rattle.run_state.proofs.order.rises_from.Lts as lts
 
 abbrev Inv-loop : tie.InvT-loop
 Inv-loop column n first low₀ i₀ low i =
@@ -18,23 +16,8 @@ Inv-loop column n first low₀ i₀ low i =
 abbrev μ-loop : tie.MeasureT-loop
 μ-loop column n first low₀ i₀ low i = n - i
 
-loop-holds : tie.Need-loop-holds Inv-loop μ-loop
-loop-holds c = search needs
-
-mul-x : tie.Need-mul-x Inv-loop μ-loop
-mul-x c = search needs
-
-shared-slice-read-x : tie.Need-shared-slice-read-x Inv-loop μ-loop
-shared-slice-read-x c = search needs
-
 returns : tie.Need-returns Inv-loop μ-loop
 returns c = search (needs, rise-stops)
-
-add-i : tie.Need-add-i Inv-loop μ-loop
-add-i c = search needs
-
-loop-less : tie.Need-loop-less Inv-loop μ-loop
-loop-less c = search needs
 
 loop-again : tie.Need-loop-again Inv-loop μ-loop
 loop-again c = search (needs, rise-on)
@@ -48,11 +31,11 @@ rises-from-spec =
     (tie.spec
     Inv-loop
     μ-loop
-    loop-holds
-    mul-x
-    shared-slice-read-x
+    (λ c. search needs)
+    (λ c. search needs)
+    (λ c. search needs)
     returns
-    add-i
-    loop-less
+    (λ c. search needs)
+    (λ c. search needs)
     loop-again
     returns-2)

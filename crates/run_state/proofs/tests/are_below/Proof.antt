@@ -8,8 +8,6 @@ use Rattle.run_state.proofs.ColumnTurns.{all-done, not-below, below-on}
 use borrow.Author.Needs.{needs}
 use Rattle.run_state.proofs.tests.are_below.Statement.{statement}
 use Rattle.run_state.proofs.tests.are_below.Tie as tie
-use Rattle.run_state.proofs.tests.are_below.Reads as reads
-use Rattle.run_state.proofs.tests.are_below.Lts as lts
 
 abbrev Inv-loop : tie.InvT-loop
 Inv-loop event targets from to j₀ j =
@@ -18,23 +16,8 @@ Inv-loop event targets from to j₀ j =
 abbrev μ-loop : tie.MeasureT-loop
 μ-loop event targets from to j₀ j = to - j
 
-loop-holds : tie.Need-loop-holds Inv-loop μ-loop
-loop-holds c = search needs
-
-mul-if1 : tie.Need-mul-if1 Inv-loop μ-loop
-mul-if1 c = search needs
-
-shared-slice-read-if1 : tie.Need-shared-slice-read-if1 Inv-loop μ-loop
-shared-slice-read-if1 c = search needs
-
 returns : tie.Need-returns Inv-loop μ-loop
 returns c = search (needs, not-below)
-
-add-j : tie.Need-add-j Inv-loop μ-loop
-add-j c = search needs
-
-loop-less : tie.Need-loop-less Inv-loop μ-loop
-loop-less c = search needs
 
 loop-again : tie.Need-loop-again Inv-loop μ-loop
 loop-again c = search (needs, below-on)
@@ -48,11 +31,11 @@ are-below-spec =
     (tie.spec
     Inv-loop
     μ-loop
-    loop-holds
-    mul-if1
-    shared-slice-read-if1
+    (λ c. search needs)
+    (λ c. search needs)
+    (λ c. search needs)
     returns
-    add-j
-    loop-less
+    (λ c. search needs)
+    (λ c. search needs)
     loop-again
     returns-2)

@@ -8,9 +8,6 @@ use Rattle.run_state.proofs.ColumnTurns.{earlier-done, slot-late, slot-
 use borrow.Author.Needs.{needs}
 use Rattle.run_state.proofs.tests.are_earlier.Statement.{statement}
 use Rattle.run_state.proofs.tests.are_earlier.Tie as tie
-use Rattle.run_state.proofs.tests.are_earlier.Reads as reads
-use Rattle.run_state.proofs.tests.are_earlier.Lts as lts
-use Rattle.run_state.proofs.tests.slot_earlier.Reads as slot-earlier-reads
 
 abbrev Inv-loop : tie.InvT-loop
 Inv-loop first rows offsets targets s₀ s =
@@ -19,23 +16,8 @@ Inv-loop first rows offsets targets s₀ s =
 abbrev μ-loop : tie.MeasureT-loop
 μ-loop first rows offsets targets s₀ s = 2 * rows - s
 
-loop-holds : tie.Need-loop-holds Inv-loop μ-loop
-loop-holds c = search needs
-
-mul-loop : tie.Need-mul-loop Inv-loop μ-loop
-mul-loop c = search needs
-
-slot-earlier-requires : tie.Need-slot-earlier-requires Inv-loop μ-loop
-slot-earlier-requires c κs = search needs
-
 returns : tie.Need-returns Inv-loop μ-loop
 returns c = search (needs, slot-late)
-
-add-s : tie.Need-add-s Inv-loop μ-loop
-add-s c = search needs
-
-loop-less : tie.Need-loop-less Inv-loop μ-loop
-loop-less c = search needs
 
 loop-again : tie.Need-loop-again Inv-loop μ-loop
 loop-again c = search (needs, slot-early)
@@ -49,11 +31,11 @@ are-earlier-spec =
     (tie.spec
     Inv-loop
     μ-loop
-    loop-holds
-    mul-loop
-    slot-earlier-requires
+    (λ c. search needs)
+    (λ c. search needs)
+    (λ c κs. search needs)
     returns
-    add-s
-    loop-less
+    (λ c. search needs)
+    (λ c. search needs)
     loop-again
     returns-2)

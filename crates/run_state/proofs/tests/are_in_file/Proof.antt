@@ -9,9 +9,6 @@ use Rattle.run_state.proofs.ColumnTurns.{all-done, outside, inside-on}
 use borrow.Author.Needs.{needs}
 use Rattle.run_state.proofs.tests.are_in_file.Statement.{statement}
 use Rattle.run_state.proofs.tests.are_in_file.Tie as tie
-use Rattle.run_state.proofs.tests.are_in_file.Reads as reads
-use Rattle.run_state.proofs.tests.are_in_file.Lts as lts
-use Rattle.columns_rules.proofs.records.parts.is_in_file.Reads as is-in-file-reads
 
 abbrev Inv-loop : tie.InvT-loop
 Inv-loop first rows list n i₀ i =
@@ -20,26 +17,8 @@ Inv-loop first rows list n i₀ i =
 abbrev μ-loop : tie.MeasureT-loop
 μ-loop first rows list n i₀ i = n - i
 
-loop-holds : tie.Need-loop-holds Inv-loop μ-loop
-loop-holds c = search needs
-
-mul-is-in-file : tie.Need-mul-is-in-file Inv-loop μ-loop
-mul-is-in-file c = search needs
-
-shared-slice-read-is-in-file : tie.Need-shared-slice-read-is-in-file Inv-loop μ-loop
-shared-slice-read-is-in-file c = search needs
-
-is-in-file-requires : tie.Need-is-in-file-requires Inv-loop μ-loop
-is-in-file-requires c κs = search needs
-
 returns : tie.Need-returns Inv-loop μ-loop
 returns c = search (needs, outside)
-
-add-i : tie.Need-add-i Inv-loop μ-loop
-add-i c = search needs
-
-loop-less : tie.Need-loop-less Inv-loop μ-loop
-loop-less c = search needs
 
 loop-again : tie.Need-loop-again Inv-loop μ-loop
 loop-again c = search (needs, inside-on)
@@ -53,12 +32,12 @@ are-in-file-spec =
     (tie.spec
     Inv-loop
     μ-loop
-    loop-holds
-    mul-is-in-file
-    shared-slice-read-is-in-file
-    is-in-file-requires
+    (λ c. search needs)
+    (λ c. search needs)
+    (λ c. search needs)
+    (λ c κs. search needs)
     returns
-    add-i
-    loop-less
+    (λ c. search needs)
+    (λ c. search needs)
     loop-again
     returns-2)

@@ -3,15 +3,6 @@ use Rattle.run_state.proofs.ColumnTurns.{table-count, numbers-count, fo
 use borrow.Author.Needs.{needs}
 use Rattle.run_state.proofs.tests.order_ok.Statement.{statement}
 use Rattle.run_state.proofs.tests.order_ok.Tie as tie
-use Rattle.run_state.proofs.tests.order_ok.Reads as reads
-use Rattle.run_state.proofs.tests.order_ok.Lts as lts
-use Rattle.run_state.proofs.tests.are_earlier.Reads as are-earlier-reads
-
-mul-k : tie.Need-mul-k
-mul-k c = search needs
-
-add-k : tie.Need-add-k
-add-k c = search needs
 
 slice-aggregate-are-earlier : tie.Need-slice-aggregate-are-earlier
 slice-aggregate-are-earlier c = search table-count
@@ -22,16 +13,13 @@ slice-aggregate-are-earlier-2 c = search numbers-count
 are-earlier-requires : tie.Need-are-earlier-requires
 are-earlier-requires c κs = (search needs, search form-cut)
 
-returns : tie.Need-returns
-returns c = search needs
-
 pub order-ok-spec : {M : Type 1} → statement M
 order-ok-spec =
     tie.close
     (tie.spec
-    mul-k
-    add-k
+    (λ c. search needs)
+    (λ c. search needs)
     slice-aggregate-are-earlier
     slice-aggregate-are-earlier-2
     are-earlier-requires
-    returns)
+    (λ c. search needs))

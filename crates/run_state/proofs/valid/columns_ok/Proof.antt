@@ -4,20 +4,11 @@ use borrow.Author.Needs.{needs}
 use Rattle.run_state.proofs.valid.columns_ok.Statement.{statement}
 use Rattle.run_state.proofs.valid.columns_ok.Tie as tie
 
-edges-ok-requires : tie.Need-edges-ok-requires
-edges-ok-requires c κs = search needs
-
 returns : tie.Need-returns
 returns c = search bad-table
 
-are-in-file-requires : tie.Need-are-in-file-requires
-are-in-file-requires c κs = search needs
-
 returns-2 : tie.Need-returns-2
 returns-2 c = search child-outside
-
-are-below-requires : tie.Need-are-below-requires
-are-below-requires c κs = search needs
 
 returns-3 : tie.Need-returns-3
 returns-3 c = search root-outside
@@ -32,11 +23,11 @@ pub columns-ok-spec : {M : Type 1} → statement M
 columns-ok-spec =
     tie.close
     (tie.spec
-    edges-ok-requires
+    (λ c κs. search needs)
     returns
-    are-in-file-requires
+    (λ c κs. search needs)
     returns-2
-    are-below-requires
+    (λ c κs. search needs)
     returns-3
     order-ok-requires
     returns-4)

@@ -3,8 +3,6 @@ use Rattle.run_state.proofs.Verdicts.{long-subject, many-groups, many-r
 use borrow.Author.Needs.{needs}
 use Rattle.run_state.proofs.valid.counts_ok.Statement.{statement}
 use Rattle.run_state.proofs.valid.counts_ok.Tie as tie
-use Rattle.run_state.proofs.valid.counts_ok.Reads as reads
-use Rattle.run_state.proofs.valid.counts_ok.Lts as lts
 
 returns : tie.Need-returns
 returns c = search long-subject
@@ -24,13 +22,10 @@ returns-5 c = search many-roots
 returns-6 : tie.Need-returns-6
 returns-6 c = search many-links
 
-sub-result : tie.Need-sub-result
-sub-result c = search needs
-
 returns-7 : tie.Need-returns-7
 returns-7 c = search counts-last
 
 pub counts-ok-spec : {M : Type 1} → statement M
 counts-ok-spec =
     tie.close
-    (tie.spec returns returns-2 returns-3 returns-4 returns-5 returns-6 sub-result returns-7)
+    (tie.spec returns returns-2 returns-3 returns-4 returns-5 returns-6 (λ c. search needs) returns-7)

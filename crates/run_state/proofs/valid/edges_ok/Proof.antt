@@ -7,11 +7,8 @@ use Rattle.run_state.proofs.valid.edges_ok.Tie as tie
 returns : tie.Need-returns
 returns c = search many-numbers
 
-table-ok-requires : tie.Need-table-ok-requires
-table-ok-requires c κs = search needs
-
 returns-2 : tie.Need-returns-2
 returns-2 c = search table-test
 
 pub edges-ok-spec : {M : Type 1} → statement M
-edges-ok-spec = tie.close (tie.spec returns table-ok-requires returns-2)
+edges-ok-spec = tie.close (tie.spec returns (λ c κs. search needs) returns-2)

@@ -6,8 +6,6 @@ use mathlib.Core.Path.{_≡_}
 use borrow.Author.Needs.{needs}
 use Rattle.run_store.proofs.grow.fill.Statement.{statement}
 use Rattle.run_store.proofs.grow.fill.Tie as tie
-use Rattle.run_store.proofs.grow.fill.Reads as reads
-use Rattle.run_store.proofs.grow.fill.Lts as lts
 
 abbrev Inv-loop : tie.InvT-loop
 Inv-loop out₀ at n x i₀ out i = (i ≤ n) × (sets out₀ at (replicate n x) ≡ sets out (at + i) (replicate (n - i) x))
@@ -17,18 +15,6 @@ abbrev μ-loop : tie.MeasureT-loop
 
 loop-holds : tie.Need-loop-holds Inv-loop μ-loop
 loop-holds c = (search needs, search fill-starts)
-
-add-out : tie.Need-add-out Inv-loop μ-loop
-add-out c = search needs
-
-element-write-out : tie.Need-element-write-out Inv-loop μ-loop
-element-write-out c = search needs
-
-add-i : tie.Need-add-i Inv-loop μ-loop
-add-i c = search needs
-
-loop-less : tie.Need-loop-less Inv-loop μ-loop
-loop-less c = search needs
 
 loop-again : tie.Need-loop-again Inv-loop μ-loop
 loop-again c = (search needs, search one-filled)
@@ -43,9 +29,9 @@ fill-spec =
     Inv-loop
     μ-loop
     loop-holds
-    add-out
-    element-write-out
-    add-i
-    loop-less
+    (λ c. search needs)
+    (λ c. search needs)
+    (λ c. search needs)
+    (λ c. search needs)
     loop-again
     returns)

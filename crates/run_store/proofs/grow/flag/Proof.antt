@@ -1,8 +1,6 @@
 use Rattle.run_store.proofs.grow.Turns.{is-flag, no-flag}
 use Rattle.run_store.proofs.grow.flag.Statement.{statement}
 use Rattle.run_store.proofs.grow.flag.Tie as tie
-use Rattle.run_store.proofs.grow.flag.Reads as reads
-use Rattle.run_store.proofs.grow.flag.Lts as lts
 
 returns : tie.Need-returns
 returns c = search is-flag

@@ -9,9 +9,6 @@ use mathlib.Core.Path.{_≡_}
 use borrow.Author.Needs.{needs}
 use Rattle.run_store.proofs.grow.put_flags.Statement.{statement}
 use Rattle.run_store.proofs.grow.put_flags.Tie as tie
-use Rattle.run_store.proofs.grow.put_flags.Reads as reads
-use Rattle.run_store.proofs.grow.put_flags.Lts as lts
-use Rattle.run_store.proofs.grow.flag.Reads as flag-reads
 
 abbrev Inv-loop : tie.InvT-loop
 Inv-loop out₀ at bytes base width n i₀ p₀ out i p = (i ≤ n) × Room (length bytes) p width (n - i)
@@ -26,23 +23,8 @@ loop-holds c = (search needs, search room-starts, search put-starts)
 shared-slice-read-flag : tie.Need-shared-slice-read-flag Inv-loop μ-loop
 shared-slice-read-flag c = let h = room-here _ _ _ _ _ (c .before .loop-test .taken) (c .before .before .loop .inv .1) in search needs
 
-flag-requires : tie.Need-flag-requires Inv-loop μ-loop
-flag-requires c κs = search needs
-
-add-out : tie.Need-add-out Inv-loop μ-loop
-add-out c = search needs
-
-element-write-out : tie.Need-element-write-out Inv-loop μ-loop
-element-write-out c = search needs
-
-add-i : tie.Need-add-i Inv-loop μ-loop
-add-i c = search needs
-
 add-p : tie.Need-add-p Inv-loop μ-loop
 add-p c = let h = room-here _ _ _ _ _ (c .before .before .loop-test .taken) (c .before .before .before .loop .inv .1) in search needs
-
-loop-less : tie.Need-loop-less Inv-loop μ-loop
-loop-less c = search needs
 
 loop-again : tie.Need-loop-again Inv-loop μ-loop
 loop-again c = (search needs, search room-next, search flag-put)
@@ -58,11 +40,11 @@ put-flags-spec =
     μ-loop
     loop-holds
     shared-slice-read-flag
-    flag-requires
-    add-out
-    element-write-out
-    add-i
+    (λ c κs. search needs)
+    (λ c. search needs)
+    (λ c. search needs)
+    (λ c. search needs)
     add-p
-    loop-less
+    (λ c. search needs)
     loop-again
     returns)

@@ -8,9 +8,6 @@ use mathlib.Core.Path.{_≡_}
 use borrow.Author.Needs.{needs}
 use Rattle.run_store.proofs.grow.put_moved.Statement.{statement}
 use Rattle.run_store.proofs.grow.put_moved.Tie as tie
-use Rattle.run_store.proofs.grow.put_moved.Reads as reads
-use Rattle.run_store.proofs.grow.put_moved.Lts as lts
-use Rattle.archive_bytes.proofs.load_u64.Reads as load-u64-reads
 
 abbrev Inv-loop : tie.InvT-loop
 Inv-loop out₀ at bytes base width skip n add i₀ p₀ out i p = (i ≤ n) × Room (length bytes) p width (n - i) × Small (several width (λ l. be 8 l skip) (n - i) (drop p bytes))
@@ -31,23 +28,8 @@ load-u64-requires c κs = search number-inside
 add-out : tie.Need-add-out Inv-loop μ-loop
 add-out c = small-fits _ _ _ _ _ _ (c .before .loop-test .taken) (c .before .before .loop .inv .2) _ _ (c .before .before .before .before .pre .1 .0) (c .load-u64 .ensures)
 
-add-out-2 : tie.Need-add-out-2 Inv-loop μ-loop
-add-out-2 c = search needs
-
-mul-out : tie.Need-mul-out Inv-loop μ-loop
-mul-out c = search needs
-
-element-write-out : tie.Need-element-write-out Inv-loop μ-loop
-element-write-out c = search needs
-
-add-i : tie.Need-add-i Inv-loop μ-loop
-add-i c = search needs
-
 add-p : tie.Need-add-p Inv-loop μ-loop
 add-p c = let h = room-here _ _ _ _ _ (c .before .loop-test .taken) (c .before .before .loop .inv .1) in search needs
-
-loop-less : tie.Need-loop-less Inv-loop μ-loop
-loop-less c = search needs
 
 loop-again : tie.Need-loop-again Inv-loop μ-loop
 loop-again c = (search needs, search room-next, small-next _ _ _ _ (c .before .before .before .before .args .bytes .now) (c .before .before .loop .p) (c .before .loop-test .taken) (c .before .before .loop .inv .2), moved-put _ _ _ _ (c .before .before .before .before .args .bytes .now) (c .before .before .loop .p) _ (c .before .loop-test .taken) _ _ (c .before .before .loop .inv .3) (c .load-u64 .ensures))
@@ -65,11 +47,11 @@ put-moved-spec =
     add-load-u64
     load-u64-requires
     add-out
-    add-out-2
-    mul-out
-    element-write-out
-    add-i
+    (λ c. search needs)
+    (λ c. search needs)
+    (λ c. search needs)
+    (λ c. search needs)
     add-p
-    loop-less
+    (λ c. search needs)
     loop-again
     returns)

@@ -7,8 +7,6 @@ use mathlib.Core.Path.{_≡_}
 use borrow.Author.Needs.{needs}
 use Rattle.run_store.proofs.grow.put_offsets.Statement.{statement}
 use Rattle.run_store.proofs.grow.put_offsets.Tie as tie
-use Rattle.run_store.proofs.grow.put_offsets.Reads as reads
-use Rattle.run_store.proofs.grow.put_offsets.Lts as lts
 
 abbrev Inv-loop : tie.InvT-loop
 Inv-loop out₀ at offsets count add i₀ out i = (1 ≤ i) × (i ≤ length offsets) × (sets out₀ (at + 1) (map (λ o. add + o) (drop 1 offsets)) ≡ sets out (at + i) (map (λ o. add + o) (drop i offsets)))
@@ -19,29 +17,8 @@ abbrev μ-loop : tie.MeasureT-loop
 loop-holds : tie.Need-loop-holds Inv-loop μ-loop
 loop-holds c = (search needs, search offsets-start, search needs)
 
-mul-out : tie.Need-mul-out Inv-loop μ-loop
-mul-out c = search needs
-
-shared-slice-read-out : tie.Need-shared-slice-read-out Inv-loop μ-loop
-shared-slice-read-out c = search needs
-
 add-out : tie.Need-add-out Inv-loop μ-loop
 add-out c = search offset-fits
-
-add-out-2 : tie.Need-add-out-2 Inv-loop μ-loop
-add-out-2 c = search needs
-
-mul-out-2 : tie.Need-mul-out-2 Inv-loop μ-loop
-mul-out-2 c = search needs
-
-element-write-out : tie.Need-element-write-out Inv-loop μ-loop
-element-write-out c = search needs
-
-add-i : tie.Need-add-i Inv-loop μ-loop
-add-i c = search needs
-
-loop-less : tie.Need-loop-less Inv-loop μ-loop
-loop-less c = search needs
 
 loop-again : tie.Need-loop-again Inv-loop μ-loop
 loop-again c = (search needs, search needs, search offset-more)
@@ -56,13 +33,13 @@ put-offsets-spec =
     Inv-loop
     μ-loop
     loop-holds
-    mul-out
-    shared-slice-read-out
+    (λ c. search needs)
+    (λ c. search needs)
     add-out
-    add-out-2
-    mul-out-2
-    element-write-out
-    add-i
-    loop-less
+    (λ c. search needs)
+    (λ c. search needs)
+    (λ c. search needs)
+    (λ c. search needs)
+    (λ c. search needs)
     loop-again
     returns)

@@ -9,9 +9,6 @@ use mathlib.Core.Path.{_≡_}
 use borrow.Author.Needs.{needs}
 use Rattle.run_store.proofs.grow.put_sums.Statement.{statement}
 use Rattle.run_store.proofs.grow.put_sums.Tie as tie
-use Rattle.run_store.proofs.grow.put_sums.Reads as reads
-use Rattle.run_store.proofs.grow.put_sums.Lts as lts
-use Rattle.archive_bytes.proofs.load_u32.Reads as load-u32-reads
 
 abbrev Inv-loop : tie.InvT-loop
 Inv-loop out₀ at bytes base n i₀ p₀ sum₀ out i p sum = (i ≤ n) × Room (length bytes) p 4 (n - i) × Fitting sum (column 4 (n - i) bytes p)
@@ -32,23 +29,8 @@ add-sum c = search sum-fits
 cast-out : tie.Need-cast-out Inv-loop μ-loop
 cast-out c = search sum-short
 
-add-out : tie.Need-add-out Inv-loop μ-loop
-add-out c = search needs
-
-mul-out : tie.Need-mul-out Inv-loop μ-loop
-mul-out c = search needs
-
-element-write-out : tie.Need-element-write-out Inv-loop μ-loop
-element-write-out c = search needs
-
-add-i : tie.Need-add-i Inv-loop μ-loop
-add-i c = search needs
-
 add-p : tie.Need-add-p Inv-loop μ-loop
 add-p c = let h = room-here _ _ _ _ _ (c .before .loop-test .taken) (c .before .before .loop .inv .1) in search needs
-
-loop-less : tie.Need-loop-less Inv-loop μ-loop
-loop-less c = search needs
 
 loop-again : tie.Need-loop-again Inv-loop μ-loop
 loop-again c = (search needs, search room-next, search fitting-next, search one-summed)
@@ -66,11 +48,11 @@ put-sums-spec =
     load-u32-requires
     add-sum
     cast-out
-    add-out
-    mul-out
-    element-write-out
-    add-i
+    (λ c. search needs)
+    (λ c. search needs)
+    (λ c. search needs)
+    (λ c. search needs)
     add-p
-    loop-less
+    (λ c. search needs)
     loop-again
     returns)

@@ -8,9 +8,6 @@ use mathlib.Core.Path.{_≡_}
 use borrow.Author.Needs.{needs}
 use Rattle.run_store.proofs.grow.put_u32s.Statement.{statement}
 use Rattle.run_store.proofs.grow.put_u32s.Tie as tie
-use Rattle.run_store.proofs.grow.put_u32s.Reads as reads
-use Rattle.run_store.proofs.grow.put_u32s.Lts as lts
-use Rattle.archive_bytes.proofs.load_u32.Reads as load-u32-reads
 
 abbrev Inv-loop : tie.InvT-loop
 Inv-loop out₀ at bytes base width skip n i₀ p₀ out i p = (i ≤ n) × Room (length bytes) p width (n - i)
@@ -28,26 +25,8 @@ add-load-u32 c = let h = room-here _ _ _ _ _ (c .loop-test .taken) (c .before .l
 load-u32-requires : tie.Need-load-u32-requires Inv-loop μ-loop
 load-u32-requires c κs = search number-inside
 
-cast-out : tie.Need-cast-out Inv-loop μ-loop
-cast-out c = search needs
-
-add-out : tie.Need-add-out Inv-loop μ-loop
-add-out c = search needs
-
-mul-out : tie.Need-mul-out Inv-loop μ-loop
-mul-out c = search needs
-
-element-write-out : tie.Need-element-write-out Inv-loop μ-loop
-element-write-out c = search needs
-
-add-i : tie.Need-add-i Inv-loop μ-loop
-add-i c = search needs
-
 add-p : tie.Need-add-p Inv-loop μ-loop
 add-p c = let h = room-here _ _ _ _ _ (c .before .loop-test .taken) (c .before .before .loop .inv .1) in search needs
-
-loop-less : tie.Need-loop-less Inv-loop μ-loop
-loop-less c = search needs
 
 loop-again : tie.Need-loop-again Inv-loop μ-loop
 loop-again c = (search needs, search room-next, number-put _ _ _ _ (c .before .before .before .before .args .bytes .now) (c .before .before .loop .p) _ (c .before .loop-test .taken) 4 _ (c .before .before .loop .inv .2) (c .load-u32 .ensures .0))
@@ -64,12 +43,12 @@ put-u32s-spec =
     loop-holds
     add-load-u32
     load-u32-requires
-    cast-out
-    add-out
-    mul-out
-    element-write-out
-    add-i
+    (λ c. search needs)
+    (λ c. search needs)
+    (λ c. search needs)
+    (λ c. search needs)
+    (λ c. search needs)
     add-p
-    loop-less
+    (λ c. search needs)
     loop-again
     returns)

@@ -8,8 +8,6 @@ use mathlib.Core.Path.{_≡_}
 use borrow.Author.Needs.{needs}
 use Rattle.run_store.proofs.grow.put_u8s.Statement.{statement}
 use Rattle.run_store.proofs.grow.put_u8s.Tie as tie
-use Rattle.run_store.proofs.grow.put_u8s.Reads as reads
-use Rattle.run_store.proofs.grow.put_u8s.Lts as lts
 
 abbrev Inv-loop : tie.InvT-loop
 Inv-loop out₀ at bytes base width skip n i₀ p₀ out i p = (i ≤ n) × Room (length bytes) p width (n - i)
@@ -27,20 +25,8 @@ add-out c = let h = room-here _ _ _ _ _ (c .loop-test .taken) (c .before .loop .
 shared-slice-read-out : tie.Need-shared-slice-read-out Inv-loop μ-loop
 shared-slice-read-out c = let h = room-here _ _ _ _ _ (c .before .loop-test .taken) (c .before .before .loop .inv .1) in search needs
 
-add-out-2 : tie.Need-add-out-2 Inv-loop μ-loop
-add-out-2 c = search needs
-
-element-write-out : tie.Need-element-write-out Inv-loop μ-loop
-element-write-out c = search needs
-
-add-i : tie.Need-add-i Inv-loop μ-loop
-add-i c = search needs
-
 add-p : tie.Need-add-p Inv-loop μ-loop
 add-p c = let h = room-here _ _ _ _ _ (c .before .loop-test .taken) (c .before .before .loop .inv .1) in search needs
-
-loop-less : tie.Need-loop-less Inv-loop μ-loop
-loop-less c = search needs
 
 loop-again : tie.Need-loop-again Inv-loop μ-loop
 loop-again c = (search needs, search room-next, search byte-put)
@@ -57,10 +43,10 @@ put-u8s-spec =
     loop-holds
     add-out
     shared-slice-read-out
-    add-out-2
-    element-write-out
-    add-i
+    (λ c. search needs)
+    (λ c. search needs)
+    (λ c. search needs)
     add-p
-    loop-less
+    (λ c. search needs)
     loop-again
     returns)

@@ -8,11 +8,6 @@ use Rattle.run_store.proofs.links.LinkTurns.{linksNow, links-start, no-
 use borrow.Author.Needs.{needs}
 use Rattle.run_store.proofs.links.grow_links.Statement.{statement}
 use Rattle.run_store.proofs.links.grow_links.Tie as tie
-use Rattle.run_store.proofs.links.grow_links.Reads as reads
-use Rattle.run_store.proofs.links.grow_links.Lts as lts
-use Rattle.archive_read.proofs.records.file_at.Reads as file-at-reads
-use Rattle.run_store.proofs.links.add_links.Reads as add-links-reads
-use Rattle.run_store.proofs.turns.next.Reads as next-reads
 
 abbrev Inv-loop : tie.InvT-loop
 Inv-loop h groups₀ chains₀ seqs₀ tochains₀ toseqs₀ count bytes c₀ k₀ p₀ groups chains seqs tochains toseqs c k p = (p ≤ length bytes) × (k ≤ p) × Walk linksNow h (linksOf c groups chains seqs tochains toseqs) bytes k p
@@ -22,15 +17,6 @@ abbrev μ-loop : tie.MeasureT-loop
 
 loop-holds : tie.Need-loop-holds Inv-loop μ-loop
 loop-holds c = (search needs, search needs, search links-start)
-
-file-at-requires : tie.Need-file-at-requires Inv-loop μ-loop
-file-at-requires c κs = search needs
-
-enum-known-x : tie.Need-enum-known-x Inv-loop μ-loop
-enum-known-x c = search needs
-
-enum-told : tie.Need-enum-told Inv-loop μ-loop
-enum-told c = search needs
 
 add-links-requires : tie.Need-add-links-requires Inv-loop μ-loop
 add-links-requires c κs = ((search links-hold, (search links-sums, search links-uncovers)), (search links-room, (search links-rows, search links-ranges)))
@@ -60,9 +46,9 @@ grow-links-spec =
     Inv-loop
     μ-loop
     loop-holds
-    file-at-requires
-    enum-known-x
-    enum-told
+    (λ c κs. search needs)
+    (λ c. search needs)
+    (λ c. search needs)
     add-links-requires
     add-c
     next-requires

@@ -3,12 +3,6 @@ use Rattle.run_store.proofs.names.NameTurns.{fresh-put, fresh-not}
 use borrow.Author.Needs.{needs}
 use Rattle.run_store.proofs.names.add_subject.Statement.{statement}
 use Rattle.run_store.proofs.names.add_subject.Tie as tie
-use Rattle.run_store.proofs.names.add_subject.Reads as reads
-use Rattle.run_store.proofs.names.add_subject.Lts as lts
-use Rattle.run_store.proofs.names.put_subject.Reads as put-subject-reads
-
-put-subject-requires : tie.Need-put-subject-requires
-put-subject-requires c κs = search needs
 
 returns : tie.Need-returns
 returns c = search fresh-put
@@ -17,4 +11,4 @@ returns-2 : tie.Need-returns-2
 returns-2 c = search fresh-not
 
 pub add-subject-spec : {M : Type 1} → statement M
-add-subject-spec = tie.close (tie.spec put-subject-requires returns returns-2)
+add-subject-spec = tie.close (tie.spec (λ c κs. search needs) returns returns-2)

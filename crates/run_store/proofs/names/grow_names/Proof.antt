@@ -8,11 +8,6 @@ use Rattle.run_store.proofs.names.NameTurns.{names-start, names-none, n
 use borrow.Author.Needs.{needs}
 use Rattle.run_store.proofs.names.grow_names.Statement.{statement}
 use Rattle.run_store.proofs.names.grow_names.Tie as tie
-use Rattle.run_store.proofs.names.grow_names.Reads as reads
-use Rattle.run_store.proofs.names.grow_names.Lts as lts
-use Rattle.archive_read.proofs.records.file_at.Reads as file-at-reads
-use Rattle.run_store.proofs.names.add_names.Reads as add-names-reads
-use Rattle.run_store.proofs.turns.next.Reads as next-reads
 
 abbrev Inv-loop : tie.InvT-loop
 Inv-loop h bytes q₀ k₀ p₀ q k p = (p ≤ length bytes) × (k ≤ p) × Walk namesOf h q bytes k p
@@ -22,15 +17,6 @@ abbrev μ-loop : tie.MeasureT-loop
 
 loop-holds : tie.Need-loop-holds Inv-loop μ-loop
 loop-holds c = (search needs, search needs, search names-start)
-
-file-at-requires : tie.Need-file-at-requires Inv-loop μ-loop
-file-at-requires c κs = search needs
-
-enum-known-x : tie.Need-enum-known-x Inv-loop μ-loop
-enum-known-x c = search needs
-
-enum-told : tie.Need-enum-told Inv-loop μ-loop
-enum-told c = search needs
 
 add-names-requires : tie.Need-add-names-requires Inv-loop μ-loop
 add-names-requires c κs = search names-room
@@ -57,9 +43,9 @@ grow-names-spec =
     Inv-loop
     μ-loop
     loop-holds
-    file-at-requires
-    enum-known-x
-    enum-told
+    (λ c κs. search needs)
+    (λ c. search needs)
+    (λ c. search needs)
     add-names-requires
     next-requires
     loop-less

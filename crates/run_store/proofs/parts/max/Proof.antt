@@ -1,8 +1,6 @@
 use Rattle.run_store.proofs.parts.Made.{second-more, first-most}
 use Rattle.run_store.proofs.parts.max.Statement.{statement}
 use Rattle.run_store.proofs.parts.max.Tie as tie
-use Rattle.run_store.proofs.parts.max.Reads as reads
-use Rattle.run_store.proofs.parts.max.Lts as lts
 
 returns : tie.Need-returns
 returns c = search second-more

@@ -1,8 +1,6 @@
 use Rattle.run_store.proofs.parts.Made.{second-less, first-least}
 use Rattle.run_store.proofs.parts.min.Statement.{statement}
 use Rattle.run_store.proofs.parts.min.Tie as tie
-use Rattle.run_store.proofs.parts.min.Reads as reads
-use Rattle.run_store.proofs.parts.min.Lts as lts
 
 returns : tie.Need-returns
 returns c = search second-less

@@ -1,8 +1,6 @@
 use Rattle.run_store.proofs.parts.Made.{flag-is, flag-is-not}
 use Rattle.run_store.proofs.parts.where_flagged.Statement.{statement}
 use Rattle.run_store.proofs.parts.where_flagged.Tie as tie
-use Rattle.run_store.proofs.parts.where_flagged.Reads as reads
-use Rattle.run_store.proofs.parts.where_flagged.Lts as lts
 
 returns : tie.Need-returns
 returns c = search flag-is

@@ -8,11 +8,6 @@ use Rattle.run_store.proofs.records.RecordTurns.{rootsNow, roots-start,
 use borrow.Author.Needs.{needs}
 use Rattle.run_store.proofs.records.grow_roots.Statement.{statement}
 use Rattle.run_store.proofs.records.grow_roots.Tie as tie
-use Rattle.run_store.proofs.records.grow_roots.Reads as reads
-use Rattle.run_store.proofs.records.grow_roots.Lts as lts
-use Rattle.archive_read.proofs.records.file_at.Reads as file-at-reads
-use Rattle.run_store.proofs.records.add_roots.Reads as add-roots-reads
-use Rattle.run_store.proofs.turns.next.Reads as next-reads
 
 abbrev Inv-loop : tie.InvT-loop
 Inv-loop h rows₀ handles₀ count before bytes c₀ n₀ k₀ p₀ rows handles c n k p = (p ≤ length bytes) × (k ≤ p) × Walk rootsNow h (rootsOf c rows handles, n) bytes k p
@@ -23,23 +18,11 @@ abbrev μ-loop : tie.MeasureT-loop
 loop-holds : tie.Need-loop-holds Inv-loop μ-loop
 loop-holds c = (search needs, search needs, search roots-start)
 
-file-at-requires : tie.Need-file-at-requires Inv-loop μ-loop
-file-at-requires c κs = search needs
-
-enum-known-x : tie.Need-enum-known-x Inv-loop μ-loop
-enum-known-x c = search needs
-
-enum-told : tie.Need-enum-told Inv-loop μ-loop
-enum-told c = search needs
-
 add-roots-requires : tie.Need-add-roots-requires Inv-loop μ-loop
 add-roots-requires c κs = ((search roots-hold, (search roots-room, search rows-few)), search roots-inside)
 
 add-c : tie.Need-add-c Inv-loop μ-loop
 add-c c = search roots-fit
-
-cast-n : tie.Need-cast-n Inv-loop μ-loop
-cast-n c = search needs
 
 add-n : tie.Need-add-n Inv-loop μ-loop
 add-n c = search rows-fit
@@ -66,12 +49,12 @@ grow-roots-spec =
     Inv-loop
     μ-loop
     loop-holds
-    file-at-requires
-    enum-known-x
-    enum-told
+    (λ c κs. search needs)
+    (λ c. search needs)
+    (λ c. search needs)
     add-roots-requires
     add-c
-    cast-n
+    (λ c. search needs)
     add-n
     next-requires
     loop-less

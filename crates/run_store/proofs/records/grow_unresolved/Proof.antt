@@ -8,11 +8,6 @@ use Rattle.run_store.proofs.records.RecordTurns.{unresolvedNow, unresol
 use borrow.Author.Needs.{needs}
 use Rattle.run_store.proofs.records.grow_unresolved.Statement.{statement}
 use Rattle.run_store.proofs.records.grow_unresolved.Tie as tie
-use Rattle.run_store.proofs.records.grow_unresolved.Reads as reads
-use Rattle.run_store.proofs.records.grow_unresolved.Lts as lts
-use Rattle.archive_read.proofs.records.file_at.Reads as file-at-reads
-use Rattle.run_store.proofs.records.add_unresolved.Reads as add-unresolved-reads
-use Rattle.run_store.proofs.turns.next.Reads as next-reads
 
 abbrev Inv-loop : tie.InvT-loop
 Inv-loop h children₀ kinds₀ handles₀ count bytes c₀ k₀ p₀ children kinds handles c k p = (p ≤ length bytes) × (k ≤ p) × Walk unresolvedNow h (unresolvedOf c children kinds handles) bytes k p
@@ -22,15 +17,6 @@ abbrev μ-loop : tie.MeasureT-loop
 
 loop-holds : tie.Need-loop-holds Inv-loop μ-loop
 loop-holds c = (search needs, search needs, search unresolved-start)
-
-file-at-requires : tie.Need-file-at-requires Inv-loop μ-loop
-file-at-requires c κs = search needs
-
-enum-known-x : tie.Need-enum-known-x Inv-loop μ-loop
-enum-known-x c = search needs
-
-enum-told : tie.Need-enum-told Inv-loop μ-loop
-enum-told c = search needs
 
 add-unresolved-requires : tie.Need-add-unresolved-requires Inv-loop μ-loop
 add-unresolved-requires c κs = (search unresolved-holds, search unresolved-room)
@@ -60,9 +46,9 @@ grow-unresolved-spec =
     Inv-loop
     μ-loop
     loop-holds
-    file-at-requires
-    enum-known-x
-    enum-told
+    (λ c κs. search needs)
+    (λ c. search needs)
+    (λ c. search needs)
     add-unresolved-requires
     add-c
     next-requires

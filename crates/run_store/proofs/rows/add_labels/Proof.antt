@@ -4,9 +4,6 @@ use Rattle.run_store.proofs.turns.Turns.{cover-there}
 use borrow.Author.Needs.{needs}
 use Rattle.run_store.proofs.rows.add_labels.Statement.{statement}
 use Rattle.run_store.proofs.rows.add_labels.Tie as tie
-use Rattle.run_store.proofs.rows.add_labels.Reads as reads
-use Rattle.run_store.proofs.rows.add_labels.Lts as lts
-use Rattle.run_store.proofs.rows.cover_labels.Reads as cover-labels-reads
 
 returns : tie.Need-returns
 returns c = (search chains-none, search seqs-none)

@@ -7,11 +7,6 @@ use Rattle.run_store.proofs.rows.RowTurns.{rows-hold, flagsNow, flags-s
 use borrow.Author.Needs.{needs}
 use Rattle.run_store.proofs.rows.grow_flags.Statement.{statement}
 use Rattle.run_store.proofs.rows.grow_flags.Tie as tie
-use Rattle.run_store.proofs.rows.grow_flags.Reads as reads
-use Rattle.run_store.proofs.rows.grow_flags.Lts as lts
-use Rattle.archive_read.proofs.records.file_at.Reads as file-at-reads
-use Rattle.run_store.proofs.rows.add_flags.Reads as add-flags-reads
-use Rattle.run_store.proofs.turns.next.Reads as next-reads
 
 abbrev Inv-loop : tie.InvT-loop
 Inv-loop h flags₀ rows bytes c₀ k₀ p₀ flags c k p = (p ≤ length bytes) × (k ≤ p) × Walk flagsNow h (flags, c) bytes k p
@@ -21,18 +16,6 @@ abbrev μ-loop : tie.MeasureT-loop
 
 loop-holds : tie.Need-loop-holds Inv-loop μ-loop
 loop-holds c = (search needs, search needs, search flags-start)
-
-file-at-requires : tie.Need-file-at-requires Inv-loop μ-loop
-file-at-requires c κs = search needs
-
-enum-known-x : tie.Need-enum-known-x Inv-loop μ-loop
-enum-known-x c = search needs
-
-enum-told : tie.Need-enum-told Inv-loop μ-loop
-enum-told c = search needs
-
-cast-n : tie.Need-cast-n Inv-loop μ-loop
-cast-n c = search needs
 
 add-flags-requires : tie.Need-add-flags-requires Inv-loop μ-loop
 add-flags-requires c κs = (search rows-hold, search flags-room)
@@ -62,10 +45,10 @@ grow-flags-spec =
     Inv-loop
     μ-loop
     loop-holds
-    file-at-requires
-    enum-known-x
-    enum-told
-    cast-n
+    (λ c κs. search needs)
+    (λ c. search needs)
+    (λ c. search needs)
+    (λ c. search needs)
     add-flags-requires
     add-c
     next-requires

@@ -8,11 +8,6 @@ use Rattle.run_store.proofs.rows.RowTurns.{rowsNow, rows-start, rows-no
 use borrow.Author.Needs.{needs}
 use Rattle.run_store.proofs.rows.grow_rows.Statement.{statement}
 use Rattle.run_store.proofs.rows.grow_rows.Tie as tie
-use Rattle.run_store.proofs.rows.grow_rows.Reads as reads
-use Rattle.run_store.proofs.rows.grow_rows.Lts as lts
-use Rattle.archive_read.proofs.records.file_at.Reads as file-at-reads
-use Rattle.run_store.proofs.rows.add_rows.Reads as add-rows-reads
-use Rattle.run_store.proofs.turns.next.Reads as next-reads
 
 abbrev Inv-loop : tie.InvT-loop
 Inv-loop h groups₀ tags₀ chains₀ seqs₀ count bytes c₀ k₀ p₀ groups tags chains seqs c k p = (p ≤ length bytes) × (k ≤ p) × Walk rowsNow h (rowsOf c groups tags chains seqs) bytes k p
@@ -23,20 +18,8 @@ abbrev μ-loop : tie.MeasureT-loop
 loop-holds : tie.Need-loop-holds Inv-loop μ-loop
 loop-holds c = (search needs, search needs, search rows-start)
 
-file-at-requires : tie.Need-file-at-requires Inv-loop μ-loop
-file-at-requires c κs = search needs
-
-enum-known-x : tie.Need-enum-known-x Inv-loop μ-loop
-enum-known-x c = search needs
-
-enum-told : tie.Need-enum-told Inv-loop μ-loop
-enum-told c = search needs
-
 add-rows-requires : tie.Need-add-rows-requires Inv-loop μ-loop
 add-rows-requires c κs = (search file-holds, search rows-room)
-
-cast-c : tie.Need-cast-c Inv-loop μ-loop
-cast-c c = search needs
 
 add-c : tie.Need-add-c Inv-loop μ-loop
 add-c c = search rows-fit
@@ -63,11 +46,11 @@ grow-rows-spec =
     Inv-loop
     μ-loop
     loop-holds
-    file-at-requires
-    enum-known-x
-    enum-told
+    (λ c κs. search needs)
+    (λ c. search needs)
+    (λ c. search needs)
     add-rows-requires
-    cast-c
+    (λ c. search needs)
     add-c
     next-requires
     loop-less

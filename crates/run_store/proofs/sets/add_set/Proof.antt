@@ -3,17 +3,6 @@ use Rattle.run_store.proofs.sets.SetTurns.{loaded-climbs, loaded-readab
 use borrow.Author.Needs.{needs}
 use Rattle.run_store.proofs.sets.add_set.Statement.{statement}
 use Rattle.run_store.proofs.sets.add_set.Tie as tie
-use Rattle.run_store.proofs.sets.add_set.Reads as reads
-use Rattle.run_store.proofs.sets.add_set.Lts as lts
-use Rattle.run_store.proofs.sets.add_offsets.Reads as add-offsets-reads
-use Rattle.run_store.proofs.sets.add_targets.Reads as add-targets-reads
-use Rattle.run_store.proofs.sets.read_set.Reads as read-set-reads
-
-cast-rows : tie.Need-cast-rows
-cast-rows c = search needs
-
-read-set-requires : tie.Need-read-set-requires
-read-set-requires c κs = search needs
 
 add-offsets-requires : tie.Need-add-offsets-requires
 add-offsets-requires c κs = ((search needs, search needs), (search needs, search loaded-climbs))
@@ -27,4 +16,4 @@ returns c = search set-added
 pub add-set-spec : {M : Type 1} → statement M
 add-set-spec =
     tie.close
-    (tie.spec cast-rows read-set-requires add-offsets-requires add-targets-requires returns)
+    (tie.spec (λ c. search needs) (λ c κs. search needs) add-offsets-requires add-targets-requires returns)

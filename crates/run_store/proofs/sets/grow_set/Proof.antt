@@ -8,12 +8,6 @@ use Rattle.run_store.proofs.sets.SetTurns.{sideNow, side-start, side-no
 use borrow.Author.Needs.{needs}
 use Rattle.run_store.proofs.sets.grow_set.Statement.{statement}
 use Rattle.run_store.proofs.sets.grow_set.Tie as tie
-use Rattle.run_store.proofs.sets.grow_set.Reads as reads
-use Rattle.run_store.proofs.sets.grow_set.Lts as lts
-use Rattle.archive_read.proofs.records.file_at.Reads as file-at-reads
-use Rattle.run_store.proofs.sets.add_set.Reads as add-set-reads
-use Rattle.run_store.proofs.sets.set_place.Reads as set-place-reads
-use Rattle.run_store.proofs.turns.next.Reads as next-reads
 
 abbrev Inv-loop : tie.InvT-loop
 Inv-loop h side starts₀ targets₀ count rows offsets₀ deltas₀ bytes c₀ n₀ k₀ p₀ starts targets offsets deltas c n k p = (p ≤ length bytes) × (k ≤ p) × Walk (sideNow side) h (edgesOf c starts targets, n) bytes k p
@@ -24,26 +18,11 @@ abbrev μ-loop : tie.MeasureT-loop
 loop-holds : tie.Need-loop-holds Inv-loop μ-loop
 loop-holds c = (search needs, search needs, search side-start)
 
-file-at-requires : tie.Need-file-at-requires Inv-loop μ-loop
-file-at-requires c κs = search needs
-
-enum-known-x : tie.Need-enum-known-x Inv-loop μ-loop
-enum-known-x c = search needs
-
-enum-told : tie.Need-enum-told Inv-loop μ-loop
-enum-told c = search needs
-
-set-place-requires : tie.Need-set-place-requires Inv-loop μ-loop
-set-place-requires c κs = search needs
-
 add-set-requires : tie.Need-add-set-requires Inv-loop μ-loop
 add-set-requires c κs = (search set-holds, search set-room)
 
 add-c : tie.Need-add-c Inv-loop μ-loop
 add-c c = search numbers-fit
-
-cast-n : tie.Need-cast-n Inv-loop μ-loop
-cast-n c = search needs
 
 add-n : tie.Need-add-n Inv-loop μ-loop
 add-n c = search rows-fit
@@ -70,13 +49,13 @@ grow-set-spec =
     Inv-loop
     μ-loop
     loop-holds
-    file-at-requires
-    enum-known-x
-    enum-told
-    set-place-requires
+    (λ c κs. search needs)
+    (λ c. search needs)
+    (λ c. search needs)
+    (λ c κs. search needs)
     add-set-requires
     add-c
-    cast-n
+    (λ c. search needs)
     add-n
     next-requires
     loop-less

@@ -3,17 +3,6 @@ use Rattle.run_store.proofs.sets.SetTurns.{place-forward, place-reverse
 use borrow.Author.Needs.{needs}
 use Rattle.run_store.proofs.sets.set_place.Statement.{statement}
 use Rattle.run_store.proofs.sets.set_place.Tie as tie
-use Rattle.run_store.proofs.sets.set_place.Reads as reads
-use Rattle.run_store.proofs.sets.set_place.Lts as lts
-
-enum-told : tie.Need-enum-told
-enum-told c = search needs
-
-enum-told-2 : tie.Need-enum-told-2
-enum-told-2 c = search needs
-
-enum-told-3 : tie.Need-enum-told-3
-enum-told-3 c = search needs
 
 returns : tie.Need-returns
 returns c = search place-forward
@@ -25,4 +14,4 @@ returns-3 : tie.Need-returns-3
 returns-3 c = search place-inbound
 
 pub set-place-spec : {M : Type 1} → statement M
-set-place-spec = tie.close (tie.spec enum-told enum-told-2 enum-told-3 returns returns-2 returns-3)
+set-place-spec = tie.close (tie.spec (λ c. search needs) (λ c. search needs) (λ c. search needs) returns returns-2 returns-3)

@@ -4,12 +4,6 @@ use borrow.Author.Needs.{needs}
 use Rattle.run_text.proofs.files.put_rows.Statement.{statement}
 use Rattle.run_text.proofs.files.put_rows.Tie as tie
 
-mul-k : tie.Need-mul-k
-mul-k c = search needs
-
-add-k : tie.Need-add-k
-add-k c = search needs
-
 array-share-prefix-offsets : tie.Need-array-share-prefix-offsets
 array-share-prefix-offsets c = search (needs, offsets-there)
 
@@ -25,9 +19,6 @@ slice-aggregate-put-set-2 c = search (needs, deltas-count)
 put-set-requires : tie.Need-put-set-requires
 put-set-requires c κs = search (needs, rows-room)
 
-same-length : tie.Need-same-length
-same-length c = search needs
-
 returns : tie.Need-returns
 returns c = search (needs, rows-written)
 
@@ -35,12 +26,12 @@ pub put-rows-spec : {M : Type 1} → statement M
 put-rows-spec =
     tie.close
     (tie.spec
-    mul-k
-    add-k
+    (λ c. search needs)
+    (λ c. search needs)
     array-share-prefix-offsets
     slice-aggregate-put-set
     array-share-prefix-deltas
     slice-aggregate-put-set-2
     put-set-requires
-    same-length
+    (λ c. search needs)
     returns)

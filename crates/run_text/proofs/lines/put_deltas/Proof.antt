@@ -19,26 +19,8 @@ abbrev μ-loop : tie.MeasureT-loop
 loop-holds : tie.Need-loop-holds Inv-loop μ-loop
 loop-holds c = search (needs, begin)
 
-mul-put-delta : tie.Need-mul-put-delta Inv-loop μ-loop
-mul-put-delta c = search needs
-
-shared-slice-copy-out-put-delta : tie.Need-shared-slice-copy-out-put-delta Inv-loop μ-loop
-shared-slice-copy-out-put-delta c = search needs
-
-put-delta-requires : tie.Need-put-delta-requires Inv-loop μ-loop
-put-delta-requires c κs = search needs
-
-add-i : tie.Need-add-i Inv-loop μ-loop
-add-i c = search needs
-
-loop-less : tie.Need-loop-less Inv-loop μ-loop
-loop-less c = search needs
-
 loop-again : tie.Need-loop-again Inv-loop μ-loop
 loop-again c = search (needs, turn-signed)
-
-same-length : tie.Need-same-length Inv-loop μ-loop
-same-length c = search needs
 
 returns : tie.Need-returns Inv-loop μ-loop
 returns c = search (needs, ended)
@@ -50,11 +32,11 @@ put-deltas-spec =
     Inv-loop
     μ-loop
     loop-holds
-    mul-put-delta
-    shared-slice-copy-out-put-delta
-    put-delta-requires
-    add-i
-    loop-less
+    (λ c. search needs)
+    (λ c. search needs)
+    (λ c κs. search needs)
+    (λ c. search needs)
+    (λ c. search needs)
     loop-again
-    same-length
+    (λ c. search needs)
     returns)

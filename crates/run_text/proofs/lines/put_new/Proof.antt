@@ -4,23 +4,8 @@ use borrow.Author.Needs.{needs}
 use Rattle.run_text.proofs.lines.put_new.Statement.{statement}
 use Rattle.run_text.proofs.lines.put_new.Tie as tie
 
-slice-aggregate-put-word : tie.Need-slice-aggregate-put-word
-slice-aggregate-put-word c = search needs
-
-put-word-requires : tie.Need-put-word-requires
-put-word-requires c κs = search needs
-
-same-length : tie.Need-same-length
-same-length c = search needs
-
 returns : tie.Need-returns
 returns c = search (needs, none-written)
-
-put-number-requires : tie.Need-put-number-requires
-put-number-requires c κs = search needs
-
-same-length-2 : tie.Need-same-length-2
-same-length-2 c = search needs
 
 returns-2 : tie.Need-returns-2
 returns-2 c = search (needs, new-written)
@@ -29,10 +14,10 @@ pub put-new-spec : {M : Type 1} → statement M
 put-new-spec =
     tie.close
     (tie.spec
-    slice-aggregate-put-word
-    put-word-requires
-    same-length
+    (λ c. search needs)
+    (λ c κs. search needs)
+    (λ c. search needs)
     returns
-    put-number-requires
-    same-length-2
+    (λ c κs. search needs)
+    (λ c. search needs)
     returns-2)

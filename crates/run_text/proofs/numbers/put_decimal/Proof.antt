@@ -7,11 +7,8 @@ use Rattle.run_text.proofs.numbers.put_decimal.Tie as tie
 put-digits-requires : tie.Need-put-digits-requires
 put-digits-requires c κs = search (needs, decimal-room)
 
-same-length : tie.Need-same-length
-same-length c = search needs
-
 returns : tie.Need-returns
 returns c = search (needs, decimal-written)
 
 pub put-decimal-spec : {M : Type 1} → statement M
-put-decimal-spec = tie.close (tie.spec put-digits-requires same-length returns)
+put-decimal-spec = tie.close (tie.spec put-digits-requires (λ c. search needs) returns)

@@ -3,9 +3,6 @@ use Rattle.columns_rules.proofs.records.LabelOrder.{labels-none, chains
 use borrow.Author.Needs.{needs}
 use Rattle.columns_rules.proofs.records.chains.labels_rules.Statement.{statement}
 use Rattle.columns_rules.proofs.records.chains.labels_rules.Tie as tie
-use Rattle.columns_rules.proofs.records.chains.labels_rules.Reads as reads
-use Rattle.columns_rules.proofs.records.chains.labels_rules.Lts as lts
-use Rattle.columns_rules.proofs.chain_table.seqs_rise.Reads as seqs-rise-reads
 
 returns : tie.Need-returns
 returns c = search labels-none
@@ -16,9 +13,6 @@ returns-2 c = search chains-count
 returns-3 : tie.Need-returns-3
 returns-3 c = search seqs-count
 
-seqs-rise-requires : tie.Need-seqs-rise-requires
-seqs-rise-requires c κs = search needs
-
 returns-4 : tie.Need-returns-4
 returns-4 c = search seqs-fall
 
@@ -27,4 +21,4 @@ returns-5 c = search labels-kept
 
 pub labels-rules-spec : {M : Type 1} → statement M
 labels-rules-spec =
-    tie.close (tie.spec returns returns-2 returns-3 seqs-rise-requires returns-4 returns-5)
+    tie.close (tie.spec returns returns-2 returns-3 (λ c κs. search needs) returns-4 returns-5)

@@ -8,10 +8,6 @@ use Rattle.columns_rules.proofs.records.RecordParts.{inbound-done, inbo
 use borrow.Author.Needs.{needs}
 use Rattle.columns_rules.proofs.records.parts.inbound_rules.Statement.{statement}
 use Rattle.columns_rules.proofs.records.parts.inbound_rules.Tie as tie
-use Rattle.columns_rules.proofs.records.parts.inbound_rules.Reads as reads
-use Rattle.columns_rules.proofs.records.parts.inbound_rules.Lts as lts
-use Rattle.columns_rules.proofs.records.parts.inbound_rule.Reads as inbound-rule-reads
-use Rattle.columns_rules.proofs.records.parts.longest.Reads as longest-reads
 
 abbrev Inv-loop : tie.InvT-loop
 Inv-loop first rows children parents kinds n i₀ i =
@@ -21,29 +17,11 @@ Inv-loop first rows children parents kinds n i₀ i =
 abbrev μ-loop : tie.MeasureT-loop
 μ-loop first rows children parents kinds n i₀ i = n - i
 
-longest-requires : tie.Need-longest-requires Inv-loop μ-loop
-longest-requires c κs = search needs
-
 loop-holds : tie.Need-loop-holds Inv-loop μ-loop
 loop-holds c = search (needs, inbound-all)
 
-inbound-rule-requires : tie.Need-inbound-rule-requires Inv-loop μ-loop
-inbound-rule-requires c κs = search needs
-
-enum-known-r : tie.Need-enum-known-r Inv-loop μ-loop
-enum-known-r c = search needs
-
 returns : tie.Need-returns Inv-loop μ-loop
 returns c = search (needs, inbound-stop)
-
-enum-told : tie.Need-enum-told Inv-loop μ-loop
-enum-told c = search needs
-
-add-i : tie.Need-add-i Inv-loop μ-loop
-add-i c = search needs
-
-loop-less : tie.Need-loop-less Inv-loop μ-loop
-loop-less c = search needs
 
 loop-again : tie.Need-loop-again Inv-loop μ-loop
 loop-again c = search (needs, inbound-on)
@@ -57,13 +35,13 @@ inbound-rules-spec =
     (tie.spec
     Inv-loop
     μ-loop
-    longest-requires
+    (λ c κs. search needs)
     loop-holds
-    inbound-rule-requires
-    enum-known-r
+    (λ c κs. search needs)
+    (λ c. search needs)
     returns
-    enum-told
-    add-i
-    loop-less
+    (λ c. search needs)
+    (λ c. search needs)
+    (λ c. search needs)
     loop-again
     returns-2)

@@ -2,8 +2,6 @@
 use Rattle.columns_rules.proofs.records.FileNumbers.{before-file, from-first}
 use Rattle.columns_rules.proofs.records.parts.is_in_file.Statement.{statement}
 use Rattle.columns_rules.proofs.records.parts.is_in_file.Tie as tie
-use Rattle.columns_rules.proofs.records.parts.is_in_file.Reads as reads
-use Rattle.columns_rules.proofs.records.parts.is_in_file.Lts as lts
 
 returns : tie.Need-returns
 returns c = search before-file

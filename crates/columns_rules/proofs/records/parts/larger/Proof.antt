@@ -2,8 +2,6 @@
 use Rattle.columns_rules.proofs.records.RecordParts.{larger-first, larger-second}
 use Rattle.columns_rules.proofs.records.parts.larger.Statement.{statement}
 use Rattle.columns_rules.proofs.records.parts.larger.Tie as tie
-use Rattle.columns_rules.proofs.records.parts.larger.Reads as reads
-use Rattle.columns_rules.proofs.records.parts.larger.Lts as lts
 
 returns : tie.Need-returns
 returns c = search larger-second

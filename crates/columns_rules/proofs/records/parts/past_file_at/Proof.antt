@@ -3,14 +3,6 @@ use Rattle.columns_rules.proofs.records.RecordParts.{early-part, past-p
 use borrow.Author.Needs.{needs}
 use Rattle.columns_rules.proofs.records.parts.past_file_at.Statement.{statement}
 use Rattle.columns_rules.proofs.records.parts.past_file_at.Tie as tie
-use Rattle.columns_rules.proofs.records.parts.past_file_at.Reads as reads
-use Rattle.columns_rules.proofs.records.parts.past_file_at.Lts as lts
-
-mul-x : tie.Need-mul-x
-mul-x c = search needs
-
-shared-slice-read-x : tie.Need-shared-slice-read-x
-shared-slice-read-x c = search needs
 
 returns : tie.Need-returns
 returns c = search early-part
@@ -22,4 +14,4 @@ returns-3 : tie.Need-returns-3
 returns-3 c = search no-part
 
 pub past-file-at-spec : {M : Type 1} → statement M
-past-file-at-spec = tie.close (tie.spec mul-x shared-slice-read-x returns returns-2 returns-3)
+past-file-at-spec = tie.close (tie.spec (λ c. search needs) (λ c. search needs) returns returns-2 returns-3)

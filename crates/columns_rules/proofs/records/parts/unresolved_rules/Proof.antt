@@ -8,10 +8,6 @@ use Rattle.columns_rules.proofs.records.RecordParts.{unresolved-done, u
 use borrow.Author.Needs.{needs}
 use Rattle.columns_rules.proofs.records.parts.unresolved_rules.Statement.{statement}
 use Rattle.columns_rules.proofs.records.parts.unresolved_rules.Tie as tie
-use Rattle.columns_rules.proofs.records.parts.unresolved_rules.Reads as reads
-use Rattle.columns_rules.proofs.records.parts.unresolved_rules.Lts as lts
-use Rattle.columns_rules.proofs.records.parts.longest.Reads as longest-reads
-use Rattle.columns_rules.proofs.records.parts.unresolved_rule.Reads as unresolved-rule-reads
 
 abbrev Inv-loop : tie.InvT-loop
 Inv-loop first rows children kinds flags n i₀ i =
@@ -21,29 +17,11 @@ Inv-loop first rows children kinds flags n i₀ i =
 abbrev μ-loop : tie.MeasureT-loop
 μ-loop first rows children kinds flags n i₀ i = n - i
 
-longest-requires : tie.Need-longest-requires Inv-loop μ-loop
-longest-requires c κs = search needs
-
 loop-holds : tie.Need-loop-holds Inv-loop μ-loop
 loop-holds c = search (needs, unresolved-all)
 
-unresolved-rule-requires : tie.Need-unresolved-rule-requires Inv-loop μ-loop
-unresolved-rule-requires c κs = search needs
-
-enum-known-r : tie.Need-enum-known-r Inv-loop μ-loop
-enum-known-r c = search needs
-
 returns : tie.Need-returns Inv-loop μ-loop
 returns c = search (needs, unresolved-stop)
-
-enum-told : tie.Need-enum-told Inv-loop μ-loop
-enum-told c = search needs
-
-add-i : tie.Need-add-i Inv-loop μ-loop
-add-i c = search needs
-
-loop-less : tie.Need-loop-less Inv-loop μ-loop
-loop-less c = search needs
 
 loop-again : tie.Need-loop-again Inv-loop μ-loop
 loop-again c = search (needs, unresolved-on)
@@ -57,13 +35,13 @@ unresolved-rules-spec =
     (tie.spec
     Inv-loop
     μ-loop
-    longest-requires
+    (λ c κs. search needs)
     loop-holds
-    unresolved-rule-requires
-    enum-known-r
+    (λ c κs. search needs)
+    (λ c. search needs)
     returns
-    enum-told
-    add-i
-    loop-less
+    (λ c. search needs)
+    (λ c. search needs)
+    (λ c. search needs)
     loop-again
     returns-2)

@@ -10,9 +10,6 @@ use Rattle.columns_rules.proofs.spans.SpanTurns.{gran-done, gran-far, g
 use borrow.Author.Needs.{needs}
 use Rattle.columns_rules.proofs.spans.reach.slots_fit.Statement.{statement}
 use Rattle.columns_rules.proofs.spans.reach.slots_fit.Tie as tie
-use Rattle.columns_rules.proofs.spans.reach.slots_fit.Reads as reads
-use Rattle.columns_rules.proofs.spans.reach.slots_fit.Lts as lts
-use Rattle.columns_rules.proofs.spans.reach.slot_fits.Reads as slot-fits-reads
 
 abbrev Inv-loop : tie.InvT-loop
 Inv-loop first rows from n offsets targets q₀ q =
@@ -24,20 +21,8 @@ abbrev μ-loop : tie.MeasureT-loop
 loop-holds : tie.Need-loop-holds Inv-loop μ-loop
 loop-holds c = search (needs, deltas-slots)
 
-mul-loop : tie.Need-mul-loop Inv-loop μ-loop
-mul-loop c = search needs
-
-slot-fits-requires : tie.Need-slot-fits-requires Inv-loop μ-loop
-slot-fits-requires c κs = search needs
-
 returns : tie.Need-returns Inv-loop μ-loop
 returns c = search (needs, gran-far)
-
-add-q : tie.Need-add-q Inv-loop μ-loop
-add-q c = search needs
-
-loop-less : tie.Need-loop-less Inv-loop μ-loop
-loop-less c = search needs
 
 loop-again : tie.Need-loop-again Inv-loop μ-loop
 loop-again c = search (needs, gran-on)
@@ -52,10 +37,10 @@ slots-fit-spec =
     Inv-loop
     μ-loop
     loop-holds
-    mul-loop
-    slot-fits-requires
+    (λ c. search needs)
+    (λ c κs. search needs)
     returns
-    add-q
-    loop-less
+    (λ c. search needs)
+    (λ c. search needs)
     loop-again
     returns-2)

@@ -3,15 +3,6 @@ use Rattle.run_group.proofs.sections.EdgeTurns.{others-few, others-laid
 use borrow.Author.Needs.{needs}
 use Rattle.run_group.proofs.sections.edges.edges_into.Statement.{statement}
 use Rattle.run_group.proofs.sections.edges.edges_into.Tie as tie
-use Rattle.run_group.proofs.sections.edges.edges_into.Reads as reads
-use Rattle.run_group.proofs.sections.edges.edges_into.Lts as lts
-use Rattle.run_group.proofs.sections.edges.rows_edges.Reads as rows-edges-reads
-
-add-first : tie.Need-add-first
-add-first c = search needs
-
-add-b : tie.Need-add-b
-add-b c = search needs
 
 rows-edges-requires : tie.Need-rows-edges-requires
 rows-edges-requires c κs = (search needs, (search needs, search needs))
@@ -21,4 +12,4 @@ returns c = (search others-few, search others-laid)
 
 pub edges-into-spec : {M : Type 1} → statement M
 edges-into-spec =
-    tie.close (tie.spec add-first add-b rows-edges-requires returns)
+    tie.close (tie.spec (λ c. search needs) (λ c. search needs) rows-edges-requires returns)

@@ -9,9 +9,6 @@ use Rattle.run_group.specs.sections.Laid.{edgesOfRow, Laid}
 use borrow.Author.Needs.{needs}
 use Rattle.run_group.proofs.sections.edges.rows_edges.Statement.{statement}
 use Rattle.run_group.proofs.sections.edges.rows_edges.Tie as tie
-use Rattle.run_group.proofs.sections.edges.rows_edges.Reads as reads
-use Rattle.run_group.proofs.sections.edges.rows_edges.Lts as lts
-use Rattle.run_group.proofs.sections.edges.row_edges.Reads as row-edges-reads
 
 abbrev Inv-loop : tie.InvT-loop
 Inv-loop first n start total offsets targets from to at cs₀ ps₀ ks₀ p₀ i₀ cs ps ks p i =
@@ -23,15 +20,6 @@ abbrev μ-loop : tie.MeasureT-loop
 loop-holds : tie.Need-loop-holds Inv-loop μ-loop
 loop-holds c = search (needs, laid-begins)
 
-row-edges-requires : tie.Need-row-edges-requires Inv-loop μ-loop
-row-edges-requires c κs = search needs
-
-add-i : tie.Need-add-i Inv-loop μ-loop
-add-i c = search needs
-
-loop-less : tie.Need-loop-less Inv-loop μ-loop
-loop-less c = search needs
-
 loop-again : tie.Need-loop-again Inv-loop μ-loop
 loop-again c = (search needs, search needs, search next-low, search rows-next)
 
@@ -41,4 +29,4 @@ returns c = (search last-low, search rows-end)
 pub rows-edges-spec : {M : Type 1} → statement M
 rows-edges-spec =
     tie.close
-    (tie.spec Inv-loop μ-loop loop-holds row-edges-requires add-i loop-less loop-again returns)
+    (tie.spec Inv-loop μ-loop loop-holds (λ c κs. search needs) (λ c. search needs) (λ c. search needs) loop-again returns)

@@ -6,9 +6,6 @@ use Rattle.run_group.proofs.sections.EdgeTurns.{laid-begins, slot-end, 
 use borrow.Author.Needs.{needs}
 use Rattle.run_group.proofs.sections.edges.slot_edges.Statement.{statement}
 use Rattle.run_group.proofs.sections.edges.slot_edges.Tie as tie
-use Rattle.run_group.proofs.sections.edges.slot_edges.Reads as reads
-use Rattle.run_group.proofs.sections.edges.slot_edges.Lts as lts
-use Rattle.columns_rules.proofs.records.parts.is_in_file.Reads as is-in-file-reads
 
 abbrev Inv-loop : tie.InvT-loop
 Inv-loop first n child kind targets from to at cs₀ ps₀ ks₀ p₀ j₀ cs ps ks p j =
@@ -20,50 +17,8 @@ abbrev μ-loop : tie.MeasureT-loop
 loop-holds : tie.Need-loop-holds Inv-loop μ-loop
 loop-holds c = search (needs, laid-begins)
 
-mul-parent : tie.Need-mul-parent Inv-loop μ-loop
-mul-parent c = search needs
-
-shared-slice-read-parent : tie.Need-shared-slice-read-parent Inv-loop μ-loop
-shared-slice-read-parent c = search needs
-
-is-in-file-requires : tie.Need-is-in-file-requires Inv-loop μ-loop
-is-in-file-requires c κs = search needs
-
-mul-cs : tie.Need-mul-cs Inv-loop μ-loop
-mul-cs c = search needs
-
-element-write-cs : tie.Need-element-write-cs Inv-loop μ-loop
-element-write-cs c = search needs
-
-mul-ps : tie.Need-mul-ps Inv-loop μ-loop
-mul-ps c = search needs
-
-element-write-ps : tie.Need-element-write-ps Inv-loop μ-loop
-element-write-ps c = search needs
-
-mul-ks : tie.Need-mul-ks Inv-loop μ-loop
-mul-ks c = search needs
-
-element-write-ks : tie.Need-element-write-ks Inv-loop μ-loop
-element-write-ks c = search needs
-
-add-p : tie.Need-add-p Inv-loop μ-loop
-add-p c = search needs
-
-add-j : tie.Need-add-j Inv-loop μ-loop
-add-j c = search needs
-
-loop-less : tie.Need-loop-less Inv-loop μ-loop
-loop-less c = search needs
-
 loop-again : tie.Need-loop-again Inv-loop μ-loop
 loop-again c = search (needs, slot-in)
-
-add-j-2 : tie.Need-add-j-2 Inv-loop μ-loop
-add-j-2 c = search needs
-
-loop-less-2 : tie.Need-loop-less-2 Inv-loop μ-loop
-loop-less-2 c = search needs
 
 loop-again-2 : tie.Need-loop-again-2 Inv-loop μ-loop
 loop-again-2 c = search (needs, slot-out)
@@ -78,20 +33,20 @@ slot-edges-spec =
     Inv-loop
     μ-loop
     loop-holds
-    mul-parent
-    shared-slice-read-parent
-    is-in-file-requires
-    mul-cs
-    element-write-cs
-    mul-ps
-    element-write-ps
-    mul-ks
-    element-write-ks
-    add-p
-    add-j
-    loop-less
+    (λ c. search needs)
+    (λ c. search needs)
+    (λ c κs. search needs)
+    (λ c. search needs)
+    (λ c. search needs)
+    (λ c. search needs)
+    (λ c. search needs)
+    (λ c. search needs)
+    (λ c. search needs)
+    (λ c. search needs)
+    (λ c. search needs)
+    (λ c. search needs)
     loop-again
-    add-j-2
-    loop-less-2
+    (λ c. search needs)
+    (λ c. search needs)
     loop-again-2
     returns)

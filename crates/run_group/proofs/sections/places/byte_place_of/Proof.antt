@@ -10,9 +10,6 @@ use Rattle.run_group.proofs.sections.PlaceTurns.{place-done, copy-count
 use borrow.Author.Needs.{needs}
 use Rattle.run_group.proofs.sections.places.byte_place_of.Statement.{statement}
 use Rattle.run_group.proofs.sections.places.byte_place_of.Tie as tie
-use Rattle.run_group.proofs.sections.places.byte_place_of.Reads as reads
-use Rattle.run_group.proofs.sections.places.byte_place_of.Lts as lts
-use Rattle.run_group.proofs.sections.places.wide.Reads as wide-reads
 
 abbrev Inv-loop : tie.InvT-loop
 Inv-loop list to x n₀ i₀ n i =
@@ -20,24 +17,6 @@ Inv-loop list to x n₀ i₀ n i =
 
 abbrev μ-loop : tie.MeasureT-loop
 μ-loop list to x n₀ i₀ n i = to - i
-
-loop-holds : tie.Need-loop-holds Inv-loop μ-loop
-loop-holds c = search needs
-
-shared-slice-read-wide : tie.Need-shared-slice-read-wide Inv-loop μ-loop
-shared-slice-read-wide c = search needs
-
-wide-requires : tie.Need-wide-requires Inv-loop μ-loop
-wide-requires c κs = search needs
-
-add-n : tie.Need-add-n Inv-loop μ-loop
-add-n c = search needs
-
-add-i : tie.Need-add-i Inv-loop μ-loop
-add-i c = search needs
-
-loop-less : tie.Need-loop-less Inv-loop μ-loop
-loop-less c = search needs
 
 loop-again : tie.Need-loop-again Inv-loop μ-loop
 loop-again c = ⊎-elim (λ w. search (needs, copy-counted)) (λ w. search (needs, copy-skipped)) (c .if1 .came)
@@ -51,11 +30,11 @@ byte-place-of-spec =
     (tie.spec
     Inv-loop
     μ-loop
-    loop-holds
-    shared-slice-read-wide
-    wide-requires
-    add-n
-    add-i
-    loop-less
+    (λ c. search needs)
+    (λ c. search needs)
+    (λ c κs. search needs)
+    (λ c. search needs)
+    (λ c. search needs)
+    (λ c. search needs)
     loop-again
     returns)

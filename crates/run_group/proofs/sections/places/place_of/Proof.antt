@@ -10,8 +10,6 @@ use Rattle.run_group.proofs.sections.PlaceTurns.{place-done, place-coun
 use borrow.Author.Needs.{needs}
 use Rattle.run_group.proofs.sections.places.place_of.Statement.{statement}
 use Rattle.run_group.proofs.sections.places.place_of.Tie as tie
-use Rattle.run_group.proofs.sections.places.place_of.Reads as reads
-use Rattle.run_group.proofs.sections.places.place_of.Lts as lts
 
 abbrev Inv-loop : tie.InvT-loop
 Inv-loop list to x n₀ i₀ n i =
@@ -19,24 +17,6 @@ Inv-loop list to x n₀ i₀ n i =
 
 abbrev μ-loop : tie.MeasureT-loop
 μ-loop list to x n₀ i₀ n i = to - i
-
-loop-holds : tie.Need-loop-holds Inv-loop μ-loop
-loop-holds c = search needs
-
-mul-if1 : tie.Need-mul-if1 Inv-loop μ-loop
-mul-if1 c = search needs
-
-shared-slice-read-if1 : tie.Need-shared-slice-read-if1 Inv-loop μ-loop
-shared-slice-read-if1 c = search needs
-
-add-n : tie.Need-add-n Inv-loop μ-loop
-add-n c = search needs
-
-add-i : tie.Need-add-i Inv-loop μ-loop
-add-i c = search needs
-
-loop-less : tie.Need-loop-less Inv-loop μ-loop
-loop-less c = search needs
 
 loop-again : tie.Need-loop-again Inv-loop μ-loop
 loop-again c = ⊎-elim (λ w. search (needs, place-counted)) (λ w. search (needs, place-skipped)) (c .if1 .came)
@@ -50,11 +30,11 @@ place-of-spec =
     (tie.spec
     Inv-loop
     μ-loop
-    loop-holds
-    mul-if1
-    shared-slice-read-if1
-    add-n
-    add-i
-    loop-less
+    (λ c. search needs)
+    (λ c. search needs)
+    (λ c. search needs)
+    (λ c. search needs)
+    (λ c. search needs)
+    (λ c. search needs)
     loop-again
     returns)

@@ -6,12 +6,6 @@ use borrow.Author.Needs.{needs}
 use Rattle.run_resolve.proofs.sheet.asked.count_parts.Statement.{statement}
 use Rattle.run_resolve.proofs.sheet.asked.count_parts.Tie as tie
 
-mul-k : tie.Need-mul-k
-mul-k c = search needs
-
-add-k : tie.Need-add-k
-add-k c = search needs
-
 slice-aggregate-count-reparented : tie.Need-slice-aggregate-count-reparented
 slice-aggregate-count-reparented c = search (needs, front-count)
 
@@ -24,17 +18,14 @@ slice-aggregate-count-reparented-3 c = search (needs, numbers-count)
 count-reparented-requires : tie.Need-count-reparented-requires
 count-reparented-requires c κs = search form-here
 
-returns : tie.Need-returns
-returns c = search needs
-
 pub count-parts-spec : {M : Type 1} → statement M
 count-parts-spec =
     tie.close
     (tie.spec
-    mul-k
-    add-k
+    (λ c. search needs)
+    (λ c. search needs)
     slice-aggregate-count-reparented
     slice-aggregate-count-reparented-2
     slice-aggregate-count-reparented-3
     count-reparented-requires
-    returns)
+    (λ c. search needs))

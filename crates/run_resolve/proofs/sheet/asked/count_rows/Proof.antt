@@ -4,9 +4,6 @@ use borrow.Author.Needs.{needs}
 use Rattle.run_resolve.proofs.sheet.asked.count_rows.Statement.{statement}
 use Rattle.run_resolve.proofs.sheet.asked.count_rows.Tie as tie
 
-slice-aggregate-count-parts : tie.Need-slice-aggregate-count-parts
-slice-aggregate-count-parts c = search needs
-
 count-parts-requires : tie.Need-count-parts-requires
 count-parts-requires c κs = ((search needs, search needs), ((search edges-few, (search needs, search needs)), search edges-table))
 
@@ -14,4 +11,4 @@ returns : tie.Need-returns
 returns c = search slots-counted
 
 pub count-rows-spec : {M : Type 1} → statement M
-count-rows-spec = tie.close (tie.spec slice-aggregate-count-parts count-parts-requires returns)
+count-rows-spec = tie.close (tie.spec (λ c. search needs) count-parts-requires returns)

@@ -4,12 +4,6 @@ use borrow.Author.Needs.{needs}
 use Rattle.run_resolve.proofs.sheet.asked.reparented.Statement.{statement}
 use Rattle.run_resolve.proofs.sheet.asked.reparented.Tie as tie
 
-held-long-requires : tie.Need-held-long-requires
-held-long-requires c κs = search needs
-
-slice-aggregate-count-rows : tie.Need-slice-aggregate-count-rows
-slice-aggregate-count-rows c = search needs
-
 count-rows-requires : tie.Need-count-rows-requires
 count-rows-requires c κs = (search few-held, (search flags-held, search edges-held))
 
@@ -18,4 +12,4 @@ returns c = search reparented-held
 
 pub reparented-spec : {M : Type 1} → statement M
 reparented-spec =
-    tie.close (tie.spec held-long-requires slice-aggregate-count-rows count-rows-requires returns)
+    tie.close (tie.spec (λ c κs. search needs) (λ c. search needs) count-rows-requires returns)

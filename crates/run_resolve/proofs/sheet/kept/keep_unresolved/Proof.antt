@@ -4,12 +4,6 @@ use borrow.Author.Needs.{needs}
 use Rattle.run_resolve.proofs.sheet.kept.keep_unresolved.Statement.{statement}
 use Rattle.run_resolve.proofs.sheet.kept.keep_unresolved.Tie as tie
 
-put-flags-requires : tie.Need-put-flags-requires
-put-flags-requires c κs = search needs
-
-array-share-prefix-gone : tie.Need-array-share-prefix-gone
-array-share-prefix-gone c = search needs
-
 slice-aggregate-compact-unresolved : tie.Need-slice-aggregate-compact-unresolved
 slice-aggregate-compact-unresolved c = search (needs, front-count)
 
@@ -23,8 +17,8 @@ pub keep-unresolved-spec : {M : Type 1} → statement M
 keep-unresolved-spec =
     tie.close
     (tie.spec
-    put-flags-requires
-    array-share-prefix-gone
+    (λ c κs. search needs)
+    (λ c. search needs)
     slice-aggregate-compact-unresolved
     compact-unresolved-requires
     returns)

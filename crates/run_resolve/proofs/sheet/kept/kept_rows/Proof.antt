@@ -4,11 +4,8 @@ use borrow.Author.Needs.{needs}
 use Rattle.run_resolve.proofs.sheet.kept.kept_rows.Statement.{statement}
 use Rattle.run_resolve.proofs.sheet.kept.kept_rows.Tie as tie
 
-keep-rows-requires : tie.Need-keep-rows-requires
-keep-rows-requires c κs = search needs
-
 returns : tie.Need-returns
 returns c = search rows-counted
 
 pub kept-rows-spec : {M : Type 1} → statement M
-kept-rows-spec = tie.close (tie.spec keep-rows-requires returns)
+kept-rows-spec = tie.close (tie.spec (λ c κs. search needs) returns)

@@ -11,13 +11,6 @@ use Rattle.run_rules.proofs.files.FileTurns.{rules-start, within-start,
 use borrow.Author.Needs.{needs}
 use Rattle.run_rules.proofs.files.all.files_rules.Statement.{statement}
 use Rattle.run_rules.proofs.files.all.files_rules.Tie as tie
-use Rattle.run_rules.proofs.files.all.files_rules.Reads as reads
-use Rattle.run_rules.proofs.files.all.files_rules.Lts as lts
-use Rattle.archive_read.proofs.records.file_at.Reads as file-at-reads
-use Rattle.run_rules.proofs.files.all.next.Reads as next-reads
-use Rattle.run_rules.proofs.files.all.next_rules.Reads as next-rules-reads
-use Rattle.run_rules.proofs.files.all.see.Reads as see-reads
-use Rattle.run_rules.proofs.files.all.see_after.Reads as see-after-reads
 
 abbrev Inv-loop : tie.InvT-loop
 Inv-loop bytes subject offsets₀ deltas₀ s₀ k₀ p₀ offsets deltas s k p =
@@ -27,20 +20,8 @@ Inv-loop bytes subject offsets₀ deltas₀ s₀ k₀ p₀ offsets deltas s k p 
 abbrev μ-loop : tie.MeasureT-loop
 μ-loop bytes subject offsets₀ deltas₀ s₀ k₀ p₀ offsets deltas s k p = length bytes - p
 
-see-requires : tie.Need-see-requires Inv-loop μ-loop
-see-requires c κs = search needs
-
 loop-holds : tie.Need-loop-holds Inv-loop μ-loop
 loop-holds c = (search needs, search needs, search needs, search within-start, search rules-start)
-
-file-at-requires : tie.Need-file-at-requires Inv-loop μ-loop
-file-at-requires c κs = search needs
-
-enum-known-x : tie.Need-enum-known-x Inv-loop μ-loop
-enum-known-x c = search needs
-
-enum-told : tie.Need-enum-told Inv-loop μ-loop
-enum-told c = search needs
 
 returns : tie.Need-returns Inv-loop μ-loop
 returns c = search (first-look, no-archive)
@@ -48,14 +29,8 @@ returns c = search (first-look, no-archive)
 next-rules-requires : tie.Need-next-rules-requires Inv-loop μ-loop
 next-rules-requires c κs = (search needs, (search file-holds, search is-small))
 
-enum-known-r : tie.Need-enum-known-r Inv-loop μ-loop
-enum-known-r c = search needs
-
 returns-2 : tie.Need-returns-2 Inv-loop μ-loop
 returns-2 c = search (first-look, files-stop)
-
-enum-told-2 : tie.Need-enum-told-2 Inv-loop μ-loop
-enum-told-2 c = search needs
 
 see-after-requires : tie.Need-see-after-requires Inv-loop μ-loop
 see-after-requires c κs = (search head-holds, (search kept-subject, search kept-numbers))
@@ -78,16 +53,16 @@ files-rules-spec =
     (tie.spec
     Inv-loop
     μ-loop
-    see-requires
+    (λ c κs. search needs)
     loop-holds
-    file-at-requires
-    enum-known-x
-    enum-told
+    (λ c κs. search needs)
+    (λ c. search needs)
+    (λ c. search needs)
     returns
     next-rules-requires
-    enum-known-r
+    (λ c. search needs)
     returns-2
-    enum-told-2
+    (λ c. search needs)
     see-after-requires
     next-requires
     loop-less

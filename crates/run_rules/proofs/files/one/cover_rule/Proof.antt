@@ -3,9 +3,6 @@ use Rattle.run_rules.proofs.files.PartOrder.{no-cover, some-cover, cove
 use borrow.Author.Needs.{needs}
 use Rattle.run_rules.proofs.files.one.cover_rule.Statement.{statement}
 use Rattle.run_rules.proofs.files.one.cover_rule.Tie as tie
-use Rattle.run_rules.proofs.files.one.cover_rule.Reads as reads
-use Rattle.run_rules.proofs.files.one.cover_rule.Lts as lts
-use Rattle.run_rules.proofs.files.one.covered_rule.Reads as covered-rule-reads
 
 returns : tie.Need-returns
 returns c = search no-cover

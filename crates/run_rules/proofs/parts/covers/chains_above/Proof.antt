@@ -10,9 +10,6 @@ use Rattle.run_rules.proofs.parts.CoverTurns.{first-chain, chains-done,
 use borrow.Author.Needs.{needs}
 use Rattle.run_rules.proofs.parts.covers.chains_above.Statement.{statement}
 use Rattle.run_rules.proofs.parts.covers.chains_above.Tie as tie
-use Rattle.run_rules.proofs.parts.covers.chains_above.Reads as reads
-use Rattle.run_rules.proofs.parts.covers.chains_above.Lts as lts
-use Rattle.archive_bytes.proofs.load_u32.Reads as load-u32-reads
 
 abbrev Inv-loop : tie.InvT-loop
 Inv-loop b q n i₀ p₀ last₀ i p last =
@@ -21,29 +18,11 @@ Inv-loop b q n i₀ p₀ last₀ i p last =
 abbrev μ-loop : tie.MeasureT-loop
 μ-loop b q n i₀ p₀ last₀ i p last = n - i
 
-add-p : tie.Need-add-p Inv-loop μ-loop
-add-p c = search needs
-
-load-u32-requires : tie.Need-load-u32-requires Inv-loop μ-loop
-load-u32-requires c κs = search needs
-
 loop-holds : tie.Need-loop-holds Inv-loop μ-loop
 loop-holds c = (search needs, search needs, search needs, search first-chain)
 
-load-u32-requires-2 : tie.Need-load-u32-requires-2 Inv-loop μ-loop
-load-u32-requires-2 c κs = search needs
-
 returns : tie.Need-returns Inv-loop μ-loop
 returns c = search (needs, chain-level)
-
-add-i : tie.Need-add-i Inv-loop μ-loop
-add-i c = search needs
-
-add-p-2 : tie.Need-add-p-2 Inv-loop μ-loop
-add-p-2 c = search needs
-
-loop-less : tie.Need-loop-less Inv-loop μ-loop
-loop-less c = search needs
 
 loop-again : tie.Need-loop-again Inv-loop μ-loop
 loop-again c = search (needs, chain-above)
@@ -57,13 +36,13 @@ chains-above-spec =
     (tie.spec
     Inv-loop
     μ-loop
-    add-p
-    load-u32-requires
+    (λ c. search needs)
+    (λ c κs. search needs)
     loop-holds
-    load-u32-requires-2
+    (λ c κs. search needs)
     returns
-    add-i
-    add-p-2
-    loop-less
+    (λ c. search needs)
+    (λ c. search needs)
+    (λ c. search needs)
     loop-again
     returns-2)

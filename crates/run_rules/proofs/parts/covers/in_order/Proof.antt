@@ -10,9 +10,6 @@ use Rattle.run_rules.proofs.parts.CoverTurns.{order-start, order-done, 
 use borrow.Author.Needs.{needs}
 use Rattle.run_rules.proofs.parts.covers.in_order.Statement.{statement}
 use Rattle.run_rules.proofs.parts.covers.in_order.Tie as tie
-use Rattle.run_rules.proofs.parts.covers.in_order.Reads as reads
-use Rattle.run_rules.proofs.parts.covers.in_order.Lts as lts
-use Rattle.archive_bytes.proofs.load_u32.Reads as load-u32-reads
 
 abbrev Inv-loop : tie.InvT-loop
 Inv-loop b q n i₀ p₀ i p =
@@ -24,29 +21,8 @@ abbrev μ-loop : tie.MeasureT-loop
 loop-holds : tie.Need-loop-holds Inv-loop μ-loop
 loop-holds c = (search needs, search needs, search order-start)
 
-add-load-u32 : tie.Need-add-load-u32 Inv-loop μ-loop
-add-load-u32 c = search needs
-
-load-u32-requires : tie.Need-load-u32-requires Inv-loop μ-loop
-load-u32-requires c κs = search needs
-
-add-load-u32-2 : tie.Need-add-load-u32-2 Inv-loop μ-loop
-add-load-u32-2 c = search needs
-
-load-u32-requires-2 : tie.Need-load-u32-requires-2 Inv-loop μ-loop
-load-u32-requires-2 c κs = search needs
-
 returns : tie.Need-returns Inv-loop μ-loop
 returns c = search (needs, order-bad)
-
-add-i : tie.Need-add-i Inv-loop μ-loop
-add-i c = search needs
-
-add-p : tie.Need-add-p Inv-loop μ-loop
-add-p c = search needs
-
-loop-less : tie.Need-loop-less Inv-loop μ-loop
-loop-less c = search needs
 
 loop-again : tie.Need-loop-again Inv-loop μ-loop
 loop-again c = search (needs, order-on)
@@ -61,13 +37,13 @@ in-order-spec =
     Inv-loop
     μ-loop
     loop-holds
-    add-load-u32
-    load-u32-requires
-    add-load-u32-2
-    load-u32-requires-2
+    (λ c. search needs)
+    (λ c κs. search needs)
+    (λ c. search needs)
+    (λ c κs. search needs)
     returns
-    add-i
-    add-p
-    loop-less
+    (λ c. search needs)
+    (λ c. search needs)
+    (λ c. search needs)
     loop-again
     returns-2)

@@ -2,8 +2,6 @@
 use Rattle.run_rules.proofs.parts.HeadTests.{depth-unknown, depth-known}
 use Rattle.run_rules.proofs.parts.heads.depth_fits.Statement.{statement}
 use Rattle.run_rules.proofs.parts.heads.depth_fits.Tie as tie
-use Rattle.run_rules.proofs.parts.heads.depth_fits.Reads as reads
-use Rattle.run_rules.proofs.parts.heads.depth_fits.Lts as lts
 
 returns : tie.Need-returns
 returns c = search depth-unknown

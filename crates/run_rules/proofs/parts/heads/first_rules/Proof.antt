@@ -2,8 +2,6 @@
 use Rattle.run_rules.proofs.parts.HeadTests.{group-late, group-first}
 use Rattle.run_rules.proofs.parts.heads.first_rules.Statement.{statement}
 use Rattle.run_rules.proofs.parts.heads.first_rules.Tie as tie
-use Rattle.run_rules.proofs.parts.heads.first_rules.Reads as reads
-use Rattle.run_rules.proofs.parts.heads.first_rules.Lts as lts
 
 returns : tie.Need-returns
 returns c = search group-late

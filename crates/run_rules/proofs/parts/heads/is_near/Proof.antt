@@ -3,8 +3,6 @@ use Rattle.run_rules.proofs.parts.HeadTests.{near-same, near-none, near
 use borrow.Author.Needs.{needs}
 use Rattle.run_rules.proofs.parts.heads.is_near.Statement.{statement}
 use Rattle.run_rules.proofs.parts.heads.is_near.Tie as tie
-use Rattle.run_rules.proofs.parts.heads.is_near.Reads as reads
-use Rattle.run_rules.proofs.parts.heads.is_near.Lts as lts
 
 returns : tie.Need-returns
 returns c = search near-same
@@ -12,11 +10,8 @@ returns c = search near-same
 returns-2 : tie.Need-returns-2
 returns-2 c = search near-none
 
-sub-result : tie.Need-sub-result
-sub-result c = search needs
-
 returns-3 : tie.Need-returns-3
 returns-3 c = search near-next
 
 pub is-near-spec : {M : Type 1} → statement M
-is-near-spec = tie.close (tie.spec returns returns-2 sub-result returns-3)
+is-near-spec = tie.close (tie.spec returns returns-2 (λ c. search needs) returns-3)

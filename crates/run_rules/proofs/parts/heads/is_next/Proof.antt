@@ -3,12 +3,6 @@ use Rattle.run_rules.proofs.parts.HeadTests.{not-same, then-end}
 use borrow.Author.Needs.{needs}
 use Rattle.run_rules.proofs.parts.heads.is_next.Statement.{statement}
 use Rattle.run_rules.proofs.parts.heads.is_next.Tie as tie
-use Rattle.run_rules.proofs.parts.heads.is_next.Reads as reads
-use Rattle.run_rules.proofs.parts.heads.is_next.Lts as lts
-use Rattle.run_rules.proofs.parts.heads.same_bytes.Reads as same-bytes-reads
-
-same-bytes-requires : tie.Need-same-bytes-requires
-same-bytes-requires c κs = search needs
 
 returns : tie.Need-returns
 returns c = search not-same
@@ -17,4 +11,4 @@ returns-2 : tie.Need-returns-2
 returns-2 c = search then-end
 
 pub is-next-spec : {M : Type 1} → statement M
-is-next-spec = tie.close (tie.spec same-bytes-requires returns returns-2)
+is-next-spec = tie.close (tie.spec (λ c κs. search needs) returns returns-2)

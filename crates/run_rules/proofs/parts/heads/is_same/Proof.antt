@@ -2,8 +2,6 @@
 use Rattle.run_rules.proofs.parts.HeadTests.{beq-true, beq-false}
 use Rattle.run_rules.proofs.parts.heads.is_same.Statement.{statement}
 use Rattle.run_rules.proofs.parts.heads.is_same.Tie as tie
-use Rattle.run_rules.proofs.parts.heads.is_same.Reads as reads
-use Rattle.run_rules.proofs.parts.heads.is_same.Lts as lts
 
 returns : tie.Need-returns
 returns c = search beq-true

@@ -2,8 +2,6 @@
 use Rattle.columns_rules.proofs.FileOrder.{no-subject, some-subject}
 use Rattle.run_rules.proofs.parts.heads.subject_fits.Statement.{statement}
 use Rattle.run_rules.proofs.parts.heads.subject_fits.Tie as tie
-use Rattle.run_rules.proofs.parts.heads.subject_fits.Reads as reads
-use Rattle.run_rules.proofs.parts.heads.subject_fits.Lts as lts
 
 returns : tie.Need-returns
 returns c = search no-subject

@@ -7,10 +7,6 @@ use Rattle.run_rules.proofs.parts.RecordTurns.{recordsFrom, records-sta
 use borrow.Author.Needs.{needs}
 use Rattle.run_rules.proofs.parts.tables.children_rules.Statement.{statement}
 use Rattle.run_rules.proofs.parts.tables.children_rules.Tie as tie
-use Rattle.run_rules.proofs.parts.tables.children_rules.Reads as reads
-use Rattle.run_rules.proofs.parts.tables.children_rules.Lts as lts
-use Rattle.archive_bytes.proofs.load_u64.Reads as load-u64-reads
-use Rattle.run_rules.proofs.parts.tables.child_rule.Reads as child-rule-reads
 
 abbrev Inv-loop : tie.InvT-loop
 Inv-loop b n first rows i₀ p₀ i p =
@@ -22,35 +18,8 @@ abbrev μ-loop : tie.MeasureT-loop
 loop-holds : tie.Need-loop-holds Inv-loop μ-loop
 loop-holds c = (search needs, search needs, search records-start)
 
-load-u64-requires : tie.Need-load-u64-requires Inv-loop μ-loop
-load-u64-requires c κs = search needs
-
-add-child-rule : tie.Need-add-child-rule Inv-loop μ-loop
-add-child-rule c = search needs
-
-shared-slice-read-child-rule : tie.Need-shared-slice-read-child-rule Inv-loop μ-loop
-shared-slice-read-child-rule c = search needs
-
-child-rule-requires : tie.Need-child-rule-requires Inv-loop μ-loop
-child-rule-requires c κs = search needs
-
-enum-known-r : tie.Need-enum-known-r Inv-loop μ-loop
-enum-known-r c = search needs
-
 returns : tie.Need-returns Inv-loop μ-loop
 returns c = search (needs, records-stop)
-
-enum-told : tie.Need-enum-told Inv-loop μ-loop
-enum-told c = search needs
-
-add-i : tie.Need-add-i Inv-loop μ-loop
-add-i c = search needs
-
-add-p : tie.Need-add-p Inv-loop μ-loop
-add-p c = search needs
-
-loop-less : tie.Need-loop-less Inv-loop μ-loop
-loop-less c = search needs
 
 loop-again : tie.Need-loop-again Inv-loop μ-loop
 loop-again c = search (needs, records-on)
@@ -65,15 +34,15 @@ children-rules-spec =
     Inv-loop
     μ-loop
     loop-holds
-    load-u64-requires
-    add-child-rule
-    shared-slice-read-child-rule
-    child-rule-requires
-    enum-known-r
+    (λ c κs. search needs)
+    (λ c. search needs)
+    (λ c. search needs)
+    (λ c κs. search needs)
+    (λ c. search needs)
     returns
-    enum-told
-    add-i
-    add-p
-    loop-less
+    (λ c. search needs)
+    (λ c. search needs)
+    (λ c. search needs)
+    (λ c. search needs)
     loop-again
     returns-2)

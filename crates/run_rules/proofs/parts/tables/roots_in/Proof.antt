@@ -10,9 +10,6 @@ use Rattle.run_rules.proofs.parts.RecordTurns.{roots-start, roots-done,
 use borrow.Author.Needs.{needs}
 use Rattle.run_rules.proofs.parts.tables.roots_in.Statement.{statement}
 use Rattle.run_rules.proofs.parts.tables.roots_in.Tie as tie
-use Rattle.run_rules.proofs.parts.tables.roots_in.Reads as reads
-use Rattle.run_rules.proofs.parts.tables.roots_in.Lts as lts
-use Rattle.archive_bytes.proofs.load_u64.Reads as load-u64-reads
 
 abbrev Inv-loop : tie.InvT-loop
 Inv-loop b n rows i₀ p₀ i p =
@@ -24,20 +21,8 @@ abbrev μ-loop : tie.MeasureT-loop
 loop-holds : tie.Need-loop-holds Inv-loop μ-loop
 loop-holds c = (search needs, search needs, search roots-start)
 
-load-u64-requires : tie.Need-load-u64-requires Inv-loop μ-loop
-load-u64-requires c κs = search needs
-
 returns : tie.Need-returns Inv-loop μ-loop
 returns c = search (needs, root-outside)
-
-add-i : tie.Need-add-i Inv-loop μ-loop
-add-i c = search needs
-
-add-p : tie.Need-add-p Inv-loop μ-loop
-add-p c = search needs
-
-loop-less : tie.Need-loop-less Inv-loop μ-loop
-loop-less c = search needs
 
 loop-again : tie.Need-loop-again Inv-loop μ-loop
 loop-again c = search (needs, root-inside)
@@ -52,10 +37,10 @@ roots-in-spec =
     Inv-loop
     μ-loop
     loop-holds
-    load-u64-requires
+    (λ c κs. search needs)
     returns
-    add-i
-    add-p
-    loop-less
+    (λ c. search needs)
+    (λ c. search needs)
+    (λ c. search needs)
     loop-again
     returns-2)

@@ -1,11 +1,8 @@
 -- `run_resolve::survivors` meets its contract: what the columns of the survivors stand for.
 use Rattle.run_resolve.proofs.SurvivorColumns.{sheet-ok, flags-room, flags-count, count-flags, survivors-in}
 use borrow.Author.Needs.{needs}
-use Rattle.run_resolve.proofs.survivor_sheet.Statement.{statement}
-use Rattle.run_resolve.proofs.survivor_sheet.Tie as tie
-
-held-long-requires : tie.Need-held-long-requires
-held-long-requires c κs = search needs
+use Rattle.run_resolve.proofs.survivors.Statement.{statement}
+use Rattle.run_resolve.proofs.survivors.Tie as tie
 
 array-share-prefix-f : tie.Need-array-share-prefix-f
 array-share-prefix-f c = search flags-room
@@ -16,9 +13,6 @@ slice-aggregate-kept-sheet c = search (needs, count-flags)
 kept-sheet-requires : tie.Need-kept-sheet-requires
 kept-sheet-requires c κs = (search sheet-ok, (search needs, search flags-count))
 
-sheet-long-requires : tie.Need-sheet-long-requires
-sheet-long-requires c κs = search needs
-
 returns : tie.Need-returns
 returns c = search survivors-in
 
@@ -26,9 +20,9 @@ pub survivors-spec : {M : Type 1} → statement M
 survivors-spec =
     tie.close
     (tie.spec
-    held-long-requires
+    (λ c κs. search needs)
     array-share-prefix-f
     slice-aggregate-kept-sheet
     kept-sheet-requires
-    sheet-long-requires
+    (λ c κs. search needs)
     returns)
