@@ -12,11 +12,17 @@ use Rattle.lists.proofs.Tests.{tested}
 use Rattle.lists.proofs.Once.{mem-folded, distinct-once}
 use Rattle.lists.proofs.Rising.{take-rising, cut-below, mem-filter, mem-sort, sort-rising}
 use Rattle.columns.specs.Walk.{level, levelsFrom, levels, walked}
+use Rattle.columns.specs.Computes.{computes}
 
 not-empty : {A : Type 0} (l : List A) → isEmpty l ≡ false → 0 < length l
 unfolding isEmpty
 not-empty [] e = absurd (true≢false e)
 not-empty (x ∷ xs) e = omega arith
+
+-- a level worked out: of two parents that were not visited, with one number left of the limit, the smaller stays
+smallest-stays : level (λ n. 100 ∷ 95 ∷ []) 1 [] (101 ∷ []) ≡ 95 ∷ []
+unfolding computes
+smallest-stays = refl
 
 module _ (parentsOf : ℕ → List ℕ) where
   -- ── one level ──────────────────────────────────────────────────────────────────────────────
