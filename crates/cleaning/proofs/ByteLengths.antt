@@ -15,28 +15,9 @@ use Rattle.archive.specs.File.{Row, Unresolved, Root, CoverColumns, File}
 use Rattle.archive.specs.Encode.{columnBytes, setBytes, edgesBytes, rowBytes, unresolvedBytes, rootBytes, rangeBytes, linksBytes, coverBytes, countedBytes}
 use Rattle.archive.specs.Fits.{Short, LinksFit}
 use Rattle.archive.proofs.Numbers.{length-bytesOf}
-
-length-column : (w : ℕ) (xs : List ℕ) → length (columnBytes w xs) ≡ w * length xs
-length-column w xs = length-blocks (bytesOf w) w (length-bytesOf w) xs
-
-length-counted : {A : Type 0} (f : A → List ℕ) (w : ℕ) → ((x : A) → length (f x) ≡ w) → (xs : List A) → length (countedBytes f xs) ≡ 4 + w * length xs
-unfolding countedBytes
-length-counted f w wide xs = omega (arith, length-append (bytesOf 4 (length xs)) (flat f xs), length-bytesOf 4 (length xs), length-blocks f w wide xs)
+use Rattle.archive.proofs.Lengths.{length-column, length-counted, wide-row, wide-unresolved, wide-root, length-set, wide-range}
 
 -- ── rows, references, roots ──────────────────────────────────────────────────────────────────
-
-wide-row : (r : Row) → length (rowBytes r) ≡ 9
-unfolding rowBytes
-wide-row r = omega (arith, length-bytesOf 8 (r .tag))
-
-wide-unresolved : (u : Unresolved) → length (unresolvedBytes u) ≡ 13
-unfolding unresolvedBytes
-wide-unresolved u =
-    omega (arith, length-append (bytesOf 8 (u .child)) ((u .kind ∷ []) ++ bytesOf 4 (u .handle)), length-bytesOf 8 (u .child), length-bytesOf 4 (u .handle))
-
-wide-root : (r : Root) → length (rootBytes r) ≡ 16
-unfolding rootBytes
-wide-root r = omega (arith, length-append (bytesOf 8 (r .row)) (bytesOf 8 (r .handle)), length-bytesOf 8 (r .row), length-bytesOf 8 (r .handle))
 
 pub short-rows : (rs : List Row) → length rs ≤ maxRecords → Short (flat rowBytes rs)
 short-rows rs l = omega (arith, length-blocks rowBytes 9 wide-row rs)
@@ -49,12 +30,6 @@ short-roots rs l = omega (arith, length-counted rootBytes 16 wide-root rs)
 
 -- ── edges ────────────────────────────────────────────────────────────────────────────────────
 
-length-set : (s : EdgeSet) → length (setBytes s) ≡ 4 + (8 * length (s .offsets) + 8 * length (s .deltas))
-unfolding setBytes
-length-set s =
-    simp (length-append, length-bytesOf)
-    (omega (arith, length-column 8 (s .offsets), length-column 8 (map unsignedOf (s .deltas)), length-map (s .deltas) unsignedOf))
-
 -- a set of few rows and few entries
 abbrev pub FewEdges : EdgeSet → Type 0
 FewEdges s = (length (s .offsets) ≤ kinds * maxRecords + 1) × (length (s .deltas) ≤ maxNumbers)
@@ -65,10 +40,6 @@ short-edges f a b c =
     simp length-append (omega (arith, length-set (f .forward), length-set (f .reverse), length-set (f .inbound)))
 
 -- ── covers ───────────────────────────────────────────────────────────────────────────────────
-
-wide-range : (r : Range) → length (rangeBytes r) ≡ 12
-unfolding rangeBytes
-wide-range r = simp (length-append, length-bytesOf)
 
 length-links : (c : LinkColumns) → LinksFit c → length (linksBytes c) ≡ 4 + 16 * length (c .fromChains)
 unfolding linksBytes

@@ -125,7 +125,7 @@ few-add (k ∷ ks) l = elim (tested (linkLess k l)) [
   | inr e ↦ rw e (elim (tested (linkLess l k)) [ inl f ↦ rw f (omega arith) | inr f ↦ rw f (omega arith) ])
 ]
 
-few-sorted : (ks ls : List Link) → length (foldl addLink ks ls) ≤ length ks + length ls
+pub few-sorted : (ks ls : List Link) → length (foldl addLink ks ls) ≤ length ks + length ls
 few-sorted ks [] = omega arith
 few-sorted ks (l ∷ ls) = omega (arith, few-sorted (addLink ks l) ls, few-add ks l)
 

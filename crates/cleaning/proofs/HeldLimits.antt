@@ -81,7 +81,7 @@ inbound-figure = figure (λ h. sum length (h .inbound)) (λ s. sum length (s .in
 -- ── group numbers ────────────────────────────────────────────────────────────────────────────
 
 -- a number more, the last one or one past it
-add-number : (n g : ℕ) → g ≤ n → n ≤ suc g → add (upFrom 0 n) g ≡ upFrom 0 (suc g)
+pub add-number : (n g : ℕ) → g ≤ n → n ≤ suc g → add (upFrom 0 n) g ≡ upFrom 0 (suc g)
 add-number n g l m = elim (tested (ltb g n)) [
   | inl e ↦ let b : n ≡ suc g = omega (arith, ltb-true g n e) in
       add-there (upFrom 0 n) g (rw (mem-upFrom g 0 n, zero-add n, le-leb 0 g (omega arith)) e) ∙ ap (upFrom 0) b
@@ -131,12 +131,12 @@ module _ (a b : Source) (g : a .group ≡ b .group) (s : a .subject ≡ b .subje
   unfolding fileRules
   file-alike f = rw (g, s, e, c)
 
-  files-alike : (fs : List File) → filesRules (some a) fs ≡ filesRules (some b) fs
+  pub files-alike : (fs : List File) → filesRules (some a) fs ≡ filesRules (some b) fs
   unfolding filesRules
   files-alike [] = refl
   files-alike (f ∷ fs) = ap (λ r. firstOf (r ∷ filesRules (some (sourceOf f)) fs ∷ [])) (file-alike f)
 
-there-cond : (b : Bool) (c : SourceCover) → isThere (cond b (some c) none) ≡ b
+pub there-cond : (b : Bool) (c : SourceCover) → isThere (cond b (some c) none) ≡ b
 there-cond true c = refl
 there-cond false c = refl
 

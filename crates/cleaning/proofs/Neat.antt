@@ -80,10 +80,10 @@ neat-after before h (s ∷ ss) e n f o =
 -- ── what the next file looks back at ─────────────────────────────────────────────────────────
 
 -- the source that a sheet with a group looks like
-abbrev looksLike : Sheet → Source
+abbrev pub looksLike : Sheet → Source
 looksLike s = ending (length (s .groups) - 1) (s .subject) (s .start + rowCount s) ((getD (s .groups) (length (s .groups) - 1) noFacts) .covered)
 
-look-back : (s : Sheet) (b : Bool) → isEmpty (s .groups) ≡ b → lookBack s ≡ cond b none (some (looksLike s))
+pub look-back : (s : Sheet) (b : Bool) → isEmpty (s .groups) ≡ b → lookBack s ≡ cond b none (some (looksLike s))
 unfolding lookBack
 look-back s b e = ap (λ c. cond c none (some (looksLike s))) e
 
@@ -113,7 +113,7 @@ module _ (h : Held) (n : Neat h) where
       (all-each (λ l. ltb (l .group) m) (h .sheet .links) (n .tidy .linksKnown))
 
   -- a sheet with a group is one whose last source ends where its rows end
-  held-last : isEmpty (h .sheet .groups) ≡ false → HeldLast (looksLike (h .sheet)) h
+  pub held-last : isEmpty (h .sheet .groups) ≡ false → HeldLast (looksLike (h .sheet)) h
   unfolding ending
   held-last e = record {
     rows = n .rows;
@@ -125,7 +125,7 @@ module _ (h : Held) (n : Neat h) where
   }
 
   -- one without a group has no row
-  ready-first : isEmpty (h .sheet .groups) ≡ true → (s : Source) → s .group ≡ 0 → Ready h s
+  pub ready-first : isEmpty (h .sheet .groups) ≡ true → (s : Source) → s .group ≡ 0 → Ready h s
   unfolding sheetWith
   ready-first e s g =
       let z = no-element (h .sheet .groups) e in

@@ -157,11 +157,6 @@ ranges-follow f start xs i (suc n) =
 
 -- ── columns that rise ────────────────────────────────────────────────────────────────────────
 
-pub rises-rising : (low : ℕ) (xs : List ℕ) → risesAbove low xs ≡ true → rising xs ≡ true
-unfolding risesAbove rising
-rises-rising low [] h = refl
-rises-rising low (x ∷ xs) h = both (ltb low x) (risesAbove x xs) h .1
-
 -- a column that rises does not fall
 rises-level : (low : ℕ) (xs : List ℕ) → risesAbove low xs ≡ true → levelAbove low xs ≡ true
 unfolding risesAbove levelAbove

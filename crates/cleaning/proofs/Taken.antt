@@ -88,7 +88,7 @@ or-true-cases true b e = inl refl
 or-true-cases false b e = inr e
 
 -- a cover is there as read where it is there as stored
-there-read : (c : Option CoverColumns) → isThere (coverRead c) ≡ isThere c
+pub there-read : (c : Option CoverColumns) → isThere (coverRead c) ≡ isThere c
 there-read none = refl
 there-read (some c) = refl
 

@@ -29,7 +29,7 @@ use Rattle.cleaning.proofs.Kept.{level-lower}
 use Rattle.cleaning.proofs.SheetFacts.{Rows}
 use Rattle.cleaning.proofs.GroupLinks.{inGroup}
 use Rattle.cleaning.proofs.Parts.{length-part, length-wide}
-use Rattle.cleaning.proofs.Places.{rises-rising}
+use Rattle.lists.proofs.Rising.{above-rising, rises-lower}
 use Rattle.cleaning.proofs.Ranks.{length-keep, each-keep, keep-slots, rank-level, rank-rises, rank-below}
 
 -- ── columns ──────────────────────────────────────────────────────────────────────────────────
@@ -64,11 +64,6 @@ was-not false h = refl
 
 -- ── records ──────────────────────────────────────────────────────────────────────────────────
 
-rises-lower : (low m : ℕ) (xs : List ℕ) → low ≤ m → risesAbove m xs ≡ true → risesAbove low xs ≡ true
-unfolding risesAbove
-rises-lower low m [] l h = refl
-rises-lower low m (x ∷ xs) l h = let q = both (ltb m x) (risesAbove x xs) h in rw (lt-ltb low x (omega (arith, ltb-true m x (q .0)))) (q .1)
-
 module _ (es : List Bool) where
   -- roots past a row that is not erased
   roots-past : (low : ℕ) (rs : List Root) → getD es low false ≡ false → risesAbove low (map (λ r. r .row) rs) ≡ true → Each (λ r. r .row < length es) rs
@@ -88,7 +83,7 @@ module _ (es : List Bool) where
   unfolding keepRoots filter rising risesAbove
   roots-rise [] h b = refl
   roots-rise (r ∷ rs) h b = elim (tested (getD es (r .row) false)) [
-    | inl e ↦ rw e (roots-rise rs (rises-rising (r .row) (map (λ r. r .row) rs) h) (b .1))
+    | inl e ↦ rw e (roots-rise rs (above-rising (r .row) (map (λ r. r .row) rs) h) (b .1))
     | inr e ↦ rw e (roots-past (r .row) rs e h (b .1))
   ]
 

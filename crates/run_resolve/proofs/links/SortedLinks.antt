@@ -19,6 +19,7 @@ use Rattle.cover.specs.Answers.{link, over, linkColumns, linksOver}
 use Rattle.cover.specs.Places.{rowAt}
 use Rattle.cleaning.specs.Sheet.{GroupLink}
 use Rattle.cleaning.proofs.GroupLinks.{inGroup}
+use Rattle.cleaning.proofs.GoodGroups.{few-sorted}
 use Rattle.run_state.specs.View.{listed, linkAt}
 use Rattle.run_state.specs.ByColumns.{linksOf}
 use Rattle.run_resolve.specs.links.Sorted.{Appended, SortedBehind}
@@ -44,23 +45,9 @@ module _ (a b c d : List ℕ) (p : length a ≡ 1024) (q : length b ≡ 1024) (u
       → SortedBehind (map (rowAt a b c d) (upFrom i (j - i))) k r x y z w x′ y′ z′ w′
   part-sorted i j k r h l x y z w x′ y′ z′ w′ o = rw (places-from (j - i) i (omega arith)) at o
 
-add-few : (ks : List Link) (l : Link) → length (addLink ks l) ≤ suc (length ks)
-unfolding addLink
-add-few [] l = omega arith
-add-few (k ∷ ks) l = go (linkLess k l) (linkLess l k) (add-few ks l)
-  where
-    go : (b c : Bool) → length (addLink ks l) ≤ suc (length ks) → length (cond b (k ∷ addLink ks l) (cond c (l ∷ (k ∷ ks)) (k ∷ ks))) ≤ suc (suc (length ks))
-    go true c h = omega (arith, h)
-    go false true h = omega arith
-    go false false h = omega arith
-
-fold-few : (ks ls : List Link) → length (foldl addLink ks ls) ≤ length ks + length ls
-fold-few ks [] = omega arith
-fold-few ks (l ∷ ls) = omega (arith, fold-few (addLink ks l) ls, add-few ks l)
-
 sort-few : (ls : List Link) → length (sortLinks ls) ≤ length ls
 unfolding sortLinks
-sort-few ls = omega (arith, fold-few [] ls)
+sort-few ls = omega (arith, few-sorted [] ls)
 
 -- ── columns with sorted links behind others ──────────────────────────────────────────────────
 

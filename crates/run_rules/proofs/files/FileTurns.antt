@@ -34,6 +34,7 @@ use Rattle.archive_read.specs.declared.records.FileRead.{FileRead}
 use Rattle.archive_read.specs.declared.records.FileRead.the-variants.{FileIs, NoFile}
 use Rattle.cleaning.specs.Source.{Source, coverRead, sourceOf, endOf, isThere}
 use Rattle.cleaning.specs.Held.{ending}
+use Rattle.cleaning.proofs.HeldLimits.{files-alike}
 use Rattle.cleaning.specs.Taking.{fileRules, filesRules}
 use Rattle.run_rules.specs.parts.Back.{backOf}
 use Rattle.run_rules.specs.declared.parts.heads.Back.{Back}
@@ -43,16 +44,6 @@ use Rattle.run_rules.specs.files.Archive.{rulesOf, Within, seenOf, endsW
 use Rattle.run_rules.specs.declared.files.all.Seen.{Seen}
 
 -- ── what a file looks back at ────────────────────────────────────────────────────────────────
-
-module _ (a b : Source) (g : a .group ≡ b .group) (s : a .subject ≡ b .subject) (e : endOf a ≡ endOf b) (c : isThere (a .cover) ≡ isThere (b .cover)) where
-  file-alike : (f : File) → fileRules (some a) f ≡ fileRules (some b) f
-  unfolding fileRules
-  file-alike f = rw (g, s, e, c)
-
-  files-alike : (fs : List File) → filesRules (some a) fs ≡ filesRules (some b) fs
-  unfolding filesRules
-  files-alike [] = refl
-  files-alike (f ∷ fs) = ap (λ r. firstOf (r ∷ filesRules (some (sourceOf f)) fs ∷ [])) (file-alike f)
 
 covered-same : (group : ℕ) (subject : List ℕ) (end : ℕ) (t : Bool) (c : CoverColumns) → isThere (ending group subject end t .cover) ≡ isThere (coverRead (cond t (some c) none))
 unfolding ending

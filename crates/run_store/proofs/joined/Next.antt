@@ -19,11 +19,11 @@ use Rattle.archive.specs.File.{File}
 use Rattle.cleaning.specs.Taking.{storedLinkCount}
 use Rattle.cleaning.specs.Source.{sourceOf, isThere}
 use Rattle.cleaning.specs.Held.{sheetWith, noFacts}
-use Rattle.cleaning.proofs.Taken.{RecordIn, Sound}
+use Rattle.cleaning.proofs.Taken.{RecordIn, Sound, there-read}
 use Rattle.cleaning.proofs.HeldRows.{Ready}
 use Rattle.run_state.specs.declared.Held.{Held}
 use Rattle.run_state.specs.View.{flagged, hasCover, factsAt, sheetIn, heldIn}
-use Rattle.run_store.proofs.joined.Whole.{there-read, empty-listed}
+use Rattle.run_store.proofs.joined.Whole.{empty-listed}
 use Rattle.run_store.proofs.joined.HeldOk.{SheetSound}
 
 -- 42 of what is held and one file

@@ -18,6 +18,7 @@ use Rattle.archive.specs.File
 use Rattle.archive.specs.File.{CoverColumns, File}
 use Rattle.cleaning.specs.Source.{sourceOf, coverRead, isThere, rangeCount}
 use Rattle.cleaning.specs.Taking.{storedRanges}
+use Rattle.cleaning.proofs.Taken.{there-read}
 use Rattle.cleaning.specs.Archive.{labelIn}
 use Rattle.run_store.specs.grow.Column.{bit}
 use Rattle.cleaning.specs.Sheet
@@ -58,10 +59,6 @@ module _ (r : Rows) (at : ℕ) where
   unfolding labelsMore labelsWith
   more-tags none = refl
   more-tags (some c) = refl
-
-pub there-read : (c : Option CoverColumns) → isThere (coverRead c) ≡ isThere c
-there-read none = refl
-there-read (some c) = refl
 
 ranges-read : (c : Option CoverColumns) → storedRanges c ≡ rangeCount (coverRead c)
 ranges-read none = refl

@@ -26,6 +26,7 @@ use Rattle.cleaning.specs.Taking.{fileRules, filesRules}
 use Rattle.cleaning.specs.Held.{heldWith, lookBack, ending, noFacts, holdRules, recordsOver, numbersOver}
 use Rattle.cleaning.specs.Held as run
 use Rattle.cleaning.proofs.HeldRows.{HeldLast, Ready, not-empty, held-with}
+use Rattle.cleaning.proofs.HeldLimits.{add-number, files-alike, there-cond}
 use Rattle.cleaning.proofs.Orderly.{orderly-taken}
 use Rattle.cleaning.proofs.HeldValid.{below-with}
 use Rattle.cleaning.proofs.TidyHeld.{tidy-with}
@@ -47,7 +48,6 @@ use Rattle.run_store.proofs.joined.HeldOk.{held-stays-ok}
 use Rattle.run_store.proofs.joined.Next.{group-is}
 use Rattle.run_store.specs.file.Steps.{heldNext}
 use Rattle.run_store.specs.fits.Left.{Left}
-use Rattle.run_store.proofs.fits.LooksBack.{add-number}
 use Rattle.run_store.proofs.fits.Fitted.{sound, next, held-fit, held-sound, forward-even, reverse-even, inbound-even, flags-long}
 
 -- ── at the start ─────────────────────────────────────────────────────────────────────────────
@@ -82,20 +82,6 @@ left-start h fs long ok e =
     }
 
 -- ── looking back ─────────────────────────────────────────────────────────────────────────────
-
-module _ (a b : Source) (g : a .group ≡ b .group) (s : a .subject ≡ b .subject) (e : endOf a ≡ endOf b) (c : isThere (a .cover) ≡ isThere (b .cover)) where
-  file-alike : (f : File) → fileRules (some a) f ≡ fileRules (some b) f
-  unfolding fileRules
-  file-alike f = rw (g, s, e, c)
-
-  files-alike : (fs : List File) → filesRules (some a) fs ≡ filesRules (some b) fs
-  unfolding filesRules
-  files-alike [] = refl
-  files-alike (f ∷ fs) = ap (λ r. firstOf (r ∷ filesRules (some (sourceOf f)) fs ∷ [])) (file-alike f)
-
-there-cond : (b : Bool) (c : SourceCover) → isThere (cond b (some c) none) ≡ b
-there-cond true c = refl
-there-cond false c = refl
 
 looks-at : (r : Source) (h : run.Held) → HeldLast r h → (fs : List File) → filesRules (lookBack (h .sheet)) fs ≡ filesRules (some r) fs
 unfolding lookBack isEmpty ending
