@@ -23,7 +23,7 @@ use Rattle.cleaning.specs.Held.{noFacts}
 use Rattle.cleaning.specs.Sections.{Tidy, factsOf, between, sectionStart, sectionRows, sectionFirst, sectionUnresolved, sectionRoots, sectionLinks}
 use Rattle.cleaning.proofs.Parts.{flat-map}
 use Rattle.cleaning.proofs.Places.{range-one, ranges-follow, rising-level}
-use Rattle.lists.proofs.Rising.{above-rising}
+use Rattle.lists.proofs.Rising.{rises-rising}
 use Rattle.cleaning.proofs.SheetRows.{rowAt, rows-section, section-end}
 
 -- ── unresolved references ────────────────────────────────────────────────────────────────────
@@ -77,7 +77,7 @@ own-root a i [] h = refl
 own-root a i (r ∷ rs) h = elim (tested (eqb (r .row) i)) [
   | inl e ↦ let q = eqb-true (r .row) i e in
       rw (e, rows-past (r .row) i rs h (omega arith)) (ap (λ j. record { row = j - a; handle = r .handle } ∷ []) (sym q))
-  | inr e ↦ rw e (own-root a i rs (above-rising (r .row) (map (λ r. r .row) rs) h))
+  | inr e ↦ rw e (own-root a i rs (rises-rising (r .row) (map (λ r. r .row) rs) h))
 ]
 
 roots-places : (s : Sheet) (a j n : ℕ) → rootsFrom j (map (rowAt s) (upFrom (a + j) n)) ≡ flat (λ i. rootOf (i - a) (rootIn (s .roots) i)) (upFrom (a + j) n)

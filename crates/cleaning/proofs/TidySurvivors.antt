@@ -29,7 +29,7 @@ use Rattle.cleaning.proofs.Kept.{level-lower}
 use Rattle.cleaning.proofs.SheetFacts.{Rows}
 use Rattle.cleaning.proofs.GroupLinks.{inGroup}
 use Rattle.cleaning.proofs.Parts.{length-part, length-wide}
-use Rattle.lists.proofs.Rising.{above-rising, rises-lower}
+use Rattle.lists.proofs.Rising.{rises-rising, rises-lower}
 use Rattle.cleaning.proofs.Ranks.{length-keep, each-keep, keep-slots, rank-level, rank-rises, rank-below}
 
 -- ── columns ──────────────────────────────────────────────────────────────────────────────────
@@ -83,7 +83,7 @@ module _ (es : List Bool) where
   unfolding keepRoots filter rising risesAbove
   roots-rise [] h b = refl
   roots-rise (r ∷ rs) h b = elim (tested (getD es (r .row) false)) [
-    | inl e ↦ rw e (roots-rise rs (above-rising (r .row) (map (λ r. r .row) rs) h) (b .1))
+    | inl e ↦ rw e (roots-rise rs (rises-rising (r .row) (map (λ r. r .row) rs) h) (b .1))
     | inr e ↦ rw e (roots-past (r .row) rs e h (b .1))
   ]
 
