@@ -46,7 +46,7 @@ module _ (s : Sheet) (g a b : ℕ) (l : LongSheet s) (k : sheetOk s ≡ true) (o
   unfolding sheetIn
   first-is = ap (λ x. s .start + x) (p .from)
 
-  module _ {q : GroupSets} (m : SetsBy (judged (sectionGraph (sheetIn s) g)) (b - a) q) (d : LongDeltas (q .sets)) where
+  module _ (q : GroupSets) (m : SetsBy (judged (sectionGraph (sheetIn s) g)) (b - a) q) (d : LongDeltas (q .sets)) where
     module _ (e : buildRules (sectionGraph (sheetIn s) g) ≡ none) where
       held : Holds (b - a) (builtOf (sectionGraph (sheetIn s) g)) q
       held = held-sets (sectionGraph (sheetIn s) g) (b - a) q m e

@@ -50,6 +50,22 @@ fn sets_long(s: Sets)
     deltas_long(s.inbound);
 }
 
+// Where the rows of a group start and end.
+struct Span {
+    from: usize,
+    to: usize,
+}
+
+fn span_of(s: Sheet, g: usize) -> Span
+    requires { ⌜ (sheetOk s ≡ true) × (g < s .groups .count) ⌝ }
+    ensures { λ r. ⌜ SpanOf s g (r .from) (r .to) ⌝ }
+{
+    sheet_long(s);
+    let a = group_place(s.rows, g);
+    let b = group_place(s.rows, g + 1);
+    Span { from: a, to: b }
+}
+
 // The unresolved records of group g, whose rows stand from row a up to row b.
 fn unresolved_of(s: Sheet, g: usize, a: usize, b: usize) -> Unresolved
     requires { ⌜ (sheetOk s ≡ true) × (ordered s ≡ true) ⌝ }
@@ -62,14 +78,16 @@ fn unresolved_of(s: Sheet, g: usize, a: usize, b: usize) -> Unresolved
     part_unresolved(s.unresolved, low, high)
 }
 
-fn shown(s: Sheet, g: usize) -> Shown
+fn shown_of(s: Sheet, g: usize) -> Shown
     requires { ⌜ (sheetOk s ≡ true) × ((ordered s ≡ true) × (g < s .groups .count)) ⌝ }
     ensures { λ r. ⌜ Shows (sheetIn s) g r ⌝ }
 {
     sheet_long(s);
-    let a = group_place(s.rows, g);
-    let b = group_place(s.rows, g + 1);
+    let p = span_of(s, g);
+    let a = p.from;
+    let b = p.to;
     let n = b - a;
+    let first = s.start + (a as u64);
     let u = unresolved_of(s, g, a, b);
     let q = group_sets(s, u, g, a, n);
     let v = q.ruling;
@@ -77,7 +95,7 @@ fn shown(s: Sheet, g: usize) -> Shown
     sets_long(sets);
     Shown {
         ruling: v,
-        first: s.start + (a as u64),
+        first: first,
         rows: n,
         sets: sets,
     }
@@ -109,7 +127,7 @@ pub(crate) fn need_of_all(s: Sheet) -> Needed
     let mut bytes: usize = 0;
     let mut g: usize = 0;
     while g < n {
-        let f = shown(s, g);
+        let f = shown_of(s, g);
         let v = f.ruling;
         match v {
             Ruling::Broken(x) => {
@@ -142,7 +160,7 @@ pub(crate) fn put_files(s: Sheet, out: &mut [u8], at: usize) -> usize
     let mut p = at;
     let mut g: usize = 0;
     while g < n {
-        let f = shown(s, g);
+        let f = shown_of(s, g);
         let sets = f.sets;
         p = put_file(out, p, g as u64, f.first, f.rows, sets);
         g += 1;

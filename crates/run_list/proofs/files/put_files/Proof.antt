@@ -46,7 +46,7 @@ put-files-spec =
     (λ c κs. search needs)
     loop-holds
     (λ c κs. search needs)
-    put-lines-requires
+    put-file-requires
     (λ c. search needs)
     (λ c. search needs)
     loop-again
