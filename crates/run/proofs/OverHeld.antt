@@ -23,7 +23,7 @@ use Rattle.run_take.specs.Took.{TookBy}
 use Rattle.run_take.specs.declared.Taken.{Taken}
 use Rattle.run_resolve.specs.Outcome.{rulesIn, newIn, ResolvedBy}
 use Rattle.run_resolve.specs.declared.Resolution.{Resolution}
-use Rattle.run_write.proofs.Rest.{kept-none, broken-some}
+use Rattle.run_state.proofs.Rulings.{kept-none, broken-some}
 use Rattle.run_write.specs.Answers.{answerOf, Wrote}
 use Rattle.run_state.specs.declared.Writing.{Writing}
 

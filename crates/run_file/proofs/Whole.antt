@@ -25,9 +25,8 @@ use Rattle.run_state.specs.declared.output.Head.{Head}
 use Rattle.run_state.specs.declared.output.Set.{Set}
 use Rattle.run_state.specs.declared.output.Sets.{Sets}
 use Rattle.run_state.specs.declared.output.Cover.{Cover}
-use Rattle.run_state.specs.declared.output.OutFile.{OutFile}
 use Rattle.run_state.specs.output.Lent.{emptyColumn, noCover, lentUnresolved, lentRoots, lentFile}
-use Rattle.run_state.specs.output.View.{setIn, rangeAt, rangesIn, linksIn, coverIn, subjectIn, depthIn, fileIn, Counted}
+use Rattle.run_state.specs.output.View.{setIn, rangeAt, rangesIn, linksIn, coverIn, subjectIn, depthIn, fileIn, Counted, OutFile}
 use Rattle.run_file.specs.Long.{LongSet, LongSets, LongUnresolved, LongRoots, LentRecords, LongCover, LongFile}
 use Rattle.run_file.proofs.Taken.{part-listed, part-long}
 use Rattle.run_file.specs.Stored.{sizeOf, fiveEnd, fiveLaid, Stored}

@@ -13,7 +13,7 @@ use Rattle.run_state.specs.declared.output.Labels.{Labels}
 use Rattle.run_state.specs.declared.output.Ranges.{Ranges}
 use Rattle.run_state.specs.declared.output.Links.{Links}
 use Rattle.run_state.specs.declared.output.Cover.{Cover}
-use Rattle.run_state.specs.declared.output.OutFile.{OutFile}
+use Rattle.run_state.specs.output.View.{OutFile}
 
 pub record LongSet (s : Set) : Type 0 where
   pub offsets : length (s .offsets) ≡ offsetsRoom

@@ -11,8 +11,7 @@ use Rattle.archive_store.specs.records.Sizes.{headSize, rowsSize, unresolvedSiz
 use Rattle.archive_write.specs.sizes.FileSize.{edgesSize, fileSize, maxFileSize}
 use Rattle.cleaning.specs.Sections.{unerasedRow}
 use Rattle.run_state.specs.View.{listed, unresolvedAt, rootAt}
-use Rattle.run_state.specs.declared.output.OutFile.{OutFile}
-use Rattle.run_state.specs.output.View.{subjectIn, depthIn, setIn}
+use Rattle.run_state.specs.output.View.{subjectIn, depthIn, setIn, OutFile}
 
 -- how many bytes a file has, by the counts of its columns
 abbrev pub sizeOf : OutFile → ℕ

@@ -1,3 +1,4 @@
 pub mod Turns
 pub mod Ranges
 pub mod Sectioned
+pub mod Spans

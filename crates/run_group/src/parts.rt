@@ -6,25 +6,20 @@ pub mod wide;
 
 use crate::parts::middle::part32;
 use crate::parts::narrow::part8;
-use crate::parts::wide::less64;
 use crate::parts::wide::part64;
 use crate::sections::places::byte_place_of;
 use crate::sections::places::place_of;
 use run_state::Groups;
-use run_state::Roots;
 use run_state::Rows;
 use run_state::Unresolved;
 use run_state::output::Head;
-use run_state::output::Tags;
 ghost use mathlib.Core.Path.{_≡_};
-ghost use mathlib.Core.List.{map};
-ghost use Prim.Native.Nat.{_+_, _-_, _≤_, _<_};
+ghost use Prim.Native.Nat.{_+_, _≤_, _<_};
 ghost use lib.ListN.{take};
-ghost use Rattle.lists.specs.Lists.{part};
 ghost use Rattle.cleaning.specs.Sections.{place, between};
-ghost use Rattle.run_state.specs.View.{listed, factsAt, unresolvedAt, rootAt};
+ghost use Rattle.run_state.specs.View.{listed, factsAt, unresolvedAt};
 ghost use Rattle.run_state.specs.output.View.{depthIn};
-ghost use Rattle.run_group.specs.parts.Parts.{UnresolvedPart, RootsPart, lessBy};
+ghost use Rattle.run_group.specs.parts.Parts.{UnresolvedPart};
 
 // Where the rows of group g start: how many rows are of groups before it.
 pub fn group_place(rows: Rows, g: usize) -> usize
@@ -45,18 +40,6 @@ pub fn part_head(groups: Groups, first: u64, g: usize) -> Head
         known: groups.known[g] != 0,
         least: groups.least[g],
         greatest: groups.greatest[g],
-    }
-}
-
-// The tags of the n rows from row a on.
-pub fn part_tags(rows: Rows, a: usize, n: usize) -> Tags
-    requires { ⌜ a + n ≤ 1024 ⌝ }
-    ensures { λ r. ⌜ (r .count ≡ n) × (take n (r .tags) ≡ part a n (rows .tags)) ⌝ }
-{
-    let tags = part64(&rows.tags, a, n);
-    Tags {
-        count: n,
-        tags: tags,
     }
 }
 
@@ -85,29 +68,4 @@ pub fn part_unresolved(u: Unresolved, low: u64, high: u64) -> Unresolved
     let a = place_of(&u.children, u.count, low);
     let b = place_of(&u.children, u.count, high);
     unresolved_from(u, a, b - a)
-}
-
-// The n roots from place a on, their rows less `low`.
-fn roots_from(r: Roots, a: usize, n: usize, low: u64) -> Roots
-    requires { ⌜ a + n ≤ 1024 ⌝ }
-    ensures { λ q. ⌜ RootsPart a n low r q ⌝ }
-{
-    let rows = less64(&r.rows, a, n, low);
-    let handles = part64(&r.handles, a, n);
-    Roots {
-        count: n,
-        rows: rows,
-        handles: handles,
-    }
-}
-
-// The roots of the rows from `low` up to `high`, which count from `low`.
-pub fn part_roots(r: Roots, low: u64, high: u64) -> Roots
-    requires { ⌜ (r .count ≤ 1024) × (low ≤ high) ⌝ }
-    ensures { λ q. ⌜ listed (rootAt q) (q .count) ≡ map (lessBy low) (between (λ x. x .row) low high (listed (rootAt r) (r .count))) ⌝ }
-    ensures { λ q. ⌜ q .count ≤ 1024 ⌝ }
-{
-    let a = place_of(&r.rows, r.count, low);
-    let b = place_of(&r.rows, r.count, high);
-    roots_from(r, a, b - a, low)
 }

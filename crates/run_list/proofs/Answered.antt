@@ -28,9 +28,9 @@ use Rattle.run_state.specs.declared.Held.{Held}
 use Rattle.run_state.specs.View.{sheetIn, heldIn}
 use Rattle.run_state.specs.order.Long.{LongSheet, LongHeld}
 use Rattle.run_state.proofs.order.TidySheets.{tidy-sheet, filled-sheet}
+use Rattle.run_state.proofs.Rulings.{kept-none, broken-some}
 use Rattle.run_resolve.proofs.sheet.Asking.{few-held}
 use Rattle.run_resolve.specs.Outcome.{archiveIn}
-use Rattle.run_write.proofs.Rest.{kept-none, broken-some}
 use Rattle.run_state.specs.declared.Writing.the-variants.{Length, Refused}
 use Rattle.run_text.specs.numbers.Wrote.{Wrote}
 use Rattle.run_list.specs.Need.{listingNeed}

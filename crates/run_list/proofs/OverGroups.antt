@@ -1,31 +1,31 @@
 -- The files of the groups from one on: their lines and what those take. All are those from group 0 on; one turn of each loop goes from g to g + 1.
 use mathlib.Core.Path.{_≡_, refl, sym, ap, _∙_}
 use mathlib.Core.List.{List, [], _∷_, _++_, map}
-use mathlib.Core.Option.{none}
+use mathlib.Core.Option.{Option, none}
 use Prim.Native.Nat.{ℕ, suc, _+_, _-_, _*_, _≤_, _<_}
 use native.Mathlib.Numerals.{add-one}
 use native.Mathlib.Omega.{arith}
 use lib.ListN.{length}
 use Rattle.lists.specs.Lists.{flat, upFrom, sum}
 use Rattle.lists.proofs.Flat.{length-map-upFrom}
-use Rattle.columns.specs.declared.refusal.Refusal.{Refusal}
-use Rattle.archive.specs.File.{File}
 use Rattle.columns.specs.Answers.{ruling}
+use Rattle.columns.specs.Building.{buildRules}
+use Rattle.columns.specs.declared.refusal.Refusal.{Refusal}
 use Rattle.columns.specs.declared.refusal.Ruling.the-variants.{Kept, Broken}
+use Rattle.archive.specs.File.{File}
 use Rattle.cleaning.specs.Listing.{fileLines}
 use Rattle.cleaning.specs.Sheet as plain
 use Rattle.cleaning.specs.Sections.{sectionGraph, sectionFile, sectionRules}
-use Rattle.columns.specs.Building.{buildRules}
 use Rattle.run_state.specs.declared.Sheet.{Sheet}
 use Rattle.run_state.specs.View.{factsAt, sheetIn}
-use Rattle.run_state.specs.output.View.{fileIn}
-use Rattle.run_output.specs.by_value.Made.{Made}
-use Rattle.run_output.specs.declared.by_value.GroupFile.{GroupFile}
-use Rattle.run_write.proofs.Rest.{rulesFrom, kept-none, rules-end, rules-first}
+use Rattle.run_state.specs.output.View.{builtIn}
+use Rattle.run_write.proofs.Rest.{rulesFrom, rules-end, rules-next, rules-first, kept-rules, goes-on, stops}
 use Rattle.run_text.specs.numbers.Wrote.{Wrote}
+use Rattle.run_text.specs.files.Files.{fileText, fileSize, entries, Within}
 use Rattle.run_text.proofs.lines.Columns.{Going}
 use Rattle.run_list.specs.Need.{fileNeed, filesNeed}
-use Rattle.run_list.specs.Groups.{sectionFiles, NeededBy}
+use Rattle.run_list.specs.Groups.{sectionFiles, Shows, NeededBy}
+use Rattle.run_list.specs.declared.files.Shown.{Shown}
 use Rattle.run_list.proofs.Along.{part-more, parts-end}
 
 -- ── the rest ─────────────────────────────────────────────────────────────────────────────────
@@ -85,26 +85,40 @@ module _ (s : Sheet) where
 
 -- ── one turn ─────────────────────────────────────────────────────────────────────────────────
 
-module _ (s : plain.Sheet) (g n : ℕ) {r : GroupFile} (m : Made s g r) (h : g < n) where
-  pub turn-need : r .ruling ≡ Kept → {l q : ℕ} (t : ℕ) → l ≡ t + needFrom s g n → q ≡ fileNeed (fileIn (r .file)) → l ≡ t + q + needFrom s (g + 1) n
-  turn-need k t e f =
-      let z = m .file (kept-none (buildRules (sectionGraph s g)) (sym (m .rules) ∙ k)) in
-      omega (arith, need-next s g n h, ap fileNeed z)
+module _ (s : plain.Sheet) (g n : ℕ) {r : Shown} (m : Shows s g r) (h : g < n) where
+  module _ (k : r .ruling ≡ Kept) where
+    pub turn-within : Within (r .rows) (r .sets)
+    turn-within = m .within (kept-rules s g n h (m .rules) k)
+
+    pub turn-rules : {t : Option Refusal} → t ≡ rulesFrom s g n → t ≡ rulesFrom s (g + 1) n
+    turn-rules e = goes-on s g n h (m .rules) k e
+
+    pub turn-need : {l q : ℕ} (t : ℕ) → l ≡ t + needFrom s g n → q ≡ fileSize (r .rows) (entries (r .sets)) → l ≡ t + q + needFrom s (g + 1) n
+    turn-need t e f = omega (arith, need-next s g n h, m .need (kept-rules s g n h (m .rules) k))
+
+  pub turn-broken : {t : Option Refusal} (x : Refusal) → t ≡ rulesFrom s g n → r .ruling ≡ Broken x → Broken x ≡ ruling t
+  turn-broken x e k = stops s g n h (m .rules) x e k
 
   module _ (k : rulesFrom s g n ≡ none) where
-    same-file : fileIn (r .file) ≡ sectionFile s g
-    same-file = m .file (rules-first s g n h k)
+    first-kept : buildRules (sectionGraph s g) ≡ none
+    first-kept = rules-first s g n h k
+
+    pub lines-within : Within (r .rows) (r .sets)
+    lines-within = m .within first-kept
+
+    pub rules-left : rulesFrom s (g + 1) n ≡ none
+    rules-left = sym (rules-next s g n h first-kept ∙ ap (λ x. rulesFrom s x n) (sym (add-one g))) ∙ k
 
     module _ (p : ℕ) {t : ℕ} (u : p + needFrom s g n ≤ t) where
-      pub lines-room : {j k : ℕ} → t ≤ k → j ≡ k → p + fileNeed (fileIn (r .file)) ≤ j
-      lines-room a b = omega (arith, need-next s g n h, ap fileNeed same-file)
+      pub lines-room : {j k : ℕ} → t ≤ k → j ≡ k → p + fileSize (r .rows) (entries (r .sets)) ≤ j
+      lines-room a b = omega (arith, need-next s g n h, m .need first-kept)
 
-      pub need-left : {was is : List ℕ} {q : ℕ} → Wrote (fileLines (fileIn (r .file))) (fileNeed (fileIn (r .file))) was p is q → q + needFrom s (g + 1) n ≤ t
-      need-left w = omega (arith, need-next s g n h, ap fileNeed same-file, w .next, w .short)
+      pub need-left : {text was is : List ℕ} {q : ℕ} → Wrote text (fileSize (r .rows) (entries (r .sets))) was p is q → q + needFrom s (g + 1) n ≤ t
+      need-left w = omega (arith, need-next s g n h, m .need first-kept, w .next, w .short)
 
     pub lines-left : {text was is k : List ℕ} {at p q : ℕ} → Going text was at is p (linesFrom s g n)
-        → Wrote (fileLines (fileIn (r .file))) (fileNeed (fileIn (r .file))) is p k q → Going text was at k q (linesFrom s (g + 1) n)
-    lines-left v w = part-more v (lines-next s g n h ∙ rw same-file) w
+        → Wrote (fileText g (r .first) (r .rows) (builtIn (r .rows) (r .sets))) (fileSize (r .rows) (entries (r .sets))) is p k q → Going text was at k q (linesFrom s (g + 1) n)
+    lines-left v w = part-more v (lines-next s g n h ∙ ap (λ l. l ++ linesFrom s (g + 1) n) (sym (m .lines first-kept))) w
 
 -- ── where the loops end ──────────────────────────────────────────────────────────────────────
 

@@ -11,7 +11,7 @@ use lib.Seq.{getD-take}
 use Rattle.lists.specs.Lists.{flat, upFrom}
 use Rattle.run_renumber.specs.Numbers.{numbersFrom}
 use Rattle.cleaning.specs.Archive.{Archive, at}
-use Rattle.cleaning.specs.Cleaning.{renumber}
+use Rattle.cleaning.specs.Cleaning.{renumber, newNumber}
 use Rattle.cleaning.specs.Held.{archiveHeld}
 use Rattle.cleaning.specs.Listing.{mapLine}
 use Rattle.cleaning.proofs.Slots.{Columns, flags-length, erased-says, numbers-new}
@@ -29,7 +29,6 @@ use Rattle.run_text.specs.numbers.Wrote.{Wrote}
 use Rattle.run_text.proofs.numbers.Joined.{renamed}
 use Rattle.run_text.specs.lines.Parts.{mapText}
 use Rattle.run_text.proofs.lines.Columns.{Going}
-use Rattle.run_text.proofs.files.Sizes.{map-line}
 use Rattle.run_list.specs.Rows.{mapsText, rowText, rowsText}
 use Rattle.run_list.proofs.Along.{part-more, parts-end}
 
@@ -75,6 +74,7 @@ shifted f g a (suc n) k h =
 module _ (A : Archive) (flags : List ℕ) (slots : List (List ℕ)) (c : Columns A flags slots) (numbers : List ℕ)
     (e : take (length flags) numbers ≡ numbersFrom (A .start) flags) where
   row-line : (i : ℕ) → i < 0 + length flags → rowText (A .start) flags numbers i ≡ mapLine A (A .start + i)
+  unfolding mapLine newNumber
   row-line i l =
       let p = A .start + i in
       let n = flags-length (A .events) flags (c .erased) in
@@ -83,7 +83,7 @@ module _ (A : Archive) (flags : List ℕ) (slots : List (List ℕ)) (c : Columns
       let b : getD numbers i 0 ≡ renumber A p =
       sym (getD-take (length flags) numbers i 0 (omega arith)) ∙ ap (λ ns. getD ns i 0) e ∙ ap (λ j. getD (numbersFrom (A .start) flags) j 0) (sym z)
       ∙ numbers-new A flags slots c p (omega arith) (omega arith) in
-      ap₂ (mapText p) a b ∙ map-line A p
+      ap₂ (mapText p) a b
 
   rows-are-maps : rowsText (A .start) flags numbers ≡ mapsText A
   unfolding rowsText mapsText

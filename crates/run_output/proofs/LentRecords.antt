@@ -4,10 +4,8 @@ use mathlib.Core.Bool.{true}
 use mathlib.Core.List.{List}
 use Prim.Native.Nat.{ℕ, _+_, _-_, _≤_}
 use native.Mathlib.Omega.{arith}
-use lib.ListN.{length, take, drop, replicate, length-replicate}
-use lib.Seq.{length-take-le}
+use lib.ListN.{length, take, length-replicate}
 use Rattle.lists.specs.Lists.{part}
-use Rattle.columns.specs.Limits.{maxRecords}
 use Rattle.cleaning.specs.Sections.{place, sectionUnresolved, sectionRoots}
 use Rattle.cleaning.specs.Writing.{unresolvedColumns}
 use Rattle.run_state.specs.declared.Sheet.{Sheet}
@@ -16,16 +14,15 @@ use Rattle.run_state.specs.View.{listed, unresolvedAt, rootAt, sheetIn}
 use Rattle.run_state.specs.Valid.{sheetOk}
 use Rattle.run_state.specs.order.Ordered.{ordered}
 use Rattle.run_state.specs.order.Long.{LongSheet}
-use Rattle.run_state.specs.output.Lent.{partColumn, lentUnresolved, lentRoots}
+use Rattle.run_state.specs.output.Lent.{lentUnresolved, lentRoots}
 use Rattle.run_file.specs.Long.{LentRecords}
 use Rattle.run_file.proofs.Taken.{part-listed, part-long}
-use Rattle.run_group.specs.parts.Parts.{lowered}
+use Rattle.run_group.specs.parts.Parts.{SpanOf, lowered}
 use Rattle.run_group.proofs.parts.Ranges.{places-within, places-rise, places-room, unresolved-between, roots-between}
 use Rattle.run_group.proofs.parts.Sectioned.{part-front}
 use Rattle.run_sets.specs.ColumnGraphs.{recordColumns, RecordsThere}
 use Rattle.run_sets.proofs.LentColumns.{records-are}
-use Rattle.run_output.specs.by_value.Made.{SpanOf}
-use Rattle.run_output.proofs.by_value.Spans.{rows-within, records-within, roots-within, spans, span-rises, numbers-rise, unresolved-made, roots-made}
+use Rattle.run_group.proofs.parts.Spans.{rows-within, records-within, roots-within, spans, span-rises, numbers-rise, unresolved-made, roots-made}
 use Rattle.run_output.specs.Lends.{LendsRecords, RecordsFrom, Widened}
 
 -- where the rows of a group stand, by a lent column of their groups

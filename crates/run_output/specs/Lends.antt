@@ -3,9 +3,10 @@ use mathlib.Core.Path.{_≡_}
 use mathlib.Core.List.{List}
 use Prim.Native.Nat.{ℕ, _+_, _≤_}
 use lib.ListN.{length, take, replicate}
-use Rattle.columns.specs.Limits.{maxRecords}
+use Rattle.columns.specs.Limits.{maxRecords, maxNumbers}
 use Rattle.cleaning.specs.Sections.{place}
 use Rattle.run_state.specs.declared.Sheet.{Sheet}
+use Rattle.run_state.specs.declared.output.Sets.{Sets}
 use Rattle.run_sets.specs.ColumnGraphs.{Lends}
 
 -- of its records: tags, unresolved references and roots
@@ -34,3 +35,9 @@ pub record LendsColumns (s : Sheet) (name numbered tags chains seqs offsets targ
   pub records : LendsRecords s tags children kinds handles rows roots
   pub widened : Widened s wide flags
   pub wide-long : length wide ≡ maxRecords
+
+-- no set has more edges than its columns
+pub record FewEdges (s : Sets) : Type 0 where
+  pub forward : s .forward .count ≤ maxNumbers
+  pub reverse : s .reverse .count ≤ maxNumbers
+  pub inbound : s .inbound .count ≤ maxNumbers

@@ -1,3 +1,2 @@
 pub mod PutBy
 pub mod Lends
-pub mod by_value

@@ -1,6 +1,4 @@
 // The output file of one group of a run's survivors, built once: the first rule that it breaks, or how long it is; where it has room, it is written.
-pub mod by_value;
-
 use columns::refusal::Ruling;
 use columns_encode::kept::Encoded;
 use run_file::put_bare;
@@ -30,9 +28,9 @@ ghost use Rattle.run_state.specs.order.Long.{LongSheet};
 ghost use Rattle.run_state.specs.output.View.{builtIn, coverIn};
 ghost use Rattle.run_state.specs.output.Lent.{setsOf};
 ghost use Rattle.run_file.specs.Stored.{Stored};
+ghost use Rattle.run_group.specs.parts.Parts.{SpanOf};
 ghost use Rattle.run_sets.specs.ColumnGraphs.{LongSlices};
-ghost use Rattle.run_output.specs.by_value.Made.{SpanOf, FewEdges};
-ghost use Rattle.run_output.specs.Lends.{LendsRecords, RecordsFrom, LendsColumns};
+ghost use Rattle.run_output.specs.Lends.{LendsRecords, RecordsFrom, LendsColumns, FewEdges};
 ghost use Rattle.run_output.specs.PutBy.{PutBy};
 
 // The broken rule, if one is, and else the bytes of the file.

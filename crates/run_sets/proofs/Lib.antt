@@ -1,3 +1,4 @@
 pub mod SetSizes
 pub mod LentColumns
 pub mod GroupGraphs
+pub mod Judged

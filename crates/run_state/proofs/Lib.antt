@@ -1,2 +1,3 @@
 pub mod ColumnTurns
 pub mod Verdicts
+pub mod Rulings

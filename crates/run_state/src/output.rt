@@ -1,8 +1,5 @@
-// A file to be written, by value: the columns of its six records. specs/ says which file it stands for.
+// The parts of a file to be written, by value: its head, its edge sets and its cover. specs/ says what they stand for.
 use crate::Ends;
-use crate::Roots;
-use crate::Subject;
-use crate::Unresolved;
 
 // An edge set of the whole file.
 pub struct Set {
@@ -15,12 +12,6 @@ pub struct Sets {
     pub forward: Set,
     pub reverse: Set,
     pub inbound: Set,
-}
-
-// The tag of each row. No row is erased.
-pub struct Tags {
-    pub count: usize,
-    pub tags: [u64; 1024],
 }
 
 // The group, and its depth where that is known.
@@ -59,15 +50,4 @@ pub struct Cover {
     pub labels: Labels,
     pub ranges: Ranges,
     pub links: Links,
-}
-
-// Of each column the entries up to its count belong to the file.
-pub struct OutFile {
-    pub head: Head,
-    pub subject: Subject,
-    pub rows: Tags,
-    pub sets: Sets,
-    pub unresolved: Unresolved,
-    pub roots: Roots,
-    pub cover: Cover,
 }

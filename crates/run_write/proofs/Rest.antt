@@ -19,10 +19,8 @@ use Rattle.cleaning.specs.Sections.{sectionGraph, sectionFile}
 use Rattle.columns.specs.Answers.{ruling}
 use Rattle.columns.specs.declared.refusal.Ruling.{Ruling}
 use Rattle.columns.specs.declared.refusal.Ruling.the-variants.{Kept, Broken}
-use Rattle.run_state.specs.output.View.{Counted}
+use Rattle.run_state.proofs.Rulings.{kept-none, broken-some}
 use Rattle.run_file.specs.Stored.{Stored}
-use Rattle.run_output.specs.by_value.Made.{Made}
-use Rattle.run_output.specs.declared.by_value.GroupFile.{GroupFile}
 use Rattle.run_output.specs.PutBy.{PutBy}
 use Rattle.run_output.specs.declared.Put.{Put}
 
@@ -76,41 +74,20 @@ module _ (s : Sheet) (g n : ℕ) where
   unfolding bytesFrom encode
   bytes-next h = rw (more h)
 
--- rules that are kept, by the answer
-pub kept-none : (r : Option Refusal) → ruling r ≡ Kept → r ≡ none
-kept-none none e = refl
-kept-none (some x) e = let z : _≡_ {A = ℕ} 0 1 = cc in absurd (omega arith)
-
-pub broken-some : (r : Option Refusal) (x : Refusal) → ruling r ≡ Broken x → r ≡ some x
-broken-some none x e = let z : _≡_ {A = ℕ} 0 1 = cc in absurd (omega arith)
-broken-some (some y) x e = cc
-
 -- ── one turn ─────────────────────────────────────────────────────────────────────────────────
 
 module _ (s : Sheet) (g n : ℕ) (h : g < n) {q : Ruling} (m : q ≡ ruling (buildRules (sectionGraph s g))) where
   -- a group that keeps the rules leaves the others'
   module _ (k : q ≡ Kept) where
-    kept-rules : buildRules (sectionGraph s g) ≡ none
+    pub kept-rules : buildRules (sectionGraph s g) ≡ none
     kept-rules = kept-none (buildRules (sectionGraph s g)) (sym m ∙ k)
 
-    goes-on : {t : Option Refusal} → t ≡ rulesFrom s g n → t ≡ rulesFrom s (g + 1) n
+    pub goes-on : {t : Option Refusal} → t ≡ rulesFrom s g n → t ≡ rulesFrom s (g + 1) n
     goes-on e = e ∙ rules-next s g n h kept-rules ∙ ap (λ k. rulesFrom s k n) (sym (add-one g))
 
   -- the rule that a group breaks is the first
-  stops : {t : Option Refusal} (x : Refusal) → t ≡ rulesFrom s g n → q ≡ Broken x → Broken x ≡ ruling t
+  pub stops : {t : Option Refusal} (x : Refusal) → t ≡ rulesFrom s g n → q ≡ Broken x → Broken x ≡ ruling t
   stops x e k = rw (e, rules-broken s g n h x (broken-some (buildRules (sectionGraph s g)) x (sym m ∙ k)))
-
--- of files by value
-module _ (s : Sheet) (g n : ℕ) {r : GroupFile} (m : Made s g r) (h : g < n) where
-  module _ (k : r .ruling ≡ Kept) where
-    pub turn-counted : Counted (r .file)
-    turn-counted = m .counted (kept-rules s g n h (m .rules) k)
-
-    pub turn-rules : {t : Option Refusal} → t ≡ rulesFrom s g n → t ≡ rulesFrom s (g + 1) n
-    turn-rules e = goes-on s g n h (m .rules) k e
-
-  pub turn-broken : {t : Option Refusal} (x : Refusal) → t ≡ rulesFrom s g n → r .ruling ≡ Broken x → Broken x ≡ ruling t
-  turn-broken x e k = stops s g n h (m .rules) x e k
 
 -- of files that are written
 module _ (s : Sheet) (g n at : ℕ) {was is : List ℕ} {r : Put} (m : PutBy s g at was is r) (h : g < n) where

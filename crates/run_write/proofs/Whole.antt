@@ -4,7 +4,6 @@ use mathlib.Core.Bool.{true, cond}
 use mathlib.Core.List.{List, _++_}
 use mathlib.Core.Option.{none}
 use Prim.Native.Nat.{ℕ, _+_, _-_, _≤_, _<_}
-use native.Mathlib.Numerals.{add-one}
 use native.Mathlib.Omega.{arith}
 use lib.Dec.{leb}
 use lib.ListN.{length, take, drop}
@@ -27,15 +26,13 @@ use Rattle.run_state.specs.Valid.{countsOk, sheetOk}
 use Rattle.run_state.specs.order.Ordered.{ordered, filled}
 use Rattle.run_state.specs.order.Long.{LongSheet}
 use Rattle.run_state.proofs.order.TidySheets.{counts, tidy-sheet, filled-sheet}
+use Rattle.run_state.proofs.Rulings.{kept-none, broken-some}
 use Rattle.columns.specs.Answers.{ruling}
 use Rattle.columns.specs.declared.refusal.Ruling.the-variants.{Kept, Broken}
-use Rattle.run_state.specs.output.View.{Counted}
-use Rattle.run_output.specs.by_value.Made.{Made}
-use Rattle.run_output.specs.declared.by_value.GroupFile.{GroupFile}
 use Rattle.run_write.specs.Answers.{MeasuredBy, Laid, Wrote}
 use Rattle.run_write.specs.declared.Measured.{Measured}
 use Rattle.run_state.specs.declared.Writing.the-variants.{Length, Refused}
-use Rattle.run_write.proofs.Rest.{rulesFrom, bytesFrom, kept-none, broken-some, rules-end, bytes-end, rules-next, rules-first}
+use Rattle.run_write.proofs.Rest.{rulesFrom, bytesFrom, rules-end, bytes-end}
 
 -- ── where the loops start ────────────────────────────────────────────────────────────────────
 
@@ -85,15 +82,6 @@ pub laid-broken : (s : Sheet) (x : Refusal) (t : ℕ) (was is : List ℕ) → Br
 laid-broken s x t was is e =
     let never : sectionRules (sheetIn s) ≡ none → ⊥ = λ k. let f : Broken x ≡ Kept = e ∙ ap ruling k in let z : _≡_ {A = ℕ} 0 1 = cc in omega arith in
     record { measured = record { rules = e; length-is = λ k. absurd (never k) }; stored = λ k room. absurd (never k) }
-
--- ── one turn of a loop over files by value ───────────────────────────────────────────────────
-
-module _ (s : Sheet) (g n at : ℕ) {r : GroupFile} (m : Made (sheetIn s) g r) (h : g < n) (k : rulesFrom (sheetIn s) g n ≡ none) where
-  pub file-counted : Counted (r .file)
-  file-counted = m .counted (rules-first (sheetIn s) g n h k)
-
-  pub rest-rules : rulesFrom (sheetIn s) (g + 1) n ≡ none
-  rest-rules = sym (rules-next (sheetIn s) g n h (rules-first (sheetIn s) g n h k) ∙ ap (λ x. rulesFrom (sheetIn s) x n) (sym (add-one g))) ∙ k
 
 -- ── a room ───────────────────────────────────────────────────────────────────────────────────
 

@@ -99,9 +99,6 @@ module _ (u r : Unresolved) (low high a b : ℕ) (p : a ≡ place low (take (u .
 
 module _ (r q : Roots) (low high a b : ℕ) (p : a ≡ place low (take (r .count) (r .rows))) (o : b ≡ place high (take (r .count) (r .rows)))
     (w : RootsPart a (b - a) low r q) (h : low ≤ high) (k : r .count ≤ 1024) where
-  pub roots-few : q .count ≤ 1024
-  roots-few = omega (arith, w .count, places-room low high (r .count) (r .rows) a b p o h k)
-
   pub roots-between : length (r .rows) ≡ 1024
       → listed (rootAt q) (q .count) ≡ map (lessBy low) (between (λ x. x .row) low high (listed (rootAt r) (r .count)))
   unfolding rootAt

@@ -23,7 +23,6 @@ use Rattle.run_state.specs.View.{listed, factsAt, unresolvedAt, rootAt, sheetIn
 use Rattle.run_state.specs.Valid.{countsOk, sheetOk}
 use Rattle.run_state.specs.order.Ordered.{ordered}
 use Rattle.run_state.specs.order.Long.{LongSheet}
-use Rattle.run_state.proofs.order.Turns.{rows-few}
 use Rattle.run_state.proofs.order.TidySheets.{counts, tags-length, tidy-sheet}
 use Rattle.run_group.specs.parts.Parts.{lessBy}
 
@@ -50,9 +49,6 @@ module _ (s : Sheet) (g : ℕ) where
   unfolding sectionStart
   starts-rise = place-rises g (suc g) ((sheetIn s) .rowGroups) (omega arith)
 
-  pub numbers-rise : sectionFirst (sheetIn s) g ≤ sectionEnd (sheetIn s) g
-  numbers-rise = omega (arith, starts-rise)
-
   pub unresolved-section : between (λ x. x .child) (sectionFirst (sheetIn s) g) (sectionEnd (sheetIn s) g) (listed (unresolvedAt (s .unresolved)) (s .unresolved .count))
       ≡ sectionUnresolved (sheetIn s) g
   unfolding sheetIn
@@ -78,9 +74,6 @@ module _ (s : Sheet) (g : ℕ) where
     section-ends =
         let t : Tidy (sheetIn s) = tidy-sheet s l k o in
         omega (arith, section-end (sheetIn s) t g, section-within (sheetIn s) t g, tags-length s l k)
-
-    pub section-room : sectionStart (sheetIn s) g + sectionRows (sheetIn s) g ≤ 1024
-    section-room = omega (arith, section-ends, rows-few s (counts s l k))
 
     -- a number of a group that is there
     pub group-few : g < s .groups .count → g < 16

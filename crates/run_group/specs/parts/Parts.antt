@@ -2,12 +2,20 @@
 -- are parts of the run's columns.
 use mathlib.Core.Path.{_≡_}
 use mathlib.Core.List.{List, map}
-use Prim.Native.Nat.{ℕ, _-_}
+use Prim.Native.Nat.{ℕ, suc, _-_}
 use lib.ListN.{take}
 use Rattle.lists.specs.Lists.{part}
 use Rattle.archive.specs.File.{Root}
+use Rattle.cleaning.specs.Sections.{sectionStart}
+use Rattle.run_state.specs.declared.Sheet.{Sheet}
 use Rattle.run_state.specs.declared.Unresolved.{Unresolved}
 use Rattle.run_state.specs.declared.Roots.{Roots}
+use Rattle.run_state.specs.View.{sheetIn}
+
+-- the rows of group g stand from row a up to row b
+pub record SpanOf (s : Sheet) (g a b : ℕ) : Type 0 where
+  pub from : a ≡ sectionStart (sheetIn s) g
+  pub to : b ≡ sectionStart (sheetIn s) (suc g)
 
 -- a root whose row counts from `low`
 abbrev pub lessBy : ℕ → Root → Root

@@ -5,7 +5,7 @@ use native.Mathlib.Omega.{arith}
 use Rattle.run_group.proofs.parts.Sectioned.{group-few}
 use Rattle.run_group.proofs.covers.Covered.{covers-none}
 use Rattle.run_state.specs.output.Lent.{setsOf, noCover, lentUnresolved, lentRoots}
-use Rattle.run_output.proofs.by_value.Spans.{span-rises, span-room, start-fits, links-within}
+use Rattle.run_group.proofs.parts.Spans.{span-rises, span-room, start-fits, links-within}
 use Rattle.run_output.proofs.LentRecords.{roots-count, records-rise, records-room, unresolved-lent, roots-rise, roots-room, rows-room, all-there, roots-lent}
 use Rattle.run_output.proofs.Assembled.{slices-long, tags-room, lent-counted, section-stored}
 use borrow.Author.Needs.{needs}

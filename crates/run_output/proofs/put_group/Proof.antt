@@ -1,7 +1,7 @@
 -- `run_output::put_group` meets its contract: building's refusal, or the file of the sets that it leaves.
 use native.Mathlib.Omega.{arith}
 use Rattle.run_group.proofs.parts.Sectioned.{group-few}
-use Rattle.run_output.proofs.by_value.Spans.{span-from, span-rises, span-rows, start-fits, end-fits}
+use Rattle.run_group.proofs.parts.Spans.{span-from, span-rises, span-rows, start-fits, end-fits}
 use Rattle.run_output.proofs.LentRecords.{spans-lent, rows-count, children-count, records-from, records-rise, records-there, records-given}
 use Rattle.run_output.proofs.Assembled.{edges-few, put-broken, put-kept}
 use borrow.Author.Needs.{needs}

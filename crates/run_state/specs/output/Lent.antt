@@ -12,7 +12,7 @@ use Rattle.run_state.specs.declared.Roots.{Roots}
 use Rattle.run_state.specs.declared.output.Sets.{Sets}
 use Rattle.run_state.specs.declared.output.Head.{Head}
 use Rattle.run_state.specs.declared.output.Cover.{Cover}
-use Rattle.run_state.specs.declared.output.OutFile.{OutFile}
+use Rattle.run_state.specs.output.View.{OutFile}
 
 -- three sets by their counts and their columns
 abbrev pub setsOf : ℕ → ℕ → ℕ → List ℕ → List ℤ → List ℕ → List ℤ → List ℕ → List ℤ → Sets

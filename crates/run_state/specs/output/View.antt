@@ -1,4 +1,5 @@
--- Document 01, "Archive records": the file that columns by value stand for. Of each column the entries up to its count are the file's.
+-- Document 01, "Archive records": a file to be written as the columns of its six records, and the file that they stand for. Of each column the
+-- entries up to its count are the file's.
 use mathlib.Core.Bool.{cond}
 use mathlib.Core.List.{List, map}
 use mathlib.Core.Option.{Option, none, some}
@@ -12,6 +13,8 @@ use Rattle.cover.specs.Cover.{LinkColumns}
 use Rattle.archive.specs.File.{CoverColumns, File}
 use Rattle.cleaning.specs.Sections.{unerasedRow}
 use Rattle.run_state.specs.declared.Subject.{Subject}
+use Rattle.run_state.specs.declared.Unresolved.{Unresolved}
+use Rattle.run_state.specs.declared.Roots.{Roots}
 use Rattle.run_state.specs.View.{listed, unresolvedAt, rootAt}
 use Rattle.run_state.specs.declared.output.Set.{Set}
 use Rattle.run_state.specs.declared.output.Sets.{Sets}
@@ -19,7 +22,6 @@ use Rattle.run_state.specs.declared.output.Head.{Head}
 use Rattle.run_state.specs.declared.output.Ranges.{Ranges}
 use Rattle.run_state.specs.declared.output.Links.{Links}
 use Rattle.run_state.specs.declared.output.Cover.{Cover}
-use Rattle.run_state.specs.declared.output.OutFile.{OutFile}
 
 -- ── the parts ────────────────────────────────────────────────────────────────────────────────
 
@@ -63,6 +65,20 @@ unfoldable pub subjectIn : Subject → List ℕ
 subjectIn s = take (s .length) (s .bytes)
 
 -- ── the file ─────────────────────────────────────────────────────────────────────────────────
+
+-- the tag of each row; no row is erased
+pub record Tags : Type 0 where
+  pub count : ℕ
+  pub tags : List ℕ
+
+pub record OutFile : Type 0 where
+  pub head : Head
+  pub subject : Subject
+  pub rows : Tags
+  pub sets : Sets
+  pub unresolved : Unresolved
+  pub roots : Roots
+  pub cover : Cover
 
 unfoldable pub fileIn : OutFile → File
 fileIn f = record {

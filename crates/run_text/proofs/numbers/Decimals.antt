@@ -52,11 +52,6 @@ decimal-short (suc k) n h = elim (tested (ltb n 10)) [
 pub decimal-size : (n : ℕ) → n < 2 ^ 64 → length (decimal n) ≤ 20
 decimal-size n h = decimal-short 19 n (omega arith)
 
-pub signed-size : (d : ℤ) → SFits w64 d → length (signed d) ≤ 20
-unfolding signed
-signed-size (pos n) s = decimal-size n (omega (arith, s .sfits))
-signed-size (negsuc n) s = omega (arith, decimal-short 18 (suc n) (omega (arith, s .sfits)))
-
 -- ── signed numbers by two's complement ───────────────────────────────────────────────────────
 
 module _ (d : ℤ) (s : SFits w64 d) {n : ℕ} (e : n ≡ unsignedOf (toZ w64 (ofZ w64 d))) where

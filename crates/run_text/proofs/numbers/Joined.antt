@@ -5,7 +5,7 @@ use Prim.Native.Nat.{ℕ, _+_, _-_, _/_, _%_, _≤_, _<_}
 use native.Mathlib.Omega.{arith}
 use lib.IntN.{ℤ}
 use lib.ListN.{length, length-append}
-use lib.Seq.{sets, length-sets}
+use lib.Seq.{length-sets}
 use mir.Syntax.{w64}
 use mir.Val.{Fits, SFits, toZ, ofZ}
 use Rattle.archive_bytes.specs.Bytes.{unsignedOf}
@@ -30,9 +30,6 @@ renamed {b = b} w e h = record {
   next = w .next ∙ rw e;
   short = rw (← e) (omega (arith, w .short));
 }
-
-pub byte-written : {was is : List ℕ} {at b : ℕ} → is ≡ sets was at (b ∷ []) → Wrote (b ∷ []) 1 was at is (at + 1)
-byte-written e = record { stored = e; next = refl; short = omega arith }
 
 -- ── the digits of a number ───────────────────────────────────────────────────────────────────
 

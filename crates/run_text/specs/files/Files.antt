@@ -3,13 +3,11 @@ use mathlib.Core.List.{List, _++_}
 use Prim.Native.Nat.{ℕ, _+_, _*_, _≤_}
 use lib.IntN.{ℤ}
 use lib.ListN.{length}
-use Rattle.lists.specs.Lists.{sum, Each}
 use Rattle.lists.specs.Text.{text}
 use Rattle.columns.specs.Limits.{maxRecords, maxNumbers, maxGroups}
 use Rattle.columns.specs.EdgeSet.{EdgeSet}
 use Rattle.columns.specs.Building.{Built}
 use Rattle.archive.specs.File.{File}
-use Rattle.archive.specs.Fits.{FileFits}
 use Rattle.cleaning.specs.Listing.{setLines}
 use Rattle.run_state.specs.declared.output.Sets.{Sets}
 use Rattle.run_text.specs.lines.Parts.{headText}
@@ -50,15 +48,6 @@ filesRoom = 224 * maxGroups + 126 * maxRecords + 21 * (3 * maxNumbers)
 -- and with them a line for each event, and the last one: 437,792 bytes
 abbrev pub listingRoom : ℕ
 listingRoom = 46 * maxRecords + (filesRoom + 32)
-
--- files within the limits of a run, whose numbers fit
-pub record Few (fs : List File) : Type 0 where
-  pub fit : Each (λ f. FileFits f) fs
-  pub groups : length fs ≤ maxGroups
-  pub rows : sum (λ f. length (f .rows)) fs ≤ maxRecords
-  pub forward : sum (λ f. length (f .forward .deltas)) fs ≤ maxNumbers
-  pub reverse : sum (λ f. length (f .reverse .deltas)) fs ≤ maxNumbers
-  pub inbound : sum (λ f. length (f .inbound .deltas)) fs ≤ maxNumbers
 
 -- ── sets by value ────────────────────────────────────────────────────────────────────────────
 

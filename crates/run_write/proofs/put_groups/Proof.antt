@@ -7,7 +7,7 @@ use lib.Seq.{sets}
 use Rattle.cleaning.specs.Sections.{sectionRules, sectionBytes}
 use Rattle.run_state.specs.View.{sheetIn}
 use Rattle.run_sets.specs.ColumnGraphs.{LongSlices}
-use Rattle.run_output.proofs.by_value.Spans.{records-within}
+use Rattle.run_group.proofs.parts.Spans.{records-within}
 use Rattle.run_output.specs.Lends.{LendsColumns}
 use Rattle.run_write.proofs.Rest.{rulesFrom, bytesFrom, put-few, put-rules, put-length, put-rest, put-broken}
 use Rattle.run_write.proofs.Whole.{groups-few, all-rules, all-length, none-written, laid, laid-broken}

@@ -3,11 +3,11 @@ use mathlib.Core.Path.{_≡_}
 use Prim.Native.Nat.{_+_, _-_, _*_, _≤_}
 use Rattle.cleaning.specs.Sections.{sectionRules}
 use Rattle.run_state.specs.View.{sheetIn}
-use Rattle.run_write.proofs.Rest.{rulesFrom, turn-counted, turn-rules, turn-broken}
+use Rattle.run_write.proofs.Rest.{rulesFrom}
 use Rattle.run_write.proofs.Whole.{groups-few, all-rules}
 use Rattle.run_list.specs.Need.{filesNeed}
 use Rattle.run_list.specs.Groups.{sectionFiles}
-use Rattle.run_list.proofs.OverGroups.{needFrom, all-need, turn-need, need-known, need-refused}
+use Rattle.run_list.proofs.OverGroups.{needFrom, all-need, turn-within, turn-rules, turn-need, turn-broken, need-known, need-refused}
 use borrow.Author.Needs.{needs}
 use Rattle.run_list.proofs.files.need_of_all.Statement.{statement}
 use Rattle.run_list.proofs.files.need_of_all.Tie as tie
@@ -27,7 +27,7 @@ returns : tie.Need-returns Inv-loop μ-loop
 returns c = search (needs, need-refused, turn-broken)
 
 need-of-requires : tie.Need-need-of-requires Inv-loop μ-loop
-need-of-requires c κs = search (needs, turn-counted)
+need-of-requires c κs = search (needs, turn-within)
 
 loop-again : tie.Need-loop-again Inv-loop μ-loop
 loop-again c = search (needs, turn-rules, turn-need)

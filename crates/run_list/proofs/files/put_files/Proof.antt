@@ -7,11 +7,11 @@ use Rattle.lists.specs.Lists.{flat}
 use Rattle.cleaning.specs.Listing.{fileLines}
 use Rattle.run_state.specs.View.{sheetIn}
 use Rattle.run_write.proofs.Rest.{rulesFrom}
-use Rattle.run_write.proofs.Whole.{groups-few, no-rules, file-counted, rest-rules}
+use Rattle.run_write.proofs.Whole.{groups-few, no-rules}
 use Rattle.run_text.proofs.lines.Columns.{Going}
 use Rattle.run_list.specs.Need.{filesNeed}
 use Rattle.run_list.specs.Groups.{sectionFiles}
-use Rattle.run_list.proofs.OverGroups.{linesFrom, needFrom, all-room, all-lines, lines-room, need-left, lines-left, lines-done}
+use Rattle.run_list.proofs.OverGroups.{linesFrom, needFrom, all-room, all-lines, lines-within, rules-left, lines-room, need-left, lines-left, lines-done}
 use borrow.Author.Needs.{needs}
 use Rattle.run_list.proofs.files.put_files.Statement.{statement}
 use Rattle.run_list.proofs.files.put_files.Tie as tie
@@ -28,11 +28,11 @@ abbrev μ-loop : tie.MeasureT-loop
 loop-holds : tie.Need-loop-holds Inv-loop μ-loop
 loop-holds c = search (needs, groups-few, no-rules, all-room, all-lines)
 
-put-lines-requires : tie.Need-put-lines-requires Inv-loop μ-loop
-put-lines-requires c κs = search (needs, file-counted, lines-room)
+put-file-requires : tie.Need-put-file-requires Inv-loop μ-loop
+put-file-requires c κs = search (needs, lines-within, lines-room)
 
 loop-again : tie.Need-loop-again Inv-loop μ-loop
-loop-again c = (search needs, search needs, search needs, search (needs, rest-rules), search needs, search (needs, need-left), search (needs, lines-left))
+loop-again c = (search needs, search needs, search needs, search (needs, rules-left), search needs, search (needs, need-left), search (needs, lines-left))
 
 returns : tie.Need-returns Inv-loop μ-loop
 returns c = search (needs, lines-done)
@@ -46,7 +46,7 @@ put-files-spec =
     (λ c κs. search needs)
     loop-holds
     (λ c κs. search needs)
-    put-lines-requires
+    put-file-requires
     (λ c. search needs)
     (λ c. search needs)
     loop-again

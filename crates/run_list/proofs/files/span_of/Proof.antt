@@ -1,8 +1,8 @@
--- `run_output::by_value::span_of` meets its contract.
-use Rattle.run_output.proofs.by_value.Spans.{rows-within, spans}
+-- `run_list::files::span_of` meets its contract.
+use Rattle.run_group.proofs.parts.Spans.{rows-within, spans}
 use borrow.Author.Needs.{needs}
-use Rattle.run_output.proofs.by_value.span_of.Statement.{statement}
-use Rattle.run_output.proofs.by_value.span_of.Tie as tie
+use Rattle.run_list.proofs.files.span_of.Statement.{statement}
+use Rattle.run_list.proofs.files.span_of.Tie as tie
 
 group-place-requires : tie.Need-group-place-requires
 group-place-requires c κs = search (needs, rows-within)

@@ -18,9 +18,8 @@ use Rattle.run_state.specs.order.Ordered.{ordered}
 use Rattle.run_state.specs.order.Long.{LongSheet}
 use Rattle.run_state.proofs.order.Turns.{rows-few, children-few, roots-few, links-few}
 use Rattle.run_state.proofs.order.TidySheets.{counts}
-use Rattle.run_group.specs.parts.Parts.{lessBy}
+use Rattle.run_group.specs.parts.Parts.{SpanOf, lessBy}
 use Rattle.run_group.proofs.parts.Sectioned.{start-place, end-place, starts-rise, unresolved-section, roots-section, section-ends}
-use Rattle.run_output.specs.by_value.Made.{SpanOf}
 
 module _ (s : Sheet) (l : LongSheet s) (k : sheetOk s ≡ true) where
   pub rows-within : s .rows .count ≤ 1024

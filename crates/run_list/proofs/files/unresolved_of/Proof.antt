@@ -1,8 +1,8 @@
--- `run_output::by_value::unresolved_of` meets its contract.
-use Rattle.run_output.proofs.by_value.Spans.{start-fits, end-fits, records-within, numbers-rise, unresolved-made}
+-- `run_list::files::unresolved_of` meets its contract.
+use Rattle.run_group.proofs.parts.Spans.{start-fits, end-fits, records-within, numbers-rise, unresolved-made}
 use borrow.Author.Needs.{needs}
-use Rattle.run_output.proofs.by_value.unresolved_of.Statement.{statement}
-use Rattle.run_output.proofs.by_value.unresolved_of.Tie as tie
+use Rattle.run_list.proofs.files.unresolved_of.Statement.{statement}
+use Rattle.run_list.proofs.files.unresolved_of.Tie as tie
 
 add-low : tie.Need-add-low
 add-low c = search (needs, start-fits)

@@ -1,0 +1,33 @@
+-- The sets by value that building's verdict gives: what their ruling says of the rules, and what the sets are where none is broken.
+use mathlib.Core.Path.{_≡_, refl, sym, _∙_}
+use mathlib.Core.Option.{Option, none, some}
+use Prim.Native.Nat.{ℕ}
+use Rattle.columns.specs.Refusal.{unless}
+use Rattle.columns.specs.Building.{Graph, buildRules, builtOf}
+use Rattle.columns.specs.Answers.{ruling}
+use Rattle.columns.specs.declared.refusal.Refusal.{Refusal}
+use Rattle.columns.specs.declared.refusal.Ruling.the-variants.{Kept}
+use Rattle.run_state.proofs.Rulings.{kept-none}
+use Rattle.run_sets.specs.declared.GroupSets.{GroupSets}
+use Rattle.run_sets.specs.section.Parted.{judged}
+use Rattle.run_sets.specs.ByVerdict.{Holds, SetsBy}
+
+module _ (g : Graph) (n : ℕ) (q : GroupSets) (m : SetsBy (judged g) n q) where
+  by-rules : (r : Option Refusal) → buildRules g ≡ r → SetsBy (unless r (builtOf g)) n q
+  unfolding judged
+  by-rules r e = rw (← e) m
+
+  pub rules-are : q .ruling ≡ ruling (buildRules g)
+  unfolding unless SetsBy
+  rules-are = go (buildRules g) refl
+    where
+      go : (r : Option Refusal) → buildRules g ≡ r → q .ruling ≡ ruling r
+      go none e = by-rules none e .ruling
+      go (some x) e = by-rules (some x) e
+
+  pub held-sets : buildRules g ≡ none → Holds n (builtOf g) q
+  unfolding unless SetsBy
+  held-sets e = by-rules none e
+
+  pub kept-sets : q .ruling ≡ Kept → Holds n (builtOf g) q
+  kept-sets k = held-sets (kept-none (buildRules g) (sym rules-are ∙ k))
