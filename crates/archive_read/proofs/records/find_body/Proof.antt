@@ -1,9 +1,9 @@
--- `archive_read::bodies::find_body` meets its contract.
+-- `archive_read::records::find_body` meets its contract.
 use native.Mathlib.Omega.{arith}
 use Rattle.archive_read.proofs.bodies.AtHead.{starts-late, no-start, too-small, too-long, no-version, no-kind, is-body}
 use borrow.Author.Needs.{needs}
-use Rattle.archive_read.proofs.bodies.find_body.Statement.{statement}
-use Rattle.archive_read.proofs.bodies.find_body.Tie as tie
+use Rattle.archive_read.proofs.records.find_body.Statement.{statement}
+use Rattle.archive_read.proofs.records.find_body.Tie as tie
 
 returns : tie.Need-returns
 returns c = (search starts-late, tt)
