@@ -1,23 +1,16 @@
 #!/usr/bin/env python3
-"""replay.py [--check]: writes what the replay programs read and must print, out of tests/differential/kept: cases.txt, the original's
+"""replay.py [--check]: writes what the program try_replay reads and must print, out of tests/differential/kept: cases.txt, the original's
 answers, and alone.txt, document 01's where the original has none; with --check it only says whether that is up to date.
 
-A case goes to its program as big-endian words of 64 bits: how many words follow, the question's place among the program's, the input's
-parts and the answer's, a list as its length and its numbers, a negative number in two's complement. A program that lends narrower numbers
-reads all its words once more in each narrower width, cut to it. The steps of a kept walk are cases of `next`: what was visited, the last
-level and what is left of the limit, and the level that comes next, none at the end."""
+A case is big-endian words of 64 bits: how many words follow, the question's place among the questions from 1 on, the input's parts and
+the answer's, a list as its length and its numbers, a negative number in two's complement. The steps of a kept walk are cases of `next`:
+what was visited, the last level and what is left of the limit, and the level that comes next, none at the end."""
 import os
 import sys
 
 HERE = os.path.dirname(os.path.dirname(os.path.abspath(__file__)))
 KEPT = [os.path.join(HERE, "tests", "differential", "kept", name) for name in ("cases.txt", "alone.txt")]
-# a program's questions, and the widths in bytes that it reads its words in
-PROGRAMS = {
-    "try_build": (["build"], [8, 4, 1]),
-    "try_columns": (["read", "parents", "children", "label", "roots"], [8]),
-    "try_walk": (["walk", "next"], [8]),
-    "try_cover": (["stored", "decode", "window", "cover", "links"], [8, 4]),
-}
+QUESTIONS = ["build", "read", "parents", "children", "label", "roots", "walk", "next", "stored", "decode", "window", "cover", "links"]
 # the parts of a question's input: N a number, L a list
 FORMS = {"walk": "NNNNLLNNN"}
 
@@ -66,19 +59,16 @@ def cases():
 
 
 def files():
-    """What each program reads and prints, by path."""
-    made = {}
-    for program, (questions, widths) in PROGRAMS.items():
-        words, counts = [], dict.fromkeys(questions, 0)
-        for name, case in cases():
-            if name in counts:
-                counts[name] += 1
-                words += [len(case) + 1, questions.index(name), *case]
-        printed = "".join(f"{name} {counts[name]} of {counts[name]}\n" for name in questions)
-        read = b"".join((word % 256**width).to_bytes(width, "big") for width in widths for word in words)
-        made[os.path.join("crates", program, "stdin")] = read
-        made[os.path.join("crates", program, "stdout")] = printed.encode()
-    return made
+    """What the program reads and prints, by path."""
+    words, counts = [], dict.fromkeys(QUESTIONS, 0)
+    for name, case in cases():
+        counts[name] += 1
+        words += [len(case) + 1, QUESTIONS.index(name) + 1, *case]
+    folder = os.path.join("crates", "try_replay")
+    return {
+        os.path.join(folder, "stdin"): b"".join((word % 2**64).to_bytes(8, "big") for word in words),
+        os.path.join(folder, "stdout"): "".join(f"{name} {count} of {count}\n" for name, count in counts.items()).encode(),
+    }
 
 
 def main():

@@ -1,7 +1,7 @@
 -- The sums over an archive's files: one turn of the loop that adds them up, and each of its answers.
-use mathlib.Core.Path.{_≡_, refl, sym, _∙_, ap}
+use mathlib.Core.Path.{_≡_, refl, sym}
 use mathlib.Core.Bool.{Bool, true, false, cond}
-use mathlib.Core.List.{List, [], _∷_, map}
+use mathlib.Core.List.{List, [], _∷_}
 use mathlib.Core.Option.{none, some}
 use Prim.Native.Nat.{ℕ, zero, suc, _≤_, _<_, _+_, _-_}
 use native.Mathlib.Omega.{arith}
@@ -11,7 +11,7 @@ use Rattle.lists.specs.Lists.{sum}
 use Rattle.archive.specs.Reader.{Parsed, broken, got, andThen, _>>=_}
 use Rattle.archive.specs.File.{CoverColumns, File}
 use Rattle.archive.specs.Parse.{file, files, parse}
-use Rattle.archive_read.specs.bodies.View.{setIn, setsIn, headIn, coverIn}
+use Rattle.archive_read.specs.bodies.View.{setIn, setsIn, coverIn}
 use Rattle.archive_read.specs.Layout.{partIn, frontIn, middleIn, tailIn, Uncovers, fileFrom, fileIn, fileOf, Counts, HoldsFile, AfterFile}
 use Rattle.archive_read.specs.Sums.{rangesIn, linksIn, totals, totalsOf, withFile, Below, plus}
 use Rattle.archive_read.specs.declared.bodies.CoverAt.{CoverAt}

@@ -14,16 +14,8 @@ use Rattle.archive_read.specs.declared.bodies.HeadAt.{HeadAt}
 use Rattle.archive_read.specs.declared.bodies.EdgesAt.{EdgesAt}
 use Rattle.archive_read.specs.declared.bodies.CoverAt.{CoverAt}
 use Rattle.archive_read.specs.declared.records.Part.{Part}
-use Rattle.archive_read.specs.declared.records.First.{First}
-use Rattle.archive_read.specs.declared.records.First.the-variants.{FirstIs, NoFirst}
-use Rattle.archive_read.specs.declared.records.Second.{Second}
-use Rattle.archive_read.specs.declared.records.Second.the-variants.{SecondIs, NoSecond}
-use Rattle.archive_read.specs.declared.records.Third.{Third}
-use Rattle.archive_read.specs.declared.records.Third.the-variants.{ThirdIs, NoThird}
-use Rattle.archive_read.specs.declared.records.Listed.{Listed}
-use Rattle.archive_read.specs.declared.records.Listed.the-variants.{ListIs, NoList}
-use Rattle.archive_read.specs.declared.records.Sixth.{Sixth}
-use Rattle.archive_read.specs.declared.records.Sixth.the-variants.{SixthIs, NoSixth}
+use Rattle.archive_read.specs.declared.records.Body.{Body}
+use Rattle.archive_read.specs.declared.records.Body.the-variants.{BodyAt, NoBody}
 use Rattle.archive_read.specs.declared.records.Optional.{Optional}
 use Rattle.archive_read.specs.declared.records.Optional.the-variants.{Covered, Uncovered, BadCover}
 use Rattle.archive_read.specs.declared.records.FrontAt.{FrontAt}
@@ -46,9 +38,14 @@ partIn l p = bodyIn l (p .at) (p .end)
 
 -- ── one record ───────────────────────────────────────────────────────────────────────────────
 
-abbrev pub firstOf : List ℕ → First → Parsed Head
-firstOf l NoFirst = broken
-firstOf l (FirstIs h a) = got (headIn (partIn l a) h) (a .end)
+abbrev pub bodyOf : List ℕ → Body → Parsed (List ℕ)
+bodyOf l NoBody = broken
+bodyOf l (BodyAt a) = got (partIn l a) (a .end)
+
+-- a body lies past the place where its record starts, and inside the bytes
+abbrev pub Inside : List ℕ → ℕ → Body → Type 0
+Inside l p NoBody = Unit {0}
+Inside l p (BodyAt a) = (p < a .at) × (a .at ≤ a .end) × (a .end ≤ length l)
 
 -- a part ends past place p and inside the bytes
 abbrev pub Ends : List ℕ → ℕ → Part → Type 0
@@ -64,14 +61,6 @@ pub record Holds (l : List ℕ) (a : Part) (n : ℕ) : Type 0 where
 abbrev pub HoldsHead : List ℕ → HeadAt → Part → Type 0
 HoldsHead l h a = Holds l a (14 + h .subject)
 
-abbrev pub AfterFirst : List ℕ → ℕ → First → Type 0
-AfterFirst l p NoFirst = Unit {0}
-AfterFirst l p (FirstIs h a) = (p < a .end) × (a .end ≤ length l) × HoldsHead l h a
-
-abbrev pub secondOf : List ℕ → ℕ → Second → Parsed Sets
-secondOf l rows NoSecond = broken
-secondOf l rows (SecondIs s a) = got (setsIn (partIn l a) rows s) (a .end)
-
 -- so many deltas of each set as there are bytes at the most
 abbrev pub FewDeltas : ℕ → EdgesAt → ℕ → Type 0
 FewDeltas p s q = (p + s .forwards ≤ q) × (p + s .reverses ≤ q) × (p + s .inbounds ≤ q)
@@ -82,45 +71,12 @@ pub record HoldsSets (l : List ℕ) (rows : ℕ) (s : EdgesAt) (a : Part) : Type
   pub reverse : Holds l a (setEnd rows (s .reverse) (s .reverses))
   pub inbound : Holds l a (setEnd rows (s .inbound) (s .inbounds))
 
-abbrev pub AfterSecond : List ℕ → ℕ → ℕ → Second → Type 0
-AfterSecond l p rows NoSecond = Unit {0}
-AfterSecond l p rows (SecondIs s a) = Ends l p a × FewDeltas p s (a .end) × HoldsSets l rows s a
-
-abbrev pub thirdOf : List ℕ → ℕ → Third → Parsed (List Row)
-thirdOf l n NoThird = broken
-thirdOf l n (ThirdIs a) = got (several 9 rowAt n (partIn l a)) (a .end)
-
-abbrev pub AfterThird : List ℕ → ℕ → ℕ → Third → Type 0
-AfterThird l p n NoThird = Unit {0}
-AfterThird l p n (ThirdIs a) = Ends l p a × (p + n ≤ a .end) × Holds l a (n * 9)
-
-abbrev pub fourthOf : List ℕ → Listed → Parsed (List Unresolved)
-fourthOf l NoList = broken
-fourthOf l (ListIs n a) = got (several 13 unresolvedAt n (drop 4 (partIn l a))) (a .end)
-
-abbrev pub fifthOf : List ℕ → Listed → Parsed (List Root)
-fifthOf l NoList = broken
-fifthOf l (ListIs n a) = got (several 16 rootAt n (drop 4 (partIn l a))) (a .end)
-
--- a list of things of w bytes each
-abbrev pub AfterList : ℕ → List ℕ → ℕ → Listed → Type 0
-AfterList w l p NoList = Unit {0}
-AfterList w l p (ListIs n a) = Ends l p a × (p + n ≤ a .end) × Holds l a (4 + n * w)
-
-abbrev pub sixthOf : List ℕ → ℕ → Sixth → Parsed CoverColumns
-sixthOf l rows NoSixth = broken
-sixthOf l rows (SixthIs c a) = got (coverIn (partIn l a) rows c) (a .end)
-
 abbrev pub FewOf : ℕ → CoverAt → ℕ → Type 0
 FewOf p c q = (p + c .ranges ≤ q) × (p + c .links ≤ q)
 
 -- the columns of a cover are there
 abbrev pub HoldsCover : List ℕ → ℕ → CoverAt → Part → Type 0
 HoldsCover l rows c a = Holds l a (coverEnd rows (c .ranges) (c .links))
-
-abbrev pub AfterSixth : List ℕ → ℕ → ℕ → Sixth → Type 0
-AfterSixth l p rows NoSixth = Unit {0}
-AfterSixth l p rows (SixthIs c a) = Ends l p a × FewOf p c (a .end) × HoldsCover l rows c a
 
 abbrev pub optionalOf : List ℕ → ℕ → ℕ → Optional → Parsed (Option CoverColumns)
 optionalOf l rows p BadCover = broken

@@ -7,16 +7,10 @@ ghost use lib.Dec.{leb};
 ghost use lib.ListN.{length, getD, drop};
 ghost use Rattle.lists.specs.Lists.{all};
 ghost use Rattle.lists.specs.Order.{rising, notFalling};
-ghost use Rattle.archive.specs.Bytes.{be, several};
-ghost use Rattle.archive.specs.Reader.{whole, body};
+ghost use Rattle.archive.specs.Bytes.{several};
+ghost use Rattle.archive.specs.Reader.{whole};
 ghost use Rattle.archive.specs.Parse.{head, depthFlagOk, edgeSet, sets, rows, unresolvedAt, rootAt, unresolved, roots, cover};
-ghost use Rattle.archive_read.specs.bodies.View.{bodyOf, Inside, headOf, HeadInside, setOf, SetInside, edgesOf, EdgesInside, rowsOf, RowsInside, unresolvedOf, rootsOf, ListInside, coverOf, CoverInside};
-
-// A record's body, from one place up to another; or no record of the kind at that place.
-pub enum Body {
-    BodyAt { at: usize, end: usize },
-    NoBody,
-}
+ghost use Rattle.archive_read.specs.bodies.View.{headOf, HeadInside, setOf, SetInside, edgesOf, EdgesInside, rowsOf, RowsInside, unresolvedOf, rootsOf, ListInside, coverOf, CoverInside};
 
 // 1 file: its numbers, and the length of the subject, which starts at place 14.
 pub struct HeadAt {
@@ -74,36 +68,6 @@ fn size(x: u8) -> usize
     ensures { λ r. ⌜ (r ≡ x) × (r < 256) ⌝ }
 {
     x as usize
-}
-
-// The body of the record at `p`, if there is one and it is of that kind.
-pub fn find_body(bytes: &[u8], p: usize, kind: u8) -> Body
-    ensures { λ r. ⌜ bodyOf (now (bytes .entry)) r ≡ body kind (now (bytes .entry)) p ⌝ }
-    ensures { λ r. ⌜ Inside (now (bytes .entry)) p r ⌝ }
-{
-    if bytes.len() < p {
-        return Body::NoBody;
-    }
-    if bytes.len() - p < 6 {
-        return Body::NoBody;
-    }
-    let n = index(archive_bytes::load_u32(bytes, p));
-    if n < 2 {
-        return Body::NoBody;
-    }
-    if bytes.len() - p - 6 < n - 2 {
-        return Body::NoBody;
-    }
-    if bytes[p + 4] != 1 {
-        return Body::NoBody;
-    }
-    if bytes[p + 5] != kind {
-        return Body::NoBody;
-    }
-    Body::BodyAt {
-        at: p + 6,
-        end: p + 6 + (n - 2),
-    }
 }
 
 fn depth_ok(flag: u8, least: u64, greatest: u64) -> bool

@@ -1,5 +1,4 @@
 // A file's records, one after the other, and where their parts lie in the archive's bytes.
-use crate::bodies::Body;
 use crate::bodies::Counted;
 use crate::bodies::CoverAt;
 use crate::bodies::CoverRead;
@@ -9,17 +8,17 @@ use crate::bodies::HeadAt;
 use crate::bodies::HeadRead;
 use crate::bodies::cover_body;
 use crate::bodies::edges_body;
-use crate::bodies::find_body;
 use crate::bodies::head_body;
 use crate::bodies::roots_body;
 use crate::bodies::rows_body;
 use crate::bodies::unresolved_body;
+use arrays::index;
 ghost use mathlib.Core.Path.{_≡_};
 ghost use Prim.Native.Nat.{_+_, _≤_};
 ghost use lib.ListN.{length, getD};
-ghost use Rattle.archive.specs.Reader.{recordOf, optionally};
-ghost use Rattle.archive.specs.Parse.{head, sets, rows, unresolved, roots, cover, file};
-ghost use Rattle.archive_read.specs.Layout.{firstOf, AfterFirst, secondOf, AfterSecond, thirdOf, AfterThird, fourthOf, fifthOf, AfterList, sixthOf, AfterSixth, optionalOf, AfterOptional, front, frontOf, AfterFront, middle, middleOf, AfterMiddle, tail, tailOf, tailWith, AfterTail, rest, restOf, AfterRest, fileOf, AfterFile};
+ghost use Rattle.archive.specs.Reader.{body, optionally};
+ghost use Rattle.archive.specs.Parse.{cover, file};
+ghost use Rattle.archive_read.specs.Layout.{partIn, bodyOf, Inside, optionalOf, AfterOptional, front, frontOf, AfterFront, middle, middleOf, AfterMiddle, tail, tailOf, tailWith, AfterTail, rest, restOf, AfterRest, fileOf, AfterFile};
 
 // The body of a record: the bytes from `at` up to `end`.
 pub struct Part {
@@ -27,29 +26,9 @@ pub struct Part {
     pub end: usize,
 }
 
-pub enum First {
-    FirstIs { head: HeadAt, part: Part },
-    NoFirst,
-}
-
-pub enum Second {
-    SecondIs { edges: EdgesAt, part: Part },
-    NoSecond,
-}
-
-pub enum Third {
-    ThirdIs(Part),
-    NoThird,
-}
-
-pub enum Listed {
-    ListIs { count: usize, part: Part },
-    NoList,
-}
-
-pub enum Sixth {
-    SixthIs { cover: CoverAt, part: Part },
-    NoSixth,
+pub enum Body {
+    BodyAt(Part),
+    NoBody,
 }
 
 pub enum Optional {
@@ -115,108 +94,43 @@ pub enum FileRead {
     NoFile,
 }
 
-fn first_record(bytes: &[u8], p: usize) -> First
-    ensures { λ r. ⌜ firstOf (now (bytes .entry)) r ≡ recordOf 1 head (now (bytes .entry)) p ⌝ }
-    ensures { λ r. ⌜ AfterFirst (now (bytes .entry)) p r ⌝ }
+// The body of the record at `p`, if there is one and it is of that kind.
+fn find_body(bytes: &[u8], p: usize, kind: u8) -> Body
+    ensures { λ r. ⌜ bodyOf (now (bytes .entry)) r ≡ body kind (now (bytes .entry)) p ⌝ }
+    ensures { λ r. ⌜ Inside (now (bytes .entry)) p r ⌝ }
 {
-    let x = find_body(bytes, p, 1);
-    let Body::BodyAt { at, end } = x else {
-        return First::NoFirst;
-    };
-    let y = head_body(&bytes[at..end]);
-    let HeadRead::HeadIs(h) = y else {
-        return First::NoFirst;
-    };
-    First::FirstIs {
-        head: h,
-        part: Part { at: at, end: end },
+    if bytes.len() < p {
+        return Body::NoBody;
     }
+    if bytes.len() - p < 6 {
+        return Body::NoBody;
+    }
+    let n = index(archive_bytes::load_u32(bytes, p));
+    if n < 2 {
+        return Body::NoBody;
+    }
+    if bytes.len() - p - 6 < n - 2 {
+        return Body::NoBody;
+    }
+    if bytes[p + 4] != 1 {
+        return Body::NoBody;
+    }
+    if bytes[p + 5] != kind {
+        return Body::NoBody;
+    }
+    Body::BodyAt(Part {
+        at: p + 6,
+        end: p + 6 + (n - 2),
+    })
 }
 
-fn second_record(bytes: &[u8], p: usize, n: u32) -> Second
-    ensures { λ r. ⌜ secondOf (now (bytes .entry)) n r ≡ recordOf 2 (sets n) (now (bytes .entry)) p ⌝ }
-    ensures { λ r. ⌜ AfterSecond (now (bytes .entry)) p n r ⌝ }
+fn bytes_of(bytes: &[u8], part: Part) -> &[u8]
+    requires { ⌜ (part .at ≤ part .end) × (part .end ≤ length (now bytes)) ⌝ }
+    ensures { λ r. ⌜ now r ≡ partIn (now (bytes .entry)) part ⌝ }
 {
-    let x = find_body(bytes, p, 2);
-    let Body::BodyAt { at, end } = x else {
-        return Second::NoSecond;
-    };
-    let y = edges_body(&bytes[at..end], n);
-    let EdgesRead::EdgesIs(s) = y else {
-        return Second::NoSecond;
-    };
-    Second::SecondIs {
-        edges: s,
-        part: Part { at: at, end: end },
-    }
-}
-
-fn third_record(bytes: &[u8], p: usize, n: u32) -> Third
-    ensures { λ r. ⌜ thirdOf (now (bytes .entry)) n r ≡ recordOf 3 (rows n) (now (bytes .entry)) p ⌝ }
-    ensures { λ r. ⌜ AfterThird (now (bytes .entry)) p n r ⌝ }
-{
-    let x = find_body(bytes, p, 3);
-    let Body::BodyAt { at, end } = x else {
-        return Third::NoThird;
-    };
-    if !rows_body(&bytes[at..end], n) {
-        return Third::NoThird;
-    }
-    Third::ThirdIs(Part { at: at, end: end })
-}
-
-fn fourth_record(bytes: &[u8], p: usize) -> Listed
-    ensures { λ r. ⌜ fourthOf (now (bytes .entry)) r ≡ recordOf 4 unresolved (now (bytes .entry)) p ⌝ }
-    ensures { λ r. ⌜ AfterList 13 (now (bytes .entry)) p r ⌝ }
-{
-    let x = find_body(bytes, p, 4);
-    let Body::BodyAt { at, end } = x else {
-        return Listed::NoList;
-    };
-    let y = unresolved_body(&bytes[at..end]);
-    let Counted::CountIs(n) = y else {
-        return Listed::NoList;
-    };
-    Listed::ListIs {
-        count: n,
-        part: Part { at: at, end: end },
-    }
-}
-
-fn fifth_record(bytes: &[u8], p: usize) -> Listed
-    ensures { λ r. ⌜ fifthOf (now (bytes .entry)) r ≡ recordOf 5 roots (now (bytes .entry)) p ⌝ }
-    ensures { λ r. ⌜ AfterList 16 (now (bytes .entry)) p r ⌝ }
-{
-    let x = find_body(bytes, p, 5);
-    let Body::BodyAt { at, end } = x else {
-        return Listed::NoList;
-    };
-    let y = roots_body(&bytes[at..end]);
-    let Counted::CountIs(n) = y else {
-        return Listed::NoList;
-    };
-    Listed::ListIs {
-        count: n,
-        part: Part { at: at, end: end },
-    }
-}
-
-fn sixth_record(bytes: &[u8], p: usize, n: u32) -> Sixth
-    ensures { λ r. ⌜ sixthOf (now (bytes .entry)) n r ≡ recordOf 6 (cover n) (now (bytes .entry)) p ⌝ }
-    ensures { λ r. ⌜ AfterSixth (now (bytes .entry)) p n r ⌝ }
-{
-    let x = find_body(bytes, p, 6);
-    let Body::BodyAt { at, end } = x else {
-        return Sixth::NoSixth;
-    };
-    let y = cover_body(&bytes[at..end], n);
-    let CoverRead::CoverIs(c) = y else {
-        return Sixth::NoSixth;
-    };
-    Sixth::SixthIs {
-        cover: c,
-        part: Part { at: at, end: end },
-    }
+    let at = part.at;
+    let end = part.end;
+    &bytes[at..end]
 }
 
 // The kind of the record at `p`, or 0 where there is none.
@@ -238,8 +152,12 @@ fn optional_record(bytes: &[u8], p: usize, n: u32) -> Optional
     if kind_at(bytes, p) != 6 {
         return Optional::Uncovered;
     }
-    let x = sixth_record(bytes, p, n);
-    let Sixth::SixthIs { cover, part } = x else {
+    let x = find_body(bytes, p, 6);
+    let Body::BodyAt(part) = x else {
+        return Optional::BadCover;
+    };
+    let y = cover_body(bytes_of(bytes, part), n);
+    let CoverRead::CoverIs(cover) = y else {
         return Optional::BadCover;
     };
     Optional::Covered {
@@ -252,25 +170,29 @@ fn read_front(bytes: &[u8], p: usize) -> FrontRead
     ensures { λ r. ⌜ frontOf (now (bytes .entry)) r ≡ front (now (bytes .entry)) p ⌝ }
     ensures { λ r. ⌜ AfterFront (now (bytes .entry)) p r ⌝ }
 {
-    let x = first_record(bytes, p);
-    let First::FirstIs { head, part } = x else {
+    let x = find_body(bytes, p, 1);
+    let Body::BodyAt(file) = x else {
+        return FrontRead::NoFront;
+    };
+    let y = head_body(bytes_of(bytes, file));
+    let HeadRead::HeadIs(head) = y else {
         return FrontRead::NoFront;
     };
     let n = head.rows;
-    let q = part.end;
-    let y = second_record(bytes, q, n);
-    let Second::SecondIs {
-        edges,
-        part: second,
-    } = y
-    else {
+    let q = file.end;
+    let z = find_body(bytes, q, 2);
+    let Body::BodyAt(sets) = z else {
+        return FrontRead::NoFront;
+    };
+    let w = edges_body(bytes_of(bytes, sets), n);
+    let EdgesRead::EdgesIs(edges) = w else {
         return FrontRead::NoFront;
     };
     FrontRead::FrontIs(FrontAt {
         head: head,
-        file: part,
+        file: file,
         edges: edges,
-        sets: second,
+        sets: sets,
     })
 }
 
@@ -278,23 +200,26 @@ fn read_middle(bytes: &[u8], p: usize, n: u32) -> MiddleRead
     ensures { λ r. ⌜ middleOf (now (bytes .entry)) n r ≡ middle n (now (bytes .entry)) p ⌝ }
     ensures { λ r. ⌜ AfterMiddle (now (bytes .entry)) p n r ⌝ }
 {
-    let x = third_record(bytes, p, n);
-    let Third::ThirdIs(part) = x else {
+    let x = find_body(bytes, p, 3);
+    let Body::BodyAt(rows) = x else {
         return MiddleRead::NoMiddle;
     };
-    let q = part.end;
-    let y = fourth_record(bytes, q);
-    let Listed::ListIs {
-        count,
-        part: second,
-    } = y
-    else {
+    if !rows_body(bytes_of(bytes, rows), n) {
+        return MiddleRead::NoMiddle;
+    }
+    let q = rows.end;
+    let z = find_body(bytes, q, 4);
+    let Body::BodyAt(unresolved) = z else {
+        return MiddleRead::NoMiddle;
+    };
+    let w = unresolved_body(bytes_of(bytes, unresolved));
+    let Counted::CountIs(count) = w else {
         return MiddleRead::NoMiddle;
     };
     MiddleRead::MiddleIs(MiddleAt {
-        rows: part,
+        rows: rows,
         count: count,
-        unresolved: second,
+        unresolved: unresolved,
     })
 }
 
@@ -334,13 +259,17 @@ fn read_tail(bytes: &[u8], p: usize, n: u32) -> TailRead
     ensures { λ r. ⌜ tailOf (now (bytes .entry)) n r ≡ tail n (now (bytes .entry)) p ⌝ }
     ensures { λ r. ⌜ AfterTail (now (bytes .entry)) p n r ⌝ }
 {
-    let x = fifth_record(bytes, p);
-    let Listed::ListIs { count, part } = x else {
+    let x = find_body(bytes, p, 5);
+    let Body::BodyAt(part) = x else {
+        return TailRead::NoTail;
+    };
+    let y = roots_body(bytes_of(bytes, part));
+    let Counted::CountIs(count) = y else {
         return TailRead::NoTail;
     };
     let q = part.end;
-    let y = optional_record(bytes, q, n);
-    tail_of(count, part, y)
+    let c = optional_record(bytes, q, n);
+    tail_of(count, part, c)
 }
 
 fn read_rest(bytes: &[u8], p: usize, n: u32) -> RestRead

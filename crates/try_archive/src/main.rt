@@ -4,7 +4,6 @@ use archive_read::files::Summed;
 use archive_read::files::Totals;
 use archive_read::files::sum_up;
 ghost use Prim.Native.Nat.{_≤_, _<_};
-ghost use lib.ListN.{length};
 
 // 1 where the bytes are an archive, 0 where they are refused with 23.
 fn accepted(bytes: &[u8]) -> usize

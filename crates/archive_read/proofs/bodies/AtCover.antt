@@ -1,15 +1,15 @@
 -- Record 6: each answer of the function that reads it.
-use mathlib.Core.Path.{_≡_, refl, sym, _∙_, ap}
-use mathlib.Core.Bool.{Bool, true, false, cond}
+use mathlib.Core.Path.{_≡_, refl, _∙_}
+use mathlib.Core.Bool.{Bool, true, false}
 use mathlib.Core.List.{List}
-use Prim.Native.Nat.{ℕ, _≤_, _<_, _+_, _-_, _*_}
+use Prim.Native.Nat.{ℕ, _<_, _+_, _*_}
 use native.Mathlib.Nat.{zero-add}
 use native.Mathlib.Omega.{arith}
-use lib.Dec.{leb, eqb}
+use lib.Dec.{leb}
 use lib.ListN.{length}
-use borrow.Author.Tests.{le-leb, lt-leb, eq-eqb, ne-eqb}
+use borrow.Author.Tests.{le-leb, eq-eqb, ne-eqb}
 use Rattle.archive.specs.Bytes.{be}
-use Rattle.archive.specs.Reader.{Parsed, broken, got, _>>=_, table, whole}
+use Rattle.archive.specs.Reader.{broken, got, _>>=_, table, whole}
 use Rattle.archive.specs.Parse
 use Rattle.archive_read.specs.bodies.View.{linksPlace, coverEnd, coverIn}
 

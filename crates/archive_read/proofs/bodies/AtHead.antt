@@ -1,18 +1,17 @@
 -- The head of a record, and record 1: each answer of the functions that read them.
-use mathlib.Core.Path.{_≡_, refl, sym, _∙_, ap}
-use mathlib.Core.Bool.{Bool, true, false, not, cond, _&&_, _||_, and-false}
-use mathlib.Core.List.{List, [], _∷_, _++_}
-use Prim.Native.Nat.{ℕ, zero, suc, _≤_, _<_, _+_, _-_}
+use mathlib.Core.Path.{_≡_, refl, ap}
+use mathlib.Core.Bool.{Bool, true, false, not, and-false}
+use mathlib.Core.List.{List}
+use Prim.Native.Nat.{ℕ, _≤_, _<_, _+_, _-_}
 use native.Mathlib.Omega.{arith}
-use lib.Dec.{eqb, leb}
-use lib.ListN.{length, getD, take, drop}
+use lib.Dec.{eqb}
+use lib.ListN.{length, getD}
 use borrow.Author.Tests.{le-leb, lt-leb, eq-eqb, ne-eqb, not-true, not-false}
 use Rattle.archive.specs.Bytes.{be}
-use Rattle.archive.specs.Reader.{Parsed, broken, got, _>>=_, whole, body}
+use Rattle.archive.specs.Reader.{broken, got, _>>=_, whole, body}
 use Rattle.archive.specs.Parse
-use Rattle.archive.specs.Parse.{Head, headEnd, depthFlagOk}
+use Rattle.archive.specs.Parse.{headEnd, depthFlagOk}
 use Rattle.archive_read.specs.bodies.View.{bodyIn, headIn}
-use Rattle.archive_read.specs.declared.bodies.HeadAt.{HeadAt}
 
 -- ── the head of a record ─────────────────────────────────────────────────────────────────────
 

@@ -1,14 +1,14 @@
 -- Record 2: each answer of the functions that read it.
-use mathlib.Core.Path.{_≡_, refl, sym, _∙_, ap}
-use mathlib.Core.Bool.{Bool, true, false, cond}
+use mathlib.Core.Path.{_≡_, refl}
+use mathlib.Core.Bool.{Bool, true, false}
 use mathlib.Core.List.{List}
 use Prim.Native.Nat.{ℕ, _≤_, _<_, _+_, _-_, _*_}
 use native.Mathlib.Omega.{arith}
-use lib.Dec.{leb, eqb}
+use lib.Dec.{leb}
 use lib.ListN.{length}
 use borrow.Author.Tests.{le-leb, lt-leb, eq-eqb, ne-eqb}
 use Rattle.archive.specs.Bytes.{be}
-use Rattle.archive.specs.Reader.{Parsed, broken, got, _>>=_, table, whole}
+use Rattle.archive.specs.Reader.{broken, got, _>>=_, table, whole}
 use Rattle.archive.specs.Parse
 use Rattle.archive.specs.Parse.{edgeSet}
 use Rattle.archive_read.specs.bodies.View.{setEnd, setIn, setOf, SetInside, setsIn}

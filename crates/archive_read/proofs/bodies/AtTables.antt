@@ -1,11 +1,11 @@
 -- Records 3, 4 and 5: one turn of each loop that tests them, and each answer of the functions that read them.
 use mathlib.Core.Path.{_≡_, refl, sym, _∙_, ap}
-use mathlib.Core.Bool.{Bool, true, false, not, cond, _&&_}
-use mathlib.Core.List.{List, [], _∷_, map}
+use mathlib.Core.Bool.{Bool, true, false, not}
+use mathlib.Core.List.{List, map}
 use Prim.Native.Nat.{ℕ, zero, suc, _≤_, _<_, _+_, _-_, _*_}
-use native.Mathlib.Nat.{add-zero, zero-add, sub-zero}
+use native.Mathlib.Nat.{add-zero, sub-zero}
 use native.Mathlib.Omega.{arith}
-use lib.Dec.{leb, ltb, eqb}
+use lib.Dec.{leb}
 use lib.ListN.{length, getD, drop}
 use lib.Seq.{getD-drop, drop-drop}
 use borrow.Author.Tests.{le-leb, lt-leb, lt-ltb, le-ltb, eq-eqb, ne-eqb, not-true, not-false}
@@ -13,10 +13,9 @@ use Rattle.lists.specs.Lists.{all}
 use Rattle.lists.specs.Order.{rising, risesAbove, notFalling, levelAbove}
 use Rattle.archive_bytes.proofs.Several.{be-front, several-none, several-cons}
 use Rattle.archive.specs.Bytes.{be, several}
-use Rattle.archive.specs.Reader.{Parsed, broken, got, _>>=_, table, whole, counted}
-use Rattle.archive.specs.File.{Row, Unresolved, Root}
+use Rattle.archive.specs.Reader.{broken, got, _>>=_, table, whole, counted}
 use Rattle.archive.specs.Parse
-use Rattle.archive.specs.Parse.{rowAt, unresolvedAt, rootAt}
+use Rattle.archive.specs.Parse.{unresolvedAt, rootAt}
 use Rattle.archive_read.specs.bodies.View.{rowsOf, RowsInside}
 
 -- ── 3 rows ───────────────────────────────────────────────────────────────────────────────────

@@ -2,7 +2,7 @@
 -- parts of it are a file's columns.
 use mathlib.Core.Bool.{Bool, true, false, cond}
 use mathlib.Core.List.{List, map}
-use Prim.Native.Nat.{ℕ, _+_, _-_, _*_, _≤_, _<_}
+use Prim.Native.Nat.{ℕ, _+_, _-_, _*_, _≤_}
 use lib.ListN.{length, take, drop}
 use Rattle.columns.specs.Limits.{kinds}
 use Rattle.columns.specs.EdgeSet.{EdgeSet}
@@ -12,8 +12,6 @@ use Rattle.archive.specs.Reader.{Parsed, broken, got}
 use Rattle.archive.specs.File.{Row, Unresolved, Root, CoverColumns}
 use Rattle.archive.specs.Parse
 use Rattle.archive.specs.Parse.{Head, depthRead, Sets, rowAt, unresolvedAt, rootAt, rangeAt}
-use Rattle.archive_read.specs.declared.bodies.Body.{Body}
-use Rattle.archive_read.specs.declared.bodies.Body.the-variants.{BodyAt, NoBody}
 use Rattle.archive_read.specs.declared.bodies.HeadAt.{HeadAt}
 use Rattle.archive_read.specs.declared.bodies.HeadRead.{HeadRead}
 use Rattle.archive_read.specs.declared.bodies.HeadRead.the-variants.{HeadIs, NoHead}
@@ -33,15 +31,6 @@ use Rattle.archive_read.specs.declared.bodies.CoverRead.the-variants.{Co
 -- the bytes from place a up to place e
 abbrev pub bodyIn : List ℕ → ℕ → ℕ → List ℕ
 bodyIn l a e = take (e - a) (drop a l)
-
-abbrev pub bodyOf : List ℕ → Body → Parsed (List ℕ)
-bodyOf l NoBody = broken
-bodyOf l (BodyAt a e) = got (bodyIn l a e) e
-
--- a body lies past the place where its record starts, and inside the bytes
-abbrev pub Inside : List ℕ → ℕ → Body → Type 0
-Inside l p NoBody = Unit {0}
-Inside l p (BodyAt a e) = (p < a) × (a ≤ e) × (e ≤ length l)
 
 -- ── what stands in a body ────────────────────────────────────────────────────────────────────
 

@@ -1,6 +1,5 @@
 -- `archive_read::bodies::depth_ok` meets its contract.
 use Rattle.archive_read.proofs.bodies.AtHead.{flag-one, flag-wrong, low-wrong, high-test}
-use borrow.Author.Needs.{needs}
 use Rattle.archive_read.proofs.bodies.depth_ok.Statement.{statement}
 use Rattle.archive_read.proofs.bodies.depth_ok.Tie as tie
 

@@ -1,7 +1,7 @@
 -- `archive_read::bodies::flags_ok` meets its contract.
 use mathlib.Core.Path.{_≡_}
-use Prim.Native.Nat.{_≤_, _+_, _-_, _*_}
-use lib.ListN.{length, drop, getD}
+use Prim.Native.Nat.{_≤_, _-_, _*_}
+use lib.ListN.{drop, getD}
 use Rattle.archive.specs.Bytes.{several}
 use native.Mathlib.Nat.{sub-zero}
 use lib.Dec.{leb}

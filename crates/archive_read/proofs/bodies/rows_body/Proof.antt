@@ -1,5 +1,4 @@
 -- `archive_read::bodies::rows_body` meets its contract.
-use native.Mathlib.Omega.{arith}
 use Rattle.archive_read.proofs.bodies.AtTables.{rows-length, rows-flags, rows-inside}
 use borrow.Author.Needs.{needs}
 use Rattle.archive_read.proofs.bodies.rows_body.Statement.{statement}

@@ -1,7 +1,6 @@
 -- `archive_read::files::sum_up` meets its contract.
 use mathlib.Core.Path.{_≡_}
 use Prim.Native.Nat.{_≤_, _-_}
-use native.Mathlib.Omega.{arith}
 use lib.ListN.{length}
 use Rattle.archive.specs.Parse.{files, parse}
 use Rattle.archive_read.specs.Sums.{totalsOf, Below, plus}

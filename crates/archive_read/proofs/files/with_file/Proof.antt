@@ -1,5 +1,4 @@
 -- `archive_read::files::with_file` meets its contract.
-use mathlib.Core.Path.{refl}
 use native.Mathlib.Omega.{arith}
 use Rattle.archive_read.specs.Sums.{withFile}
 use borrow.Author.Needs.{needs}

@@ -1,5 +1,4 @@
 -- `archive_read::records::tail_of` meets its contract.
-use mathlib.Core.Path.{refl}
 use Rattle.archive_read.specs.Layout.{tailWith}
 use borrow.Author.Needs.{needs}
 use Rattle.archive_read.proofs.records.tail_of.Statement.{statement}
