@@ -1,4 +1,4 @@
--- What cleaning and listing an archive, and the words of a refusal, answer by numbers: a refusal is document 01's number and nothing else, an answer 0 and how many bytes were written.
+-- What cleaning and listing an archive, and the words of a refusal, answer by numbers: 0 and how many bytes were written, or a refusal.
 use mathlib.Core.Bool.{cond}
 use mathlib.Core.List.{List, []}
 use mathlib.Core.Path.{_≡_}

@@ -1,5 +1,4 @@
-// Whole archives for programs in C or Rust, answered by numbers. A slice is a pointer and a length in elements. `refusal` is document 01's number,
-// or 0 where the call is accepted.
+// Whole archives for programs in C or Rust, answered by numbers.
 use columns::refusal::Refusal;
 use ffi::answer::Answer;
 use ffi::answer::no_entries;

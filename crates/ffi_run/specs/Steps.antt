@@ -1,4 +1,4 @@
--- What a run's steps answer by numbers: a refusal is document 01's number and nothing else.
+-- What a run's steps answer by numbers.
 use mathlib.Core.Path.{_≡_}
 use mathlib.Core.Option.{none, some}
 use Rattle.columns.specs.Refusal.{numberOf}

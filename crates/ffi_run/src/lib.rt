@@ -1,4 +1,4 @@
-// A run for programs in C or Rust, step by step: a run is a value, given and given back. `refusal` is document 01's number, or 0.
+// A run for programs in C or Rust, step by step and answered by numbers: a run is a value, given and given back.
 use columns::refusal::number;
 use ffi::answer::Answer;
 use ffi::answer::no_entries;
