@@ -1,8 +1,3 @@
-// The library for programs in C or Rust: each function hands what it is lent to the proved function of its name, and answers by numbers.
-// A slice is a pointer and a length in elements. `refusal` is document 01's number, or 0 where the call is accepted.
-mod answer;
-pub mod archives;
-pub mod builds;
-pub mod covers;
-pub mod edges;
-pub mod walks;
+// What the libraries for programs in C or Rust share: each of their functions hands what it is lent to the proved function of its name, and answers by
+// numbers. A slice is a pointer and a length in elements. `refusal` is document 01's number, or 0 where the call is accepted.
+pub mod answer;

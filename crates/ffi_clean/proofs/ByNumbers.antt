@@ -9,8 +9,6 @@ use lib.Dec.{ltb}
 use borrow.Author.Tests.{lt-ltb, le-ltb}
 use lib.ListN.{length, getD, take, drop}
 use lib.Seq.{sets, sets-eq, length-take-le, take-append-seam, drop-append-seam}
-use Rattle.columns.specs.Refusal.{numberOf}
-use Rattle.columns.specs.declared.refusal.Refusal.{Refusal}
 use Rattle.columns.specs.declared.refusal.Refusal.the-variants.{SliceShort}
 use Rattle.cleaning.specs.Step as step
 use Rattle.cleaning.specs.Listing.{listing}
@@ -24,13 +22,9 @@ use Rattle.run.specs.declared.Run.{Run}
 use Rattle.run_text.specs.numbers.Wrote.{Wrote}
 use Rattle.messages.specs.words.Words.{table}
 use Rattle.run_print.specs.Prints.{ListsWhen, ListingIn}
-use Rattle.ffi_clean.specs.Whole.{numbered, bytesOf, refusalOf, listedFrom, wordsFrom, GivesBy}
-use Rattle.ffi_clean.specs.declared.Answer.{Answer}
-
--- a refused arm
-pub refused-numbered : {why : Refusal} {n : ℕ} {w : Writing} → n ≡ numberOf why → w ≡ Refused why → record { refusal = n; length = 0 } ≡ numbered w
-unfolding numbered
-refused-numbered h e = rw (e, h)
+use Rattle.ffi.specs.Numbers.{refusalOf}
+use Rattle.ffi.specs.declared.answer.Answer.{Answer}
+use Rattle.ffi_clean.specs.Whole.{numbered, bytesOf, listedFrom, wordsFrom, GivesBy}
 
 -- an answer, by the number of its writing
 pub gives-by : {answer : ℕ → step.Answer} {was is : List ℕ} {r : Answer} (w : Writing)

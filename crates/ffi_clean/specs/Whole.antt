@@ -1,11 +1,10 @@
--- What cleaning and listing an archive, and the words of a refusal, answer by numbers: a refusal is document 01's number and nothing else, an answer 0 and how many bytes were written.
-use mathlib.Core.Bool.{Bool, true, false, cond}
+-- What cleaning and listing an archive, and the words of a refusal, answer by numbers: 0 and how many bytes were written, or a refusal.
+use mathlib.Core.Bool.{cond}
 use mathlib.Core.List.{List, []}
 use mathlib.Core.Path.{_≡_}
 use Prim.Native.Nat.{ℕ, _≤_}
 use lib.Dec.{ltb}
 use lib.ListN.{length, getD, take, drop}
-use Rattle.columns.specs.Refusal.{numberOf}
 use Rattle.columns.specs.declared.refusal.Refusal.the-variants.{SliceShort}
 use Rattle.cleaning.specs.Step as step
 use Rattle.cleaning.specs.Listing.{listing}
@@ -13,12 +12,13 @@ use Rattle.run_text.specs.files.Files.{listingRoom}
 use Rattle.messages.specs.words.Words.{table}
 use Rattle.run_state.specs.declared.Writing.{Writing}
 use Rattle.run_state.specs.declared.Writing.the-variants.{Length, Refused}
-use Rattle.ffi_clean.specs.declared.Answer.{Answer}
+use Rattle.ffi.specs.Numbers.{entries, noEntries, refusalOf}
+use Rattle.ffi.specs.declared.answer.Answer.{Answer}
 
 -- a length, or a refusal
 unfoldable pub numbered : Writing → Answer
-numbered (Length n) = record { refusal = 0; length = n }
-numbered (Refused x) = record { refusal = numberOf x; length = 0 }
+numbered (Length n) = entries n
+numbered (Refused x) = noEntries x
 
 -- the bytes of a step's answer; a step that writes none has none
 unfoldable pub bytesOf : step.Answer → List ℕ
@@ -27,14 +27,6 @@ bytesOf step.done = []
 bytesOf (step.wrote w) = w
 bytesOf (step.told n) = []
 bytesOf (step.counted n) = []
-
--- the number of a step's refusal, or 0
-unfoldable pub refusalOf : step.Answer → ℕ
-refusalOf (step.refused x) = numberOf x
-refusalOf step.done = 0
-refusalOf (step.wrote w) = 0
-refusalOf (step.told n) = 0
-refusalOf (step.counted n) = 0
 
 -- the listing into so much room: 41 where there is less than a listing may take
 unfoldable pub listedFrom : List ℕ → ℕ → step.Answer

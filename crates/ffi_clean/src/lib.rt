@@ -1,7 +1,8 @@
-// Whole archives for programs in C or Rust, answered by numbers. A slice is a pointer and a length in elements. `refusal` is document 01's number,
-// or 0 where the call is accepted.
+// Whole archives for programs in C or Rust, answered by numbers.
 use columns::refusal::Refusal;
-use columns::refusal::number;
+use ffi::answer::Answer;
+use ffi::answer::no_entries;
+use ffi::answer::some_entries;
 use run::Run;
 use run_state::Writing;
 ghost use mathlib.Core.Path.{_≡_};
@@ -10,24 +11,12 @@ ghost use Rattle.run.specs.View.{view};
 ghost use Rattle.ffi_clean.specs.Whole.{numbered, listedFrom, wordsFrom, GivesBy};
 
 // How many bytes were written.
-#[repr(C)]
-pub struct Answer {
-    pub refusal: u64,
-    pub length: usize,
-}
-
 fn answer_of(writing: Writing) -> Answer
     ensures { λ r. ⌜ r ≡ numbered writing ⌝ }
 {
     match writing {
-        Writing::Length(n) => Answer {
-            refusal: 0,
-            length: n,
-        },
-        Writing::Refused(why) => Answer {
-            refusal: number(why),
-            length: 0,
-        },
+        Writing::Length(n) => some_entries(n),
+        Writing::Refused(why) => no_entries(why),
     }
 }
 

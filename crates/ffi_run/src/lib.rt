@@ -1,5 +1,8 @@
-// A run for programs in C or Rust, step by step: a run is a value, given and given back. `refusal` is document 01's number, or 0.
+// A run for programs in C or Rust, step by step and answered by numbers: a run is a value, given and given back.
 use columns::refusal::number;
+use ffi::answer::Answer;
+use ffi::answer::no_entries;
+use ffi::answer::some_entries;
 use run::Count;
 use run::Number;
 use run::Reply;
@@ -9,7 +12,9 @@ ghost use mathlib.Core.Path.{_≡_};
 ghost use Rattle.cleaning.specs.Step.{takes, resolves, maps, counts};
 ghost use Rattle.cleaning.specs.Runs.{freshRun, runStep};
 ghost use Rattle.run.specs.View.{view};
-ghost use Rattle.ffi_run.specs.Steps.{replyNumber, StepsBy, toldOf, numberedBy, countOf, countedBy};
+ghost use Rattle.run.specs.Contracts.{replied, numbered, countedAs};
+ghost use Rattle.ffi.specs.Numbers.{refusalOf};
+ghost use Rattle.ffi_run.specs.Steps.{StepsBy, toldOf, countOf};
 
 // The run after a call.
 #[repr(C)]
@@ -26,15 +31,8 @@ pub struct Renumbered {
     pub number: u64,
 }
 
-// How many survivors are reparented.
-#[repr(C)]
-pub struct Reparented {
-    pub refusal: u64,
-    pub count: usize,
-}
-
 fn reply_number(reply: Reply) -> u64
-    ensures { λ r. ⌜ r ≡ replyNumber reply ⌝ }
+    ensures { λ r. ⌜ r ≡ refusalOf (replied reply) ⌝ }
 {
     match reply {
         Reply::Done => 0,
@@ -43,7 +41,7 @@ fn reply_number(reply: Reply) -> u64
 }
 
 fn renumbered_of(answer: Number) -> Renumbered
-    ensures { λ r. ⌜ r ≡ numberedBy answer ⌝ }
+    ensures { λ r. ⌜ r ≡ toldOf (numbered answer) ⌝ }
 {
     match answer {
         Number::To(n) => Renumbered {
@@ -64,18 +62,12 @@ fn renumbered_of(answer: Number) -> Renumbered
     }
 }
 
-fn reparented_of(answer: Count) -> Reparented
-    ensures { λ r. ⌜ r ≡ countedBy answer ⌝ }
+fn reparented_of(answer: Count) -> Answer
+    ensures { λ r. ⌜ r ≡ countOf (countedAs answer) ⌝ }
 {
     match answer {
-        Count::Of(n) => Reparented {
-            refusal: 0,
-            count: n,
-        },
-        Count::Refused(why) => Reparented {
-            refusal: number(why),
-            count: 0,
-        },
+        Count::Of(n) => some_entries(n),
+        Count::Refused(why) => no_entries(why),
     }
 }
 
@@ -125,7 +117,7 @@ pub extern "C" fn ridgeoven_new_number(run: Run, old: u64) -> Renumbered
 
 // How many survivors name an erased parent, in a resolved run.
 #[no_mangle]
-pub extern "C" fn ridgeoven_reparented(run: Run) -> Reparented
+pub extern "C" fn ridgeoven_reparented(run: Run) -> Answer
     ensures { λ r. ⌜ r ≡ countOf ((runStep (view run) counts) .answer) ⌝ }
 {
     reparented_of(run::reparented(run))

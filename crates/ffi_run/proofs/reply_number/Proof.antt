@@ -1,16 +1,18 @@
 -- `ffi_run::reply_number` meets its contract.
 use borrow.Author.Needs.{needs}
-use Rattle.ffi_run.specs.Steps.{replyNumber}
-use Rattle.ffi_run.proofs.ByNumbers.{reply-refused}
+use Rattle.run.specs.Contracts.{replied}
+use Rattle.ffi.specs.Numbers.{refusalOf}
+use Rattle.ffi.proofs.Told.{told-arm}
 use Rattle.ffi_run.proofs.reply_number.Statement.{statement}
 use Rattle.ffi_run.proofs.reply_number.Tie as tie
 
 returns : tie.Need-returns
-unfolding replyNumber
+unfolding refusalOf
 returns c = cc
 
 returns-2 : tie.Need-returns-2
-returns-2 c = search reply-refused
+unfolding refusalOf
+returns-2 c = search (told-arm (λ a. refusalOf (replied a)))
 
 pub reply-number-spec : {M : Type 1} → statement M
 reply-number-spec =

@@ -1,6 +1,6 @@
-//! The functions of the proved library's crates `ffi`, `ffi_clean` and `ffi_run`. A slice is two parameters, its pointer and its length. Every
-//! function answers a record whose first part is a refusal's number, or 0; outputs are lent. The README beside the workspace says what
-//! each is given.
+//! The functions of the proved library's crates `ffi_columns`, `ffi_cover`, `ffi_archive`, `ffi_clean` and `ffi_run`. A slice is two
+//! parameters, its pointer and its length. Every function answers a record whose first part is a refusal's number, or 0; outputs are
+//! lent. The README beside the workspace says what each is given.
 
 /// How many entries were written.
 #[repr(C)]
