@@ -1,6 +1,6 @@
 // What is given and answered by numbers: a refusal by its number and nothing else, or 0 and what was found.
 use columns::kind::Kind;
-use columns::reading::Counted;
+use columns::refusal::Counted;
 use columns::refusal::Refusal;
 use columns::refusal::number;
 use columns_build::roots::Roots;

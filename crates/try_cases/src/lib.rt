@@ -1,8 +1,8 @@
 // The original's kept answers as words of 64 bits: a case is how many words follow, its question, the parts of its input, and the answer,
 // a refusal's number or 0 and the answer's parts. A part is a number, or a list: its length, then its numbers.
 use arrays::index;
-use columns::reading::Counted;
 use columns::refusal;
+use columns::refusal::Counted;
 use columns::refusal::Refusal;
 ghost use mathlib.Core.Path.{_≡_};
 ghost use Prim.Native.Nat.{_≤_};
