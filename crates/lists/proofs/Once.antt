@@ -1,6 +1,6 @@
 -- Each element once: what is in a list that elements were added to, when a list has each element once, and that renaming keeps it.
 use mathlib.Core.Path.{_≡_, refl, ap, sym, _∙_, subst}
-use mathlib.Core.Bool.{Bool, true, false, cond, _||_, not, false≢true, or-assoc, or-true, and-eq-true-iff}
+use mathlib.Core.Bool.{Bool, true, false, cond, _||_, not, false≢true, or-assoc, or-false, or-true, and-eq-true-iff}
 use mathlib.Core.List.{List, [], _∷_, _++_, map, foldl, append-nil, append-assoc, foldl-append, map-append}
 use Prim.Native.Nat.{ℕ, _≤_}
 use native.Mathlib.Nat.{le-trans}
@@ -34,6 +34,18 @@ pub mem-append : (x : ℕ) (s t : List ℕ) → mem x (s ++ t) ≡ (mem x s || m
 unfolding mem
 mem-append x [] t = refl
 mem-append x (y ∷ ys) t = rw (mem-append x ys t) (sym (or-assoc (eqb x y) (mem x ys) (mem x t)))
+
+pub mem-first : (x : ℕ) (s : List ℕ) → mem x (x ∷ s) ≡ true
+unfolding mem
+mem-first x s = rw (eq-eqb x x refl)
+
+pub mem-later : (x y : ℕ) (s : List ℕ) → mem x s ≡ true → mem x (y ∷ s) ≡ true
+unfolding mem
+mem-later x y s e = rw e (or-true (eqb x y))
+
+pub mem-last : (x k : ℕ) (s : List ℕ) → mem x (s ++ (k ∷ [])) ≡ (mem x s || eqb x k)
+unfolding mem
+mem-last x k s = rw (mem-append x s (k ∷ []), or-false (eqb x k))
 
 pub mem-snoc : (x : ℕ) (s : List ℕ) → mem x (s ++ (x ∷ [])) ≡ true
 unfolding mem

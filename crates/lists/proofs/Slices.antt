@@ -4,17 +4,25 @@ use mathlib.Core.List.{List, [], _∷_, _++_}
 use Prim.Native.Nat.{ℕ, suc, _≤_, _<_, _+_}
 use native.Mathlib.Nat.{add-zero, add-suc, suc-add}
 use native.Mathlib.Omega.{arith}
-use lib.ListN.{length, getD, take, drop, set, length-take, take-append-drop, drop-of-length-le}
+use lib.ListN.{length, getD, take, drop, set, length-take, take-append-drop, drop-of-length-le, List·getD-eq-default}
 use lib.Seq.{slice, sets, sets-eq, take-take, take-suc, take-append-add, take-at, drop-append-le, drop-append-seam, length-take-le}
 
 module _ {A : Type 0} where
   -- ── fronts ─────────────────────────────────────────────────────────────────────────────────
+
+  pub take-none : (l : List A) → take 0 l ≡ []
+  take-none [] = refl
+  take-none (x ∷ xs) = refl
 
   pub prefix-count : (n : ℕ) (l : List A) → n ≤ length l → n ≡ length (take n l)
   prefix-count n l h = sym (length-take-le n l h)
 
   pub prefix-short : (n k : ℕ) (l : List A) → n ≤ k → length (take n l) ≤ k
   prefix-short n k l h = simp length-take (omega arith)
+
+  -- a list read past its end
+  pub getD-past : (l : List A) (i : ℕ) (d : A) → length l ≤ i → d ≡ getD l i d
+  getD-past l i d h = sym (List·getD-eq-default l d {n = i} h)
 
   -- ── slices ─────────────────────────────────────────────────────────────────────────────────
 

@@ -1,8 +1,8 @@
--- `columns_rules::chain_table::find` meets its contract.
-use Rattle.columns_rules.proofs.chain_table.BucketRows.{top-in, found, found-in}
+-- `arrays::table::last` meets its contract.
+use Rattle.arrays.proofs.table.Chains.{top-in, found, found-in}
 use borrow.Author.Needs.{needs}
-use Rattle.columns_rules.proofs.chain_table.find.Statement.{statement}
-use Rattle.columns_rules.proofs.chain_table.find.Tie as tie
+use Rattle.arrays.proofs.table.last.Statement.{statement}
+use Rattle.arrays.proofs.table.last.Tie as tie
 
 follow-requires : tie.Need-follow-requires
 follow-requires c κs = ((search top-in, (search needs, search needs)), search needs)
@@ -10,8 +10,8 @@ follow-requires c κs = ((search top-in, (search needs, search needs)), search n
 returns : tie.Need-returns
 returns c = (search found-in, search found)
 
-pub find-spec : {M : Type 1} → statement M
-find-spec =
+pub last-spec : {M : Type 1} → statement M
+last-spec =
     tie.close
     (tie.spec
     (λ c κs. search needs)

@@ -1,2 +1,1 @@
 pub mod LabelTurns
-pub mod BucketRows
