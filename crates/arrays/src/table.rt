@@ -1,4 +1,5 @@
-// A set of numbers in three lent slices: keys in the order of arrival, a link for each key, the newest key of each bucket.
+// Numbers in buckets, in three lent slices: keys in the order of arrival, for each key the last one before it of its bucket, and the newest
+// key of each bucket. Places are counted from 1, and 0 is none.
 use crate::index;
 ghost use mathlib.Core.Path.{_≡_};
 ghost use mathlib.Core.List.{[], _∷_};
@@ -6,7 +7,7 @@ ghost use Prim.Native.Nat.{_+_, _-_, _≤_, _<_, _%_};
 ghost use lib.ListN.{length, take, set, getD, replicate};
 ghost use lib.Seq.{slice};
 ghost use Rattle.lists.specs.Lists.{mem};
-ghost use Rattle.arrays.specs.table.Table.{chain, Down, Table, addCap, Keys};
+ghost use Rattle.arrays.specs.table.Table.{lastPlace, newest, Down, Table, addCap, Keys};
 
 fn wide(x: usize) -> u64
     ensures { λ r. ⌜ r ≡ x ⌝ }
@@ -23,21 +24,31 @@ fn bucket(x: u64, b: usize) -> usize
     index(x % c)
 }
 
-// Whether x is on the chain from the place `top`.
-fn follow(keys: &[u64], links: &[u64], n: usize, top: usize, x: u64) -> bool
+// The first place of x from the place `top` down its bucket.
+fn follow(keys: &[u64], links: &[u64], n: usize, top: usize, x: u64) -> usize
     requires { ⌜ (top ≤ n) × ((n ≤ length (now keys)) × (n ≤ length (now links))) ⌝ }
     requires { ⌜ Down (now links) n ⌝ }
-    ensures { λ r. ⌜ r ≡ chain top (now (keys .entry)) (now (links .entry)) top x ⌝ }
+    ensures { λ r. ⌜ r ≡ newest top (now (keys .entry)) (now (links .entry)) top x ⌝ }
 {
     let mut i = top;
     while 0 < i {
         let j = i - 1;
-        if x == keys[j] {
-            return true;
+        if keys[j] == x {
+            return i;
         }
         i = index(links[j]);
     }
-    false
+    0
+}
+
+// The last place of x among the first n keys.
+pub fn last(keys: &[u64], links: &[u64], heads: &[u64], n: usize, x: u64) -> usize
+    requires { ⌜ Table (now keys) (now links) (now heads) n ⌝ }
+    ensures { λ r. ⌜ (r ≤ n) × (r ≡ lastPlace (now (keys .entry)) n x) ⌝ }
+{
+    let h = bucket(x, heads.len());
+    let top = index(heads[h]);
+    follow(keys, links, n, top, x)
 }
 
 // Whether x is among the first n keys.
@@ -45,13 +56,12 @@ pub fn find(keys: &[u64], links: &[u64], heads: &[u64], n: usize, x: u64) -> boo
     requires { ⌜ Table (now keys) (now links) (now heads) n ⌝ }
     ensures { λ r. ⌜ r ≡ mem x (take n (now (keys .entry))) ⌝ }
 {
-    let h = bucket(x, heads.len());
-    let top = index(heads[h]);
-    follow(keys, links, n, top, x)
+    let place = last(keys, links, heads, n, x);
+    place != 0
 }
 
-// Makes x the last key.
-fn put(keys: &mut [u64], links: &mut [u64], heads: &mut [u64], n: usize, x: u64)
+// Makes x the last key, also where it is one.
+pub fn put(keys: &mut [u64], links: &mut [u64], heads: &mut [u64], n: usize, x: u64)
     requires { ⌜ Table (now keys) (now links) (now heads) n ⌝ }
     requires { ⌜ n < length (now keys) ⌝ }
     ensures { λ _. ⌜ Table (now (keys .exit)) (now (links .exit)) (now (heads .exit)) (n + 1) ⌝ }

@@ -1,6 +1,6 @@
 -- Rules in order and what is answered of them, and what columns whose rules are kept are.
 use mathlib.Core.Path.{_≡_, refl, sym, _∙_, ap}
-use mathlib.Core.Bool.{Bool, true, false, _&&_, _||_, not, or-false, or-assoc}
+use mathlib.Core.Bool.{Bool, true, false, _&&_, not, or-false}
 use mathlib.Core.List.{List, [], _∷_, _++_}
 use mathlib.Core.Option.{Option, none, some}
 use Prim.Native.Nat.{ℕ, _≤_, _<_, _+_}
@@ -11,6 +11,8 @@ use lib.ListN.{length}
 use lib.Seq.{sets}
 use borrow.Author.Tests.{lt-ltb, le-ltb, ltb-false, eqb-true, not-false}
 use Rattle.lists.specs.Lists.{any, joined}
+use Rattle.lists.proofs.Tests.{any-append}
+use Rattle.lists.proofs.Once.{or-is-false}
 use Rattle.columns.specs.Limits.{maxNumbers}
 use Rattle.columns.specs.Refusal.{unless, firstOf, Lent, short, limits}
 use Rattle.columns.specs.EdgeSet.{EdgeSet, cut, fromTo, offsetsForm}
@@ -19,7 +21,7 @@ use Rattle.columns.specs.Answers.{columnsOf, room, limitsOf, lentRules, 
 use Rattle.columns.specs.Readable.{Readable, Edged}
 use Rattle.columns.specs.declared.refusal.Ruling.{Ruling}
 use Rattle.columns.specs.declared.refusal.Ruling.the-variants.{Kept, Broken}
-use Rattle.columns.specs.declared.reading.Counted.the-variants.{Entries, Refused}
+use Rattle.columns.specs.declared.refusal.Counted.the-variants.{Entries, Refused}
 use Rattle.columns.specs.declared.refusal.Refusal.{Refusal}
 use Rattle.columns.specs.declared.refusal.Refusal.the-variants.{OffsetsForm, DeltaCount, TargetSide, OverRecords, OverNumbers, SliceShort}
 use Rattle.columns.proofs.FirstBroken.{each-none, not-refused, passed}
@@ -47,18 +49,9 @@ first-append [] ys = refl
 first-append (none ∷ xs) ys = first-append xs ys
 first-append (some r ∷ xs) ys = refl
 
-pub or-kept : (a b : Bool) → a || b ≡ false → (a ≡ false) × (b ≡ false)
-or-kept true b f = let z : _≡_ {A = ℕ} 0 1 = cc in absurd (omega arith)
-or-kept false b f = (refl, f)
-
 any-kept : (p : ℕ → Bool) (x : ℕ) (xs : List ℕ) → any p (x ∷ xs) ≡ false → (p x ≡ false) × (any p xs ≡ false)
 unfolding any
-any-kept p x xs e = or-kept (p x) (any p xs) e
-
-pub any-append : (p : ℕ → Bool) (xs ys : List ℕ) → any p (xs ++ ys) ≡ any p xs || any p ys
-unfolding any
-any-append p [] ys = refl
-any-append p (x ∷ xs) ys = rw (any-append p xs ys) (sym (or-assoc (p x) (any p xs) (any p ys)))
+any-kept p x xs e = or-is-false (p x) (any p xs) e
 
 -- rules in two parts: those of the second count where the first are kept
 module _ (k : Ruling) (o : Option Refusal) (os : List (Option Refusal)) (e : k ≡ ruling o) where

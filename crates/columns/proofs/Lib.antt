@@ -2,9 +2,6 @@ pub mod ReadBack
 pub mod Turned
 pub mod Levels
 pub mod FirstBroken
-pub mod Signs
 pub mod Offsets
-pub mod Turns
 pub mod Checks
-pub mod Writes
-pub mod Rows
+pub mod Targets

@@ -1,17 +1,19 @@
 -- Offsets that climb from 0 to the end of a column, and the lists that they cut out of it.
-use mathlib.Core.Path.{_≡_, refl, sym, _∙_, ap}
+use mathlib.Core.Path.{_≡_, refl, sym, ap}
 use mathlib.Core.Bool.{true, false, false≢true}
-use mathlib.Core.List.{List, [], _∷_, _++_}
+use mathlib.Core.List.{List, [], _∷_}
 use Prim.Native.Nat.{ℕ, zero, suc, _≤_, _<_, _+_, _-_, _*_}
 use native.Mathlib.Nat.{le-trans}
 use native.Mathlib.Numerals.{add-one}
 use native.Mathlib.Omega.{arith}
 use lib.Dec.{leb, eqb}
-use lib.ListN.{length, getD, take, drop, length-take, drop-of-length-le, take-append-drop}
-use lib.Seq.{slice, take-take, drop-append-le}
+use lib.ListN.{length, getD, drop, drop-of-length-le}
+use lib.Seq.{slice, length-slice}
 use borrow.Author.Tests.{leb-true, eqb-true}
+use Rattle.lists.specs.Lists.{joined, starts}
 use Rattle.lists.specs.Order.{climbsTo}
 use Rattle.lists.proofs.Tests.{both}
+use Rattle.lists.proofs.Slices.{slice-rest}
 use Rattle.columns.specs.Limits.{kinds}
 use Rattle.columns.specs.EdgeSet.{cutFrom, cut, fromTo, offsetsForm}
 
@@ -35,14 +37,6 @@ steps high x (y ∷ ys) e (suc q) h = steps high y ys (both (leb x y) (climbsTo 
 -- ── cutting ──────────────────────────────────────────────────────────────────────────────────
 
 module _ {A : Type 0} where
-  pub slice-none : (i to : ℕ) (l : List A) → to ≤ i → slice i to l ≡ []
-  slice-none i to l h = drop-of-length-le (take to l) {i = i} (simp length-take (omega arith))
-
-  pub slice-join : (a b c : ℕ) (l : List A) → a ≤ b → b ≤ c → c ≤ length l → slice a b l ++ slice b c l ≡ slice a c l
-  slice-join a b c l h i j =
-      let whole : take b (take c l) ++ drop b (take c l) ≡ take c l = take-append-drop b (take c l) in
-      rw (← take-take b c l i) (sym (drop-append-le a (take b (take c l)) (drop b (take c l)) (simp (length-take, length-take) (omega arith))) ∙ ap (drop a) whole)
-
   cutFrom-at : (a : ℕ) (bs : List ℕ) (column : List A) (q : ℕ) → q < length bs → getD (cutFrom a bs column) q [] ≡ slice (getD (a ∷ bs) q 0) (getD bs q 0) column
   unfolding cutFrom
   cutFrom-at a [] column q h = absurd (omega arith)
@@ -58,7 +52,7 @@ module _ {A : Type 0} where
       → getD (cut offsets column) slot [] ≡ slice from to column
   slot-cut offsets column slot from to h f g = rw (f, g) (cut-at offsets column slot h)
 
-  cutFrom-length : (a : ℕ) (bs : List ℕ) (column : List A) → length (cutFrom a bs column) ≡ length bs
+  pub cutFrom-length : (a : ℕ) (bs : List ℕ) (column : List A) → length (cutFrom a bs column) ≡ length bs
   unfolding cutFrom
   cutFrom-length a [] column = refl
   cutFrom-length a (b ∷ bs) column = ap suc (cutFrom-length b bs column)
@@ -67,6 +61,35 @@ module _ {A : Type 0} where
   unfolding cut
   cut-length [] column = refl
   cut-length (a ∷ bs) column = rw (cutFrom-length a bs column) (omega arith)
+
+-- ── a whole column ───────────────────────────────────────────────────────────────────────────
+
+module _ {A : Type 0} (column : List A) where
+  joined-from : (a : ℕ) (bs : List ℕ) → climbsTo (length column) a bs ≡ true → joined (cutFrom a bs column) ≡ drop a column
+  unfolding climbsTo cutFrom joined
+  joined-from a [] e = let z : a ≡ length column = eqb-true a (length column) e in sym (drop-of-length-le column {i = a} (omega arith))
+  joined-from a (b ∷ bs) e =
+      let p = both (leb a b) (climbsTo (length column) b bs) e in
+      rw (joined-from b bs (p .1)) (slice-rest a b column (leb-true a b (p .0)) (low-high (length column) b bs (p .1)))
+
+  starts-from : (a : ℕ) (bs : List ℕ) → climbsTo (length column) a bs ≡ true → starts a (cutFrom a bs column) ≡ a ∷ bs
+  unfolding climbsTo cutFrom starts
+  starts-from a [] e = refl
+  starts-from a (b ∷ bs) e =
+      let p = both (leb a b) (climbsTo (length column) b bs) e in
+      let l : a + length (slice a b column) ≡ b = rw (length-slice a b column (low-high (length column) b bs (p .1))) (omega (arith, leb-true a b (p .0))) in
+      rw (l, starts-from b bs (p .1))
+
+  -- the lists that a table in form cuts out hold the whole column, and start where its offsets say
+  pub joined-cut : (offsets : List ℕ) → fromTo 0 (length column) offsets ≡ true → joined (cut offsets column) ≡ column
+  unfolding fromTo cut
+  joined-cut [] e = absurd (false≢true e)
+  joined-cut (a ∷ bs) e = let p = both (eqb a 0) _ e in rw (joined-from a bs (p .1), eqb-true a 0 (p .0))
+
+  pub starts-cut : (offsets : List ℕ) → fromTo 0 (length column) offsets ≡ true → starts 0 (cut offsets column) ≡ offsets
+  unfolding fromTo cut
+  starts-cut [] e = absurd (false≢true e)
+  starts-cut (a ∷ bs) e = let p = both (eqb a 0) _ e in rw (← eqb-true a 0 (p .0)) (starts-from a bs (p .1))
 
 -- ── from 0 to the end ────────────────────────────────────────────────────────────────────────
 

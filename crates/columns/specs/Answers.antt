@@ -18,8 +18,8 @@ use Rattle.columns.specs.declared.refusal.Refusal.{Refusal}
 use Rattle.columns.specs.declared.refusal.Refusal.the-variants.{SliceShort, OverRecords, OverNumbers}
 use Rattle.columns.specs.declared.refusal.Ruling.{Ruling}
 use Rattle.columns.specs.declared.refusal.Ruling.the-variants.{Kept, Broken}
-use Rattle.columns.specs.declared.reading.Counted.{Counted}
-use Rattle.columns.specs.declared.reading.Counted.the-variants.{Entries, Refused}
+use Rattle.columns.specs.declared.refusal.Counted.{Counted}
+use Rattle.columns.specs.declared.refusal.Counted.the-variants.{Entries, Refused}
 
 -- a kind's place among the slots of a row
 abbrev pub kindOf : Kind → ℕ

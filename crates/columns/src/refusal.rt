@@ -42,6 +42,12 @@ pub enum Ruling {
     Broken(Refusal),
 }
 
+// How many numbers an answer has, or why there is no answer.
+pub enum Counted {
+    Entries(usize),
+    Refused(Refusal),
+}
+
 // Document 01's number of a refusal.
 pub fn number(refusal: Refusal) -> u64
     ensures { λ r. ⌜ r ≡ numberOf refusal ⌝ }

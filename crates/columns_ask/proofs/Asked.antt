@@ -8,6 +8,7 @@ use native.Mathlib.Omega.{arith}
 use lib.Dec.{ltb}
 use lib.ListN.{length, length-append}
 use lib.Seq.{sets}
+use Rattle.lists.proofs.Slices.{sets-append}
 use Rattle.columns.specs.Limits.{maxNumbers}
 use Rattle.columns.specs.Refusal.{unless, refuse, firstOf, Lent, limits}
 use Rattle.columns.specs.EdgeSet.{EdgeSet, reverse, inbound}
@@ -19,10 +20,9 @@ use Rattle.columns_ask.specs.Views.{childrenRules, askedRules}
 use Rattle.columns.specs.declared.kind.Kind.{Kind}
 use Rattle.columns.specs.declared.refusal.Ruling.{Ruling}
 use Rattle.columns.specs.declared.refusal.Ruling.the-variants.{Kept, Broken}
-use Rattle.columns.specs.declared.reading.Counted.the-variants.{Entries, Refused}
+use Rattle.columns.specs.declared.refusal.Counted.the-variants.{Entries, Refused}
 use Rattle.columns.specs.declared.refusal.Refusal.{Refusal}
 use Rattle.columns.proofs.Checks.{is-kept, list-counted, list-written, list-refused, list-as-was, then-rest, then-broken, first-append}
-use Rattle.columns.proofs.Writes.{sets-append}
 use Rattle.columns.specs.declared.refusal.Refusal.the-variants.{OverNumbers}
 use Rattle.columns.proofs.FirstBroken.{each-none}
 use Rattle.columns_ask.proofs.Limited.{readable-reverse, readable-inbound}

@@ -21,7 +21,7 @@ use Rattle.columns.specs.declared.kind.Kind.{Kind}
 use Rattle.columns.specs.declared.kind.Kind.the-variants.{Prev, Auth}
 use Rattle.columns.proofs.Offsets.{cut-length, form-length}
 use Rattle.columns.proofs.Checks.{kept-form, edged}
-use Rattle.columns.proofs.Writes.{no-edges, length-targets, slot-order, slot-count}
+use Rattle.columns.proofs.Targets.{no-edges, length-targets, slot-order, slot-count}
 use mir.Syntax.{w64}
 use mir.Val.{Fits}
 use mathlib.Core.Logic.{inl, inr}

@@ -17,7 +17,7 @@ use Rattle.columns.specs.Answers.{short32, labelColumns, ruling}
 use Rattle.columns_ask.specs.Views.{lentLabelRules, labelledOf}
 use Rattle.columns.specs.declared.refusal.Ruling.{Ruling}
 use Rattle.columns.specs.declared.refusal.Ruling.the-variants.{Kept, Broken}
-use Rattle.columns.specs.declared.reading.Counted.the-variants.{Refused}
+use Rattle.columns.specs.declared.refusal.Counted.the-variants.{Refused}
 use Rattle.columns_ask.specs.declared.Labelled.{Labelled}
 use Rattle.columns_ask.specs.declared.Labelled.the-variants as labelled
 use Rattle.columns_ask.specs.declared.Labelled.the-variants.{At, Unlabelled}

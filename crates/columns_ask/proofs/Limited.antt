@@ -10,7 +10,8 @@ use lib.IntN.{ℤ}
 use lib.ListN.{length}
 use borrow.Author.Tests.{eqb-true}
 use Rattle.lists.specs.Lists.{any, all}
-use Rattle.lists.proofs.Tests.{both}
+use Rattle.lists.proofs.Tests.{both, any-append}
+use Rattle.lists.proofs.Once.{or-is-false}
 use Rattle.columns.specs.Limits.{maxNumbers}
 use Rattle.columns.specs.Refusal.{Lent, short, limits}
 use Rattle.columns.specs.EdgeSet.{EdgeSet, reverse, inbound}
@@ -22,7 +23,7 @@ use Rattle.columns.specs.declared.refusal.Ruling.the-variants.{Kept, Broken}
 use Rattle.columns.specs.declared.refusal.Refusal.{Refusal}
 use Rattle.columns.specs.declared.refusal.Refusal.the-variants.{LabelColumns, LabelRange}
 use Rattle.columns.proofs.FirstBroken.{each-none, passed}
-use Rattle.columns.proofs.Checks.{is-kept, first-alone, or-kept, any-append, then-rest, then-broken, few-numbers, few-deltas}
+use Rattle.columns.proofs.Checks.{is-kept, first-alone, then-rest, then-broken, few-numbers, few-deltas}
 use Rattle.columns_ask.specs.Views.{childrenRules, lentLabelRules}
 
 -- ── limits ───────────────────────────────────────────────────────────────────────────────────
@@ -62,7 +63,7 @@ module _ (rows : ℕ) (chains seqs : List ℕ) (over : Bool) (k : Ruling) (f : o
 module _ (first rows end : ℕ) (r i : EdgeSet) (lent : List Lent) (k : Ruling) (e : k ≡ ruling (childrenRules first rows end r i lent)) (h : k ≡ Kept) where
   apart : (any (ltb maxNumbers) (setLengths r) ≡ false) × (any (ltb maxNumbers) (setLengths i) ≡ false)
   unfolding childrenRules
-  apart = or-kept _ _ (sym (any-append (ltb maxNumbers) (setLengths r) (setLengths i)) ∙ few-numbers _ _ lent (each-none _ (is-kept k _ e h) .0))
+  apart = or-is-false _ _ (sym (any-append (ltb maxNumbers) (setLengths r) (setLengths i)) ∙ few-numbers _ _ lent (each-none _ (is-kept k _ e h) .0))
 
   rules : (setRules reverse first rows end r ≡ none) × (setRules inbound first rows end i ≡ none)
   unfolding childrenRules

@@ -1,10 +1,10 @@
 // Questions over lent columns: parents, children and label of a number. The columns that a question uses are read first.
 use columns::kind;
 use columns::kind::Kind;
-use columns::reading;
-use columns::reading::Counted;
+use columns::refusal::Counted;
 use columns::refusal::Refusal;
 use columns::refusal::Ruling;
+use columns_read::sets;
 ghost use mathlib.Core.Path.{_≡_};
 ghost use mathlib.Core.Bool.{true};
 ghost use Prim.Native.Nat.{_+_, _<_, _≤_};
@@ -82,7 +82,7 @@ fn write_list(
         return at;
     }
     let slot = 2 * ((number - first) as usize) + kind;
-    reading::write_slot(first, offsets, deltas, slot, out, at)
+    sets::write_slot(first, offsets, deltas, slot, out, at)
 }
 
 // The parents of a number by a kind, in the order in which they stand.
@@ -100,7 +100,7 @@ pub fn parents(
     ensures { λ r. ⌜ r ≡ countedOf (asked.parents first rows end (columnsOf count (now (offsets .entry)) (now (deltas .entry))) (kindOf kind) number (room (length (now (out .entry))))) ⌝ }
     ensures { λ _. ⌜ now (out .exit) ≡ writtenOver (now (out .entry)) (asked.parents first rows end (columnsOf count (now (offsets .entry)) (now (deltas .entry))) (kindOf kind) number (room (length (now (out .entry))))) ⌝ }
 {
-    let rules = reading::csr_rules(0, first, rows, end, count, offsets, deltas, out.len());
+    let rules = sets::csr_rules(0, first, rows, end, count, offsets, deltas, out.len());
     match rules {
         Ruling::Kept => Counted::Entries(write_list(
             first,
@@ -131,10 +131,10 @@ fn children_rules(
 ) -> Ruling
     ensures { λ r. ⌜ r ≡ ruling (childrenRules first rows end (columnsOf rcount (now (roffsets .entry)) (now (rdeltas .entry))) (columnsOf icount (now (ioffsets .entry)) (now (ideltas .entry))) (room out)) ⌝ }
 {
-    let over = reading::is_any_over(roffsets.len(), rdeltas.len(), ioffsets.len(), ideltas.len());
-    let limit = reading::limit_rules(rows, over, out < 4096);
+    let over = sets::is_any_over(roffsets.len(), rdeltas.len(), ioffsets.len(), ideltas.len());
+    let limit = sets::limit_rules(rows, over, out < 4096);
     match limit {
-        Ruling::Kept => reading::both_rules(
+        Ruling::Kept => sets::both_rules(
             first,
             rows,
             end,
@@ -301,9 +301,9 @@ pub fn children(
 fn lent_label_rules(rows: usize, chains: &[u64], seqs: &[u64]) -> Ruling
     ensures { λ r. ⌜ r ≡ ruling (lentLabelRules rows (labelColumns (now (chains .entry)) (now (seqs .entry)))) ⌝ }
 {
-    let limit = reading::limit_rules(rows, reading::is_over(chains.len(), seqs.len()), false);
+    let limit = sets::limit_rules(rows, sets::is_over(chains.len(), seqs.len()), false);
     match limit {
-        Ruling::Kept => reading::label_rules(rows, chains, seqs),
+        Ruling::Kept => sets::label_rules(rows, chains, seqs),
         Ruling::Broken(why) => Ruling::Broken(why),
     }
 }

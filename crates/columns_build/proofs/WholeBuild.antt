@@ -9,6 +9,7 @@ use lib.IntN.{ℤ}
 use lib.ListN.{length}
 use borrow.Author.Tests.{ltb-true, ltb-false}
 use Rattle.lists.specs.Lists.{any}
+use Rattle.lists.proofs.Once.{or-is-false}
 use Rattle.columns.specs.Limits.{end64, maxNumbers}
 use Rattle.columns.specs.Refusal.{refused, unless, firstOf, short, limits}
 use Rattle.columns.specs.EdgeSet.{offsetsForm, cut}
@@ -17,7 +18,6 @@ use Rattle.columns.specs.Building.{Depth, recordCount, numbersOk, slotRules, fo
 use Rattle.columns.specs.declared.refusal.Refusal.{Refusal}
 use Rattle.columns.specs.declared.refusal.Refusal.the-variants.{EdgeEntries, NumberRange, SliceShort, OverRecords, OverNumbers}
 use Rattle.columns.proofs.FirstBroken.{each-none, not-refused, passed}
-use Rattle.columns.proofs.Checks.{or-kept}
 use Rattle.columns.specs.Answers.{ruling}
 use Rattle.columns_rules.specs.Ruled.{fileRules}
 use Rattle.columns.specs.declared.refusal.Ruling.{Ruling}
@@ -46,12 +46,12 @@ regroup none none none none = refl
 rooms-kept : (fo fd ro rd io id : ℕ) → any short (slicesOf fo fd ro rd io id) ≡ false → Rooms fo fd ro rd io id
 unfolding any short
 rooms-kept fo fd ro rd io id e =
-    let a = or-kept (ltb fo 2049) _ e in
-    let b = or-kept (ltb fd 4096) _ (a .1) in
-    let c = or-kept (ltb ro 2049) _ (b .1) in
-    let d = or-kept (ltb rd 4096) _ (c .1) in
-    let f = or-kept (ltb io 2049) _ (d .1) in
-    let g = or-kept (ltb id 4096) _ (f .1) in
+    let a = or-is-false (ltb fo 2049) _ e in
+    let b = or-is-false (ltb fd 4096) _ (a .1) in
+    let c = or-is-false (ltb ro 2049) _ (b .1) in
+    let d = or-is-false (ltb rd 4096) _ (c .1) in
+    let f = or-is-false (ltb io 2049) _ (d .1) in
+    let g = or-is-false (ltb id 4096) _ (f .1) in
     record {
       forward-offsets = ltb-false fo 2049 (a .0);
       forward-deltas = ltb-false fd 4096 (b .0);
@@ -74,10 +74,10 @@ module _ (subject : List ℕ) (first rows : ℕ) (offsets targets cs ks fs : Lis
   unfolding limitRules any
   few =
       let q = each-none _ (both-none .0) in
-      let a = or-kept (ltb 1024 rows) _ (not-refused OverRecords _ (q .0)) in
-      let b = or-kept (ltb 4096 (length offsets)) _ (not-refused OverNumbers _ (q .1 .0)) in
-      let c = or-kept (ltb 4096 (length targets)) _ (b .1) in
-      let d = or-kept (ltb 4096 inbound) _ (c .1) in
+      let a = or-is-false (ltb 1024 rows) _ (not-refused OverRecords _ (q .0)) in
+      let b = or-is-false (ltb 4096 (length offsets)) _ (not-refused OverNumbers _ (q .1 .0)) in
+      let c = or-is-false (ltb 4096 (length targets)) _ (b .1) in
+      let d = or-is-false (ltb 4096 inbound) _ (c .1) in
       (ltb-false 1024 rows (a .0), ltb-false 4096 (length targets) (c .0), ltb-false 4096 inbound (d .0))
 
   file : (offsetsForm rows (length targets) offsets ≡ true) × (first + rows < end64) × (slotRules first 0 (cut offsets targets) ≡ none)

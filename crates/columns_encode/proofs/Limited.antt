@@ -8,6 +8,7 @@ use lib.Dec.{ltb}
 use lib.ListN.{length}
 use borrow.Author.Tests.{lt-ltb, le-ltb, ltb-false}
 use Rattle.lists.specs.Lists.{any}
+use Rattle.lists.proofs.Once.{or-is-false}
 use Rattle.columns.specs.Limits.{maxNumbers}
 use Rattle.columns.specs.Refusal.{firstOf, short}
 use Rattle.columns.specs.Reading.{Labels, labelLengths}
@@ -15,7 +16,6 @@ use Rattle.columns.specs.Building.{Depth, recordCount}
 use Rattle.columns.specs.declared.refusal.Refusal.{Refusal}
 use Rattle.columns.specs.declared.refusal.Refusal.the-variants.{SliceShort, OverRecords, OverNumbers}
 use Rattle.columns.proofs.FirstBroken.{each-none, not-refused}
-use Rattle.columns.proofs.Checks.{or-kept}
 use Rattle.columns.specs.Answers.{ruling}
 use Rattle.columns_rules.specs.Ruled.{fileRules}
 use Rattle.columns.specs.declared.refusal.Ruling.{Ruling}
@@ -110,7 +110,7 @@ module _ (rows records : ℕ) (over tight : Bool) where
 pub few-rows : (rows records : ℕ) (over tight : Bool) (r : Ruling) → r ≡ ruling (limitRules rows records over tight) → r ≡ Kept → rows ≤ 1024
 unfolding limitRules any
 few-rows rows records over tight r e h =
-    ltb-false 1024 rows (or-kept (ltb 1024 rows) _ (not-refused OverRecords _ (each-none _ (told-kept (limitRules rows records over tight) e h) .0)) .0)
+    ltb-false 1024 rows (or-is-false (ltb 1024 rows) _ (not-refused OverRecords _ (each-none _ (told-kept (limitRules rows records over tight) e h) .0)) .0)
 
 -- ── the limits, then 1 to 10 ─────────────────────────────────────────────────────────────────
 

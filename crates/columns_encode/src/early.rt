@@ -1,9 +1,9 @@
 // The limits of building (42, 43, 41), then its rules on the file and its records (1 to 10), in order.
 use columns::depth::Depth;
-use columns::reading::is_any_over;
-use columns::reading::is_over;
 use columns::refusal::Refusal;
 use columns::refusal::Ruling;
+use columns_read::sets::is_any_over;
+use columns_read::sets::is_over;
 use columns_rules::file::file_rules;
 use columns_rules::records::groups::record_rules;
 use columns_rules::records::parts::longest;

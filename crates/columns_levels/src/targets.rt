@@ -1,5 +1,5 @@
 // The targets of a file's forward set, read for a question that follows them.
-use columns::reading::Counted;
+use columns::refusal::Counted;
 ghost use mathlib.Core.Path.{_≡_};
 ghost use mathlib.Core.List.{_++_};
 ghost use Prim.Native.Nat.{_≤_};
@@ -22,7 +22,7 @@ pub fn read(
     ensures { λ r. ⌜ r ≡ countedOf (inOne (decodeSet 0 first rows end (columnsOf count (now (offsets .entry)) (now (deltas .entry))) (room n))) ⌝ }
     ensures { λ _. ⌜ now (targets .exit) ≡ writtenOver (take n (now (targets .entry))) (inOne (decodeSet 0 first rows end (columnsOf count (now (offsets .entry)) (now (deltas .entry))) (room n))) ++ drop n (now (targets .entry)) ⌝ }
 {
-    columns::reading::decode_csr(
+    columns_read::sets::decode_csr(
         0,
         first,
         rows,

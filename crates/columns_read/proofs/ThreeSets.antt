@@ -10,6 +10,8 @@ use lib.ListN.{length}
 use lib.Seq.{sets}
 use borrow.Author.Tests.{lt-ltb, le-ltb}
 use Rattle.lists.specs.Lists.{any, joined}
+use Rattle.lists.proofs.Tests.{any-append}
+use Rattle.lists.proofs.Once.{or-is-false}
 use Rattle.columns.specs.Limits.{maxNumbers}
 use Rattle.columns.specs.Refusal.{accepted, refused, unless, firstOf, short, limits}
 use Rattle.columns.specs.EdgeSet.{forward, reverse, inbound}
@@ -24,7 +26,7 @@ use Rattle.columns.specs.declared.refusal.Ruling.{Ruling}
 use Rattle.columns.specs.declared.refusal.Ruling.the-variants.{Kept, Broken}
 use Rattle.columns.specs.declared.refusal.Refusal.{Refusal}
 use Rattle.columns.proofs.FirstBroken.{each-none}
-use Rattle.columns.proofs.Checks.{is-kept, is-broken, first-alone, first-append, then-rest, then-broken, any-append, or-kept, over-none, few-deltas}
+use Rattle.columns.proofs.Checks.{is-kept, is-broken, first-alone, first-append, then-rest, then-broken, over-none, few-deltas}
 
 -- ── limits ───────────────────────────────────────────────────────────────────────────────────
 
@@ -146,9 +148,9 @@ module _ (h : Head) (fo : List ℕ) (fd : List ℤ) (ro : List ℕ) (rd : List �
             let r = setLengths (columnsOf (h .reverse) ro rd) in
             let i = setLengths (columnsOf (h .inbound) io id) in
             let l = labelLengths (coverOf (h .cover) chains seqs) in
-            let p = or-kept _ _ (sym (any-append m f (r ++ (i ++ l))) ∙ over-none (h .rows) _ tight (parts .0)) in
-            let q = or-kept _ _ (sym (any-append m r (i ++ l)) ∙ p .1) in
-            let s = or-kept _ _ (sym (any-append m i l) ∙ q .1) in
+            let p = or-is-false _ _ (sym (any-append m f (r ++ (i ++ l))) ∙ over-none (h .rows) _ tight (parts .0)) in
+            let q = or-is-false _ _ (sym (any-append m r (i ++ l)) ∙ p .1) in
+            let s = or-is-false _ _ (sym (any-append m i l) ∙ q .1) in
             (p .0, q .0, s .0)
 
         kept : (setRules forward (h .first) (h .rows) (h .end) (columnsOf (h .forward) fo fd) ≡ none)

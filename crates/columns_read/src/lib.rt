@@ -1,5 +1,7 @@
 // Reading a granule: its three sets of edges and, where there is a cover, its label columns, in one call.
-use columns::reading;
+mod delta;
+pub mod sets;
+
 use columns::refusal::Refusal;
 use columns::refusal::Ruling;
 ghost use mathlib.Core.Path.{_≡_};
@@ -57,14 +59,14 @@ fn is_granule_over(
 ) -> bool
     ensures { λ r. ⌜ r ≡ any (ltb maxNumbers) (fo ∷ fd ∷ ro ∷ rd ∷ io ∷ id ∷ coverLengths cover chains seqs) ⌝ }
 {
-    if reading::is_any_over(fo, fd, ro, rd) {
+    if sets::is_any_over(fo, fd, ro, rd) {
         return true;
     }
-    if reading::is_over(io, id) {
+    if sets::is_over(io, id) {
         return true;
     }
     if cover {
-        return reading::is_over(chains, seqs);
+        return sets::is_over(chains, seqs);
     }
     false
 }
@@ -89,7 +91,7 @@ fn cover_rules(rows: usize, cover: bool, chains: &[u64], seqs: &[u64]) -> Ruling
     ensures { λ r. ⌜ r ≡ ruling (coverRules rows (coverOf cover (now (chains .entry)) (now (seqs .entry)))) ⌝ }
 {
     if cover {
-        return reading::label_rules(rows, chains, seqs);
+        return sets::label_rules(rows, chains, seqs);
     }
     Ruling::Kept
 }
@@ -109,9 +111,9 @@ fn sets_rules(
     let first = head.first;
     let rows = head.rows;
     let end = head.end;
-    let rules = reading::set_rules(0, first, rows, end, head.forward, fo, fd);
+    let rules = sets::set_rules(0, first, rows, end, head.forward, fo, fd);
     match rules {
-        Ruling::Kept => reading::both_rules(
+        Ruling::Kept => sets::both_rules(
             first,
             rows,
             end,
@@ -175,7 +177,7 @@ fn granule_rules(
         c,
         s,
     );
-    let limit = reading::limit_rules(head.rows, over, tight);
+    let limit = sets::limit_rules(head.rows, over, tight);
     match limit {
         Ruling::Kept => edge_rules(head, fo, fd, ro, rd, io, id, chains, seqs),
         Ruling::Broken(why) => Ruling::Broken(why),
@@ -206,9 +208,9 @@ fn write_granule(
     ensures { λ _. ⌜ now (inbound .exit) ≡ sets (now (inbound .entry)) 0 (joined (slotsOf (head .first) (columnsOf (head .inbound) (now (io .entry)) (now (id .entry))))) ⌝ }
 {
     let first = head.first;
-    let f = reading::write_csr(first, head.forward, fo, fd, forward);
-    let r = reading::write_csr(first, head.reverse, ro, rd, reverse);
-    let i = reading::write_csr(first, head.inbound, io, id, inbound);
+    let f = sets::write_csr(first, head.forward, fo, fd, forward);
+    let r = sets::write_csr(first, head.reverse, ro, rd, reverse);
+    let i = sets::write_csr(first, head.inbound, io, id, inbound);
     Counts {
         forward: f,
         reverse: r,

@@ -1,4 +1,4 @@
 pub mod Ruled
-pub mod chain_table
+pub mod seqs
 pub mod records
 pub mod spans

@@ -19,8 +19,8 @@ use Rattle.columns.specs.Walk.{walked, levels}
 use Rattle.columns.specs.Walk as definition
 use Rattle.columns.specs.Answers.{room, lentRules, inOne, countedOf, writtenOver}
 use Rattle.columns.specs.declared.refusal.Refusal.{Refusal}
-use Rattle.columns.specs.declared.reading.Counted.{Counted}
-use Rattle.columns.specs.declared.reading.Counted.the-variants as counted
+use Rattle.columns.specs.declared.refusal.Counted.{Counted}
+use Rattle.columns.specs.declared.refusal.Counted.the-variants as counted
 use Rattle.columns_levels.specs.frontier.Frontier.{parentsIn}
 use Rattle.columns_levels.specs.rounds.Rounds.{endsFrom}
 use Rattle.columns_levels.specs.rounds.Closure.{Answer}

@@ -1,8 +1,8 @@
 // The next level of a walk over one file's forward columns, from what was visited and the last level. The set is read first.
 use columns::kind::Kind;
-use columns::reading;
-use columns::reading::Counted;
+use columns::refusal::Counted;
 use columns::refusal::Refusal;
+use columns_read::sets;
 ghost use mathlib.Core.Path.{_≡_};
 ghost use mathlib.Core.List.{[], _∷_};
 ghost use mathlib.Core.Bool.{true, false};
@@ -175,7 +175,7 @@ pub fn next(
     ensures { λ r. ⌜ r ≡ countedOf (step.next first rows end (columnsOf count (now (offsets .entry)) (now (deltas .entry))) (kindOf kind) limit (now (visited .entry)) (now (frontier .entry)) (room (length (now (out .entry))))) ⌝ }
     ensures { λ _. ⌜ now (out .exit) ≡ writtenOver (now (out .entry)) (step.next first rows end (columnsOf count (now (offsets .entry)) (now (deltas .entry))) (kindOf kind) limit (now (visited .entry)) (now (frontier .entry)) (room (length (now (out .entry))))) ⌝ }
 {
-    if reading::is_over(visited.len(), frontier.len()) {
+    if sets::is_over(visited.len(), frontier.len()) {
         return Counted::Refused(too_long(rows));
     }
     step_from(

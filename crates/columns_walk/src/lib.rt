@@ -2,7 +2,7 @@
 pub mod level;
 
 use columns::kind::Kind;
-use columns::reading::Counted;
+use columns::refusal::Counted;
 use columns::refusal::Refusal;
 ghost use mathlib.Core.Path.{_≡_};
 ghost use mathlib.Core.List.{[], _∷_};

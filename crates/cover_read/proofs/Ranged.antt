@@ -13,11 +13,12 @@ use borrow.Author.Tests.{le-leb, lt-leb, eq-eqb, ne-eqb, ltb-true, eqb-true, not
 use Rattle.lists.specs.Lists.{all, any}
 use Rattle.lists.specs.Order.{risesAbove, rising, notFalling}
 use Rattle.lists.proofs.Tests.{tested, both}
+use Rattle.lists.proofs.Rising.{rising-level}
 use Rattle.cover.specs.Chains.{Range}
 use Rattle.cover.specs.Cover.{rangesOk}
 use Rattle.cover.specs.Questions.{meets}
 use Rattle.arrays.specs.searching.Place.{placeOf}
-use Rattle.arrays.proofs.searching.Halving.{rising-level, place-stands}
+use Rattle.arrays.proofs.searching.Halving.{place-stands}
 use Rattle.cover.specs.Answers.{range, rangesIn, rangeColumns, evenRanges, rangesFit}
 use Rattle.cover_read.proofs.Climbing.{rises-lower, rises-past}
 

@@ -10,7 +10,7 @@ use Rattle.columns.specs.Ancestor.{SharedAncestor}
 use Rattle.columns.specs.declared.kind.Kind.{Kind}
 use Rattle.columns.specs.declared.kind.Kind.the-variants.{Prev, Auth}
 use Rattle.columns.specs.declared.refusal.Refusal.{Refusal}
-use Rattle.columns.specs.declared.reading.Counted as columns
+use Rattle.columns.specs.declared.refusal.Counted as columns
 use Rattle.columns_read.specs.declared.Head.{Head}
 use Rattle.columns_read.specs.declared.Decoded as granules
 use Rattle.columns_ask.specs.declared.Labelled as questions

@@ -38,7 +38,7 @@ pub extern "C" fn ridgeoven_read_set(
     ensures { λ r. ⌜ r ≡ countOf (countedOf (inOne (decodeSet set first rows end (columnsOf count (now (offsets .entry)) (now (deltas .entry))) (room (length (now (targets .entry))))))) ⌝ }
     ensures { λ _. ⌜ now (targets .exit) ≡ writtenOver (now (targets .entry)) (inOne (decodeSet set first rows end (columnsOf count (now (offsets .entry)) (now (deltas .entry))) (room (length (now (targets .entry)))))) ⌝ }
 {
-    count_of(columns::reading::decode_csr(set, first, rows, end, count, offsets, deltas, targets))
+    count_of(columns_read::sets::decode_csr(set, first, rows, end, count, offsets, deltas, targets))
 }
 
 // How many targets each set of a granule has.

@@ -1,6 +1,6 @@
 // What is given by a number, and how many entries were found.
 use columns::kind::Kind;
-use columns::reading::Counted;
+use columns::refusal::Counted;
 use ffi::answer::Answer;
 use ffi::answer::no_entries;
 use ffi::answer::some_entries;

@@ -65,6 +65,10 @@ at-most-one t h i (suc m) = elim (tested (t i)) [
 one-number : (x i m : ℕ) → sum (λ n. bit (eqb n x)) (upFrom i m) ≤ 1
 one-number x i m = at-most-one (λ n. eqb n x) (λ j k e l. ne-eqb k x (λ d. omega (arith, eqb-true j x e))) i m
 
+-- a number is one of some at most once
+pub equal-once : (x i m : ℕ) → sum (λ n. bit (eqb x n)) (upFrom i m) ≤ 1
+equal-once x i m = at-most-one (λ n. eqb x n) (λ j k e l. ne-eqb x k (λ d. omega (arith, eqb-true x j e))) i m
+
 either : (a b : Bool) → bit (a || b) ≤ bit a + bit b
 either true b = omega arith
 either false b = omega arith

@@ -20,6 +20,10 @@ module _ {A B : Type 0} where
   flat-ext f g [] h = refl
   flat-ext f g (x ∷ xs) h = rw (h .0, flat-ext f g xs (h .1))
 
+  pub flat-map : {C : Type 0} (f : B → List C) (h : A → B) (xs : List A) → flat f (map h xs) ≡ flat (λ x. f (h x)) xs
+  flat-map f h [] = refl
+  flat-map f h (x ∷ xs) = rw (flat-map f h xs)
+
   pub map-ext : (f g : A → B) (xs : List A) → Each (λ x. f x ≡ g x) xs → map f xs ≡ map g xs
   map-ext f g [] h = refl
   map-ext f g (x ∷ xs) h = rw (h .0, map-ext f g xs (h .1))

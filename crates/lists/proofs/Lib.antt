@@ -1,4 +1,6 @@
 pub mod Tests
+pub mod Slices
+pub mod Compared
 pub mod Each
 pub mod Once
 pub mod Flat

@@ -1,9 +1,12 @@
 -- Each element once: what is in a list that elements were added to, when a list has each element once, and that renaming keeps it.
-use mathlib.Core.Path.{_≡_, refl, ap, sym, _∙_}
-use mathlib.Core.Bool.{Bool, true, false, cond, _||_, not, false≢true, or-assoc, or-true, and-eq-true-iff}
+use mathlib.Core.Path.{_≡_, refl, ap, sym, _∙_, subst}
+use mathlib.Core.Bool.{Bool, true, false, cond, _||_, not, false≢true, or-assoc, or-false, or-true, and-eq-true-iff}
 use mathlib.Core.List.{List, [], _∷_, _++_, map, foldl, append-nil, append-assoc, foldl-append, map-append}
-use Prim.Native.Nat.{ℕ}
+use Prim.Native.Nat.{ℕ, _≤_}
+use native.Mathlib.Nat.{le-trans}
+use native.Mathlib.Omega.{arith}
 use lib.Dec.{eqb}
+use lib.ListN.{length, length-append}
 use borrow.Author.Tests.{eqb-true, eqb-false, eq-eqb, ne-eqb, not-true}
 use Rattle.lists.specs.Lists.{mem, add, once, distinct, Each}
 use Rattle.lists.proofs.Each.{each-append}
@@ -31,6 +34,18 @@ pub mem-append : (x : ℕ) (s t : List ℕ) → mem x (s ++ t) ≡ (mem x s || m
 unfolding mem
 mem-append x [] t = refl
 mem-append x (y ∷ ys) t = rw (mem-append x ys t) (sym (or-assoc (eqb x y) (mem x ys) (mem x t)))
+
+pub mem-first : (x : ℕ) (s : List ℕ) → mem x (x ∷ s) ≡ true
+unfolding mem
+mem-first x s = rw (eq-eqb x x refl)
+
+pub mem-later : (x y : ℕ) (s : List ℕ) → mem x s ≡ true → mem x (y ∷ s) ≡ true
+unfolding mem
+mem-later x y s e = rw e (or-true (eqb x y))
+
+pub mem-last : (x k : ℕ) (s : List ℕ) → mem x (s ++ (k ∷ [])) ≡ (mem x s || eqb x k)
+unfolding mem
+mem-last x k s = rw (mem-append x s (k ∷ []), or-false (eqb x k))
 
 pub mem-snoc : (x : ℕ) (s : List ℕ) → mem x (s ++ (x ∷ [])) ≡ true
 unfolding mem
@@ -74,6 +89,29 @@ mem-folded s (y ∷ ys) x h = go (eqb x y) refl h (λ h. mem-folded (add s y) ys
         → mem x (foldl add (add s y) ys) ≡ true
     go true e h ih = mem-stays (add s y) ys x (rw (eqb-true x y e) (mem-added s y))
     go false e h ih = ih h
+
+-- adding leaves no list shorter
+pub add-grows : (s : List ℕ) (x : ℕ) → length s ≤ length (add s x)
+unfolding add
+add-grows s x = go (mem x s)
+  where
+    go : (b : Bool) → length s ≤ length (cond b s (s ++ (x ∷ [])))
+    go true = omega arith
+    go false = omega (arith, length-append s (x ∷ []))
+
+pub fold-grows : (s xs : List ℕ) → length s ≤ length (foldl add s xs)
+fold-grows s [] = omega arith
+fold-grows s (x ∷ xs) = le-trans (add-grows s x) (fold-grows (add s x) xs)
+
+-- what each element has, a member has
+pub each-has : (P : ℕ → Type 0) (x : ℕ) (xs : List ℕ) → Each P xs → mem x xs ≡ true → P x
+unfolding mem
+each-has P x [] h m = absurd (false≢true m)
+each-has P x (y ∷ ys) h m = go (eqb x y) refl m (λ m. each-has P x ys (h .1) m)
+  where
+    go : (b : Bool) → eqb x y ≡ b → (b || mem x ys) ≡ true → (mem x ys ≡ true → P x) → P x
+    go true e m ih = subst P (sym (eqb-true x y e)) (h .0)
+    go false e m ih = ih m
 
 -- ── adding what was added elsewhere first ────────────────────────────────────────────────────
 

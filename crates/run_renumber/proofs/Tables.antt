@@ -13,9 +13,9 @@ use borrow.Author.Tests.{leb-true, eqb-true}
 use Rattle.lists.specs.Lists.{joined, part}
 use Rattle.lists.specs.Order.{climbsTo}
 use Rattle.lists.proofs.Tests.{both}
+use Rattle.lists.proofs.Slices.{slice-join}
 use Rattle.columns.specs.Limits.{kinds}
 use Rattle.columns.specs.EdgeSet.{fromTo, offsetsForm, cutFrom, cut}
-use Rattle.columns.proofs.Offsets.{slice-join}
 
 -- ── climbing ─────────────────────────────────────────────────────────────────────────────────
 

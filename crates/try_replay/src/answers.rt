@@ -2,7 +2,7 @@
 use crate::parts::after;
 use crate::parts::list;
 use crate::parts::number;
-use columns::reading::Counted;
+use columns::refusal::Counted;
 use columns::refusal;
 use columns::refusal::Refusal;
 

@@ -1,5 +1,5 @@
 -- Where a number stands in a column that doesn't fall, and the search that halves what is left.
-use mathlib.Core.Path.{_≡_, refl}
+use mathlib.Core.Path.{_≡_}
 use mathlib.Core.Bool.{true}
 use mathlib.Core.Logic.{inl, inr}
 use mathlib.Core.List.{List, [], _∷_}
@@ -9,8 +9,8 @@ use native.Mathlib.Nat.{not-suc-le-zero, le-of-suc-le-suc}
 use native.Mathlib.Omega.{arith}
 use lib.Dec.{ltb, leb}
 use lib.ListN.{length, getD}
-use borrow.Author.Tests.{lt-ltb, le-ltb, ltb-true, ltb-false, leb-true, le-leb}
-use Rattle.lists.specs.Order.{risesAbove, rising, levelAbove, notFalling}
+use borrow.Author.Tests.{lt-ltb, le-ltb, ltb-true, ltb-false, leb-true}
+use Rattle.lists.specs.Order.{levelAbove, notFalling}
 use Rattle.lists.proofs.Tests.{tested, both}
 use Rattle.arrays.specs.searching.Place.{placeOf}
 
@@ -24,19 +24,6 @@ level-get low (x ∷ xs) (suc i) a h =
     let p = both (leb low x) (levelAbove x xs) a in
     let q = level-get x xs i (p .1) (le-of-suc-le-suc h) in
     omega (arith, leb-true low x (p .0))
-
-rises-level : (low : ℕ) (l : List ℕ) → risesAbove low l ≡ true → levelAbove low l ≡ true
-unfolding risesAbove levelAbove
-rises-level low [] a = refl
-rises-level low (x ∷ xs) a =
-    let p = both (ltb low x) (risesAbove x xs) a in
-    rw (le-leb low x (omega (arith, ltb-true low x (p .0)))) (rises-level x xs (p .1))
-
--- a rising column doesn't fall
-pub rising-level : (l : List ℕ) → rising l ≡ true → notFalling l ≡ true
-unfolding rising notFalling levelAbove
-rising-level [] a = refl
-rising-level (x ∷ xs) a = rw (le-leb 0 x (omega arith)) (rises-level x xs a)
 
 -- ── places ───────────────────────────────────────────────────────────────────────────────────
 

@@ -1,30 +1,36 @@
--- A set of numbers: keys in the order of arrival, each linked to the last key before it of the same bucket.
+-- Numbers in buckets: keys in the order of arrival, each linked to the last key before it of the same bucket. Places are counted from 1,
+-- and 0 is none.
 use mathlib.Core.Path.{_≡_}
-use mathlib.Core.Bool.{Bool, true, false, _||_, cond}
+use mathlib.Core.Bool.{_||_, cond}
 use mathlib.Core.List.{List, [], _∷_, _++_}
 use Prim.Native.Nat.{ℕ, zero, suc, _+_, _≤_, _<_, _%_}
 use lib.Dec.{leb, eqb}
 use lib.ListN.{length, take, getD}
 use Rattle.lists.specs.Lists.{mem}
 
--- whether x is on the chain from place i on, where places are counted from 1 and 0 ends the chain; at most f places are looked at
-unfoldable pub chain : ℕ → List ℕ → List ℕ → ℕ → ℕ → Bool
-chain zero keys links i x = false
-chain (suc f) keys links zero x = false
-chain (suc f) keys links (suc j) x = eqb x (getD keys j 0) || chain f keys links (getD links j 0) x
+-- the last place of x among the first n keys
+unfoldable pub lastPlace : List ℕ → ℕ → ℕ → ℕ
+lastPlace keys zero x = 0
+lastPlace keys (suc i) x = cond (eqb (getD keys i 0) x) (suc i) (lastPlace keys i x)
+
+-- the first place of x from place i on, along the links; at most f places are looked at
+unfoldable pub newest : ℕ → List ℕ → List ℕ → ℕ → ℕ → ℕ
+newest zero keys links i x = 0
+newest (suc f) keys links zero x = 0
+newest (suc f) keys links (suc j) x = cond (eqb (getD keys j 0) x) (suc j) (newest f keys links (getD links j 0) x)
 
 -- the links of the first n keys lead down
 pub record Down (links : List ℕ) (n : ℕ) : Type 0 where
   pub low : (j : ℕ) → j < n → getD links j 0 ≤ j
 
--- the chains hold the first n keys
+-- the buckets hold the first n keys
 pub record Table (keys links heads : List ℕ) (n : ℕ) : Type 0 where
   pub some : 0 < length heads
   pub upto : n ≤ length keys
   pub even : length links ≡ length keys
   pub down : Down links n
   pub top : (h : ℕ) → getD heads h 0 ≤ n
-  pub holds : (x : ℕ) → chain (getD heads (x % length heads) 0) keys links (getD heads (x % length heads) 0) x ≡ mem x (take n keys)
+  pub holds : (x : ℕ) → newest (getD heads (x % length heads) 0) keys links (getD heads (x % length heads) 0) x ≡ lastPlace keys n x
 
 -- x put at the end, unless it is there or c are there already
 unfoldable pub addCap : ℕ → List ℕ → ℕ → List ℕ

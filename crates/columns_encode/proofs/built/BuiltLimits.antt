@@ -14,13 +14,14 @@ use Rattle.lists.specs.Order.{sort}
 use Rattle.lists.proofs.Tests.{both, all-of}
 use Rattle.lists.proofs.Each.{each-append, each-imp}
 use Rattle.lists.proofs.Flat.{length-starts}
+use Rattle.lists.proofs.Once.{or-is-false}
 use Rattle.columns.specs.Limits.{kinds, maxRecords, maxNumbers, end32}
 use Rattle.columns.specs.Refusal.{firstOf, Lent, short, limits}
 use Rattle.columns.specs.EdgeSet.{offsetsForm, setOf}
 use Rattle.columns.specs.Reading.{Label, Labels, labelsOf, labelsIn, labelLengths, labelRules, coverRules, setLengths, columnLengths}
 use Rattle.columns.specs.Building.{Graph, slotsIn, labelsRules, childrenTo, naming, reverseLists, inboundLists, granulePart, granuleStart, forwardPart, reversePart, inboundPart, builtOf, graphRecords, graphLengths}
 use Rattle.columns.specs.declared.refusal.Refusal.the-variants.{LabelCount, LabelColumns, OverRecords}
-use Rattle.columns.proofs.Checks.{or-kept, few-numbers}
+use Rattle.columns.proofs.Checks.{few-numbers}
 use Rattle.columns.proofs.FirstBroken.{each-none, not-refused, passed}
 use Rattle.columns.proofs.Offsets.{form-climbs}
 use Rattle.columns.proofs.ReadBack.{set-count}
@@ -33,7 +34,7 @@ use Rattle.columns_encode.proofs.built.BuiltLengths.{part-fewer, cut-fe
 within : (m : ℕ) (xs : List ℕ) → any (ltb m) xs ≡ false → Each (λ x. x ≤ m) xs
 unfolding any
 within m [] e = tt
-within m (x ∷ xs) e = let h = or-kept (ltb m x) (any (ltb m) xs) e in (ltb-false m x (h .0), within m xs (h .1))
+within m (x ∷ xs) e = let h = or-is-false (ltb m x) (any (ltb m) xs) e in (ltb-false m x (h .0), within m xs (h .1))
 
 none-over : (m : ℕ) (xs : List ℕ) → Each (λ x. x ≤ m) xs → any (ltb m) xs ≡ false
 unfolding any

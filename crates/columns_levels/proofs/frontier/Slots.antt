@@ -11,10 +11,11 @@ use lib.Seq.{slice, slice-cons, take-all}
 use borrow.Author.Tests.{le-ltb, lt-ltb}
 use Rattle.lists.specs.Lists.{mem, flat}
 use Rattle.lists.proofs.Once.{mem-append}
+use Rattle.lists.proofs.Slices.{slice-none}
 use Rattle.columns.specs.EdgeSet.{cut, cutFrom}
 use Rattle.columns.specs.Questions.{listOf}
 use Rattle.arrays.specs.table.Table.{addCap, addsCap, Keys, Table}
-use Rattle.arrays.proofs.table.Chains.{slice-none, keys-are}
+use Rattle.arrays.proofs.table.Chains.{keys-are}
 use Rattle.columns_levels.specs.frontier.Frontier.{parentsIn}
 
 -- ── slots ────────────────────────────────────────────────────────────────────────────────────

@@ -13,12 +13,11 @@ use borrow.Author.Tests.{ltb-true, ltb-false}
 use Rattle.lists.specs.Lists.{mem, flat, filter, once}
 use Rattle.lists.specs.Order.{sort}
 use Rattle.lists.proofs.Once.{mem-append}
-use Rattle.lists.proofs.Rising.{mem-sort}
+use Rattle.lists.proofs.Rising.{mem-sort, length-sort}
+use Rattle.lists.proofs.Slices.{slice-none}
 use Rattle.columns.specs.Walk.{level}
 use Rattle.arrays.specs.sorting.Ordered.{partSorted}
-use Rattle.arrays.proofs.sorting.Halves.{length-sort}
 use Rattle.arrays.specs.table.Table.{Table, addsCap, Keys}
-use Rattle.arrays.proofs.table.Chains.{slice-none}
 use Rattle.columns_levels.specs.frontier.Frontier.{parentsIn, copied, hitsIn, Laid, Seen}
 use Rattle.columns_levels.proofs.frontier.Slots.{all-parents-in}
 use Rattle.columns_levels.proofs.frontier.Fresh.{newFrom, made-all, level-new}

@@ -19,8 +19,8 @@ use Rattle.columns.specs.declared.kind.Kind.{Kind}
 use Rattle.columns.specs.declared.kind.Kind.the-variants.{Prev, Auth}
 use Rattle.columns.specs.declared.refusal.Refusal.{Refusal}
 use Rattle.columns.specs.declared.refusal.Refusal.the-variants.{SliceShort}
-use Rattle.columns.specs.declared.reading.Counted.{Counted}
-use Rattle.columns.specs.declared.reading.Counted.the-variants as counted
+use Rattle.columns.specs.declared.refusal.Counted.{Counted}
+use Rattle.columns.specs.declared.refusal.Counted.the-variants as counted
 use Rattle.columns.proofs.FirstBroken.{each-none, not-refused}
 use Rattle.columns.proofs.Checks.{few-numbers, few-deltas}
 use Rattle.columns_levels.specs.frontier.Frontier.{parentsIn}

@@ -1,5 +1,5 @@
 // Building's rules on labels: one for each row (9), and each chain's seqs rising in row order (10).
-use crate::chain_table::seqs_rise;
+use crate::seqs::seqs_rise;
 use columns::refusal::Refusal;
 use columns::refusal::Ruling;
 ghost use mathlib.Core.Path.{_≡_};

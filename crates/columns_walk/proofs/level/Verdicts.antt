@@ -11,7 +11,8 @@ use lib.ListN.{length, take, drop}
 use lib.Seq.{sets}
 use borrow.Author.Tests.{lt-ltb, le-ltb, ltb-true, ltb-false}
 use Rattle.lists.specs.Lists.{any}
-use Rattle.lists.proofs.Tests.{tested}
+use Rattle.lists.proofs.Tests.{tested, any-append}
+use Rattle.lists.proofs.Once.{or-is-false}
 use Rattle.columns.specs.Limits.{maxRecords, maxNumbers}
 use Rattle.columns.specs.Refusal.{refused, accepted, unless, refuse, firstOf, short, limits}
 use Rattle.columns.specs.EdgeSet.{EdgeSet}
@@ -21,9 +22,8 @@ use Rattle.columns.specs.Walk.{level}
 use Rattle.columns.specs.Answers.{room, limitsOf, lentRules, inOne, countedOf, writtenOver}
 use Rattle.columns.specs.declared.refusal.Refusal.{Refusal}
 use Rattle.columns.specs.declared.refusal.Refusal.the-variants.{SliceShort, OverRecords, OverNumbers}
-use Rattle.columns.specs.declared.reading.Counted.{Counted}
-use Rattle.columns.specs.declared.reading.Counted.the-variants as counted
-use Rattle.columns.proofs.Checks.{any-append, or-kept}
+use Rattle.columns.specs.declared.refusal.Counted.{Counted}
+use Rattle.columns.specs.declared.refusal.Counted.the-variants as counted
 use Rattle.columns_levels.specs.frontier.Frontier.{parentsIn}
 use Rattle.columns_levels.proofs.targets.Verdicts.{was-read, was-refused, whole, parents-are, parents-fun}
 use Rattle.columns_walk.specs.level.Step.{next}
@@ -86,7 +86,7 @@ module _ (first rows end : ℕ) (s : EdgeSet) (kind limit : ℕ) (visited fronti
 
 pub few-visited : (a b : ℕ) → any (ltb maxNumbers) (a ∷ b ∷ []) ≡ false → a ≤ 4096
 unfolding any
-few-visited a b e = ltb-false 4096 a (or-kept (ltb 4096 a) (ltb 4096 b || false) e .0)
+few-visited a b e = ltb-false 4096 a (or-is-false (ltb 4096 a) (ltb 4096 b || false) e .0)
 
 -- ── a list that is too long ──────────────────────────────────────────────────────────────────
 

@@ -14,9 +14,8 @@ use Rattle.lists.proofs.Tests.{tested, both}
 use Rattle.lists.proofs.Each.{each-all}
 use Rattle.lists.proofs.Filters.{filter-all}
 use Rattle.lists.proofs.Rising.{mem-filter}
-use Rattle.lists.proofs.Once.{mem-append, add-there, add-new}
+use Rattle.lists.proofs.Once.{mem-append, add-there, add-new, mem-last}
 use Rattle.arrays.specs.table.Table.{addsCap, Keys}
-use Rattle.arrays.proofs.table.Chains.{has-snoc}
 use Rattle.columns_levels.specs.frontier.Frontier.{parentsIn, hitsIn, Seen}
 use Rattle.columns_levels.proofs.frontier.Slots.{all-parents-in}
 use Rattle.columns_levels.proofs.frontier.Fresh.{newFrom, made-all, hits-le}
@@ -31,7 +30,7 @@ mem-add x y s = elim (tested (mem y s)) [
     | inl f ↦ let g : mem x s ≡ true = rw (eqb-true x y f) e in rw (f, g)
     | inr f ↦ rw (f, or-false (mem x s))
   ])
-  | inr e ↦ rw (add-new s y e) (has-snoc x y s)
+  | inr e ↦ rw (add-new s y e) (mem-last x y s)
 ]
 
 mem-folded : (x : ℕ) (s xs : List ℕ) → mem x (foldl add s xs) ≡ mem x s || mem x xs

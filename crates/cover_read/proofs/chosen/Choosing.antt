@@ -13,10 +13,9 @@ use borrow.Author.Tests.{eq-eqb, ne-eqb}
 use Rattle.lists.specs.Lists.{upFrom}
 use Rattle.lists.specs.Order.{levelAbove, notFalling, sort}
 use Rattle.lists.proofs.Tests.{both}
-use Rattle.lists.proofs.Rising.{sort-level}
+use Rattle.lists.proofs.Rising.{sort-level, length-sort}
 use Rattle.lists.proofs.Flat.{upFrom-snoc}
 use Rattle.arrays.specs.sorting.Ordered.{partSorted}
-use Rattle.arrays.proofs.sorting.Halves.{length-sort}
 use Rattle.cover.specs.Answers.{over}
 use Rattle.arrays.specs.searching.Place.{placeOf}
 use Rattle.cover_rows.proofs.Columned.{copies, take-over}

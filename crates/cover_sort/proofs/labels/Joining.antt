@@ -14,13 +14,12 @@ use Rattle.lists.specs.Lists.{Each}
 use Rattle.lists.specs.Order.{levelAbove, notFalling, sort}
 use Rattle.lists.proofs.Tests.{tested, both}
 use Rattle.lists.proofs.Each.{each-append, each-imp}
-use Rattle.lists.proofs.Rising.{sort-level}
+use Rattle.lists.proofs.Rising.{sort-level, length-sort}
 use Rattle.columns.specs.Limits.{end32}
 use Rattle.columns.specs.Reading.{Label, labelsOf}
 use Rattle.cover.specs.Chains.{Range, rangeOf, widen, addLabel, rangesOf}
 use Rattle.cover.specs.Answers.{RangeColumns, rangeColumns, over}
 use Rattle.cover_rows.proofs.Columned.{over-sets, take-over}
-use Rattle.arrays.proofs.sorting.Halves.{length-sort}
 use Rattle.cover_sort.specs.packing.Keys.{keysOf}
 use Rattle.cover_sort.proofs.packing.Packed.{Narrow, length-keys}
 use Rattle.cover_sort.specs.labels.Runs.{labelOf, runRange, runs, runsOf, putRange, putRanges, rangesOver}

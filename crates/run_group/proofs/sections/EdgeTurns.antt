@@ -9,10 +9,9 @@ use lib.ListN.{length, getD, set, length-append, length-map}
 use lib.Seq.{slice, slice-cons, drop-cons}
 use Rattle.lists.specs.Lists.{filter, flat, upFrom, part}
 use Rattle.lists.proofs.Flat.{flat-append}
+use Rattle.lists.proofs.Slices.{sets-append, slice-none}
 use Rattle.columns.specs.EdgeSet.{offsetsForm, cut}
 use Rattle.columns.specs.Building.{inFile}
-use Rattle.columns.proofs.Offsets.{slice-none}
-use Rattle.columns.proofs.Writes.{sets-append}
 use Rattle.columns_rules.proofs.SlotTables.{Table, table-of, length-cut, getD-cut}
 use Rattle.cleaning.specs.Writing.{Edge, edgesInto}
 use Rattle.run_group.specs.sections.Laid.{slotEdges, edgesOfRow, Laid}

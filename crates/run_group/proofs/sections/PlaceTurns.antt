@@ -8,7 +8,7 @@ use lib.ListN.{length, getD}
 use lib.Seq.{slice, slice-cons}
 use borrow.Author.Tests.{lt-ltb, le-ltb}
 use Rattle.lists.specs.Lists.{filter}
-use Rattle.columns.proofs.Offsets.{slice-none}
+use Rattle.lists.proofs.Slices.{slice-none}
 use Rattle.cleaning.specs.Sections.{place}
 
 module _ {t : ℕ} (x n i to : ℕ) (l : List ℕ) (e : t ≡ n + place x (slice i to l)) where

@@ -2,8 +2,8 @@
 // space, so that they are made once for all sets.
 use archive_bytes::number_columns::fill_i64s;
 use archive_bytes::number_columns::fill_u64s;
-use columns::reading::set_rules;
 use columns::refusal::Ruling;
+use columns_read::sets::set_rules;
 ghost use mathlib.Core.Path.{_≡_};
 ghost use Prim.Native.Nat.{_+_, _*_, _≤_};
 ghost use lib.ListN.{length, take};

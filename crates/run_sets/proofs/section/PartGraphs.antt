@@ -14,6 +14,7 @@ use Rattle.lists.specs.Lists.{flat, joined, starts, part, upFrom, any}
 use Rattle.lists.specs.Order.{climbsTo}
 use Rattle.lists.proofs.Tests.{tested, both}
 use Rattle.lists.proofs.Flat.{length-starts}
+use Rattle.lists.proofs.Slices.{slice-rest}
 use Rattle.columns.specs.Limits.{maxNumbers}
 use Rattle.columns.specs.Refusal.{unless, firstOf, short, limits}
 use Rattle.columns.specs.Reading.{labelLengths}
@@ -27,7 +28,6 @@ use Rattle.columns.specs.declared.depth.Depth as given
 use Rattle.columns_encode.specs.Encoded.{Rooms}
 use Rattle.columns_encode.specs.declared.kept.Encoded.{Encoded}
 use Rattle.columns_build.specs.Lent.{graphOf, slicesOf, Answers}
-use Rattle.arrays.proofs.sorting.Insert.{slice-rest}
 use Rattle.cleaning.specs.Writing.{Edge, inboundColumns}
 use Rattle.cleaning.proofs.Offsets.{starts-part, joined-part}
 use Rattle.cleaning.proofs.Parts.{length-part}

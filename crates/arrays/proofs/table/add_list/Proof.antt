@@ -1,6 +1,6 @@
 -- `arrays::table::add_list` meets its contract. The invariant: the keys so far, and the rest of the list still to put in.
 use mathlib.Core.Path.{_≡_}
-use Prim.Native.Nat.{_≤_, _<_, _+_, _-_}
+use Prim.Native.Nat.{_-_}
 use lib.ListN.{length, take}
 use lib.Seq.{slice}
 use Rattle.arrays.specs.table.Table.{Table, addsCap}

@@ -1,6 +1,5 @@
 -- `arrays::table::bucket` meets its contract.
 use Rattle.arrays.proofs.table.Chains.{bucket-below, bucket-is}
-use native.Mathlib.Nat.{mod-lt}
 use borrow.Author.Needs.{needs}
 use Rattle.arrays.proofs.table.bucket.Statement.{statement}
 use Rattle.arrays.proofs.table.bucket.Tie as tie

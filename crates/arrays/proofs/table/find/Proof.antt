@@ -1,22 +1,11 @@
 -- `arrays::table::find` meets its contract.
-use Rattle.arrays.proofs.table.Chains.{top-in, found}
 use borrow.Author.Needs.{needs}
+use Rattle.arrays.proofs.table.Chains.{found-there}
 use Rattle.arrays.proofs.table.find.Statement.{statement}
 use Rattle.arrays.proofs.table.find.Tie as tie
 
-follow-requires : tie.Need-follow-requires
-follow-requires c κs = ((search top-in, (search needs, search needs)), search needs)
-
 returns : tie.Need-returns
-returns c = search found
+returns c = search found-there
 
 pub find-spec : {M : Type 1} → statement M
-find-spec =
-    tie.close
-    (tie.spec
-    (λ c κs. search needs)
-    (λ c. search needs)
-    (λ c. search needs)
-    (λ c κs. search needs)
-    follow-requires
-    returns)
+find-spec = tie.close (tie.spec (λ c κs. search needs) returns)

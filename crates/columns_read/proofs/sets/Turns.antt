@@ -1,0 +1,196 @@
+-- The turns of the loops that check offsets and deltas, and the tests between them, as laws of the definitions.
+use mathlib.Core.Path.{_≡_, refl, sym, _∙_}
+use mathlib.Core.Bool.{Bool, true, false, _&&_, not, and-true}
+use mathlib.Core.List.{List, [], _∷_}
+use Prim.Native.Nat.{ℕ, suc, _≤_, _<_, _+_, _-_, _*_, _/_, _%_, _^_}
+use native.Mathlib.Numerals.{add-one}
+use native.Mathlib.Omega.{arith}
+use lib.Dec.{leb, ltb, eqb}
+use lib.IntN.{ℤ, pos}
+use lib.ListN.{length, getD, drop, drop-of-length-le}
+use lib.Seq.{slice, slice-cons, drop-cons}
+use mir.Syntax.{w64}
+use mir.Val.{Fits, SFits, toZ, ofZ}
+use mir.ValLaws.{toZ-ofZ}
+use borrow.Author.Tests.{le-leb, lt-leb, lt-ltb, le-ltb, eq-eqb, ne-eqb, ltb-true, leb-true, not-true, not-false}
+use Rattle.lists.specs.Lists.{all}
+use Rattle.lists.specs.Order.{climbsTo}
+use Rattle.lists.proofs.Tests.{same-test}
+use Rattle.lists.proofs.Slices.{slice-none}
+use Rattle.columns.specs.Limits.{end64, end32}
+use Rattle.columns.specs.Refusal.{firstOf}
+use Rattle.columns.specs.EdgeSet.{cut, eventOf, fromTo, offsetsForm, sound}
+use Rattle.columns.specs.Reading.{soundFrom, setRules, labelRules}
+use Rattle.columns.specs.Answers.{short32, columnsOf, labelColumns, ruling}
+use Rattle.columns.specs.declared.refusal.Ruling.the-variants.{Kept, Broken}
+use Rattle.columns.specs.declared.refusal.Refusal.the-variants.{OffsetsForm, DeltaCount, TargetSide, LabelColumns, LabelRange}
+use Rattle.columns.proofs.Offsets.{cut-length, form-climbs}
+
+-- ── offsets ──────────────────────────────────────────────────────────────────────────────────
+
+module _ {t : Bool} (high low i : ℕ) (l : List ℕ) (e : t ≡ climbsTo high low (drop i l)) where
+  pub climb-done : length l ≤ i → eqb low high ≡ t
+  unfolding climbsTo
+  climb-done h = rw (e, drop-of-length-le l {i = i} h)
+
+  pub climb-falls : i < length l → getD l i 0 < low → false ≡ t
+  unfolding climbsTo
+  climb-falls h k = rw (e, drop-cons l i 0, lt-leb low (getD l i 0) k)
+
+  pub climb-on : i < length l → low ≤ getD l i 0 → t ≡ climbsTo high (getD l i 0) (drop (i + 1) l)
+  unfolding climbsTo
+  climb-on h k = rw (e, drop-cons l i 0, le-leb low (getD l i 0) k, add-one)
+
+module _ (rows count : ℕ) (l : List ℕ) where
+  pub even-offsets : (length l % 2 ≡ 1 → ⊥) → false ≡ offsetsForm rows count l
+  unfolding offsetsForm
+  even-offsets h = rw (ne-eqb (length l) (2 * rows + 1) (λ e. h (omega arith)))
+
+  pub other-rows : (length l / 2 ≡ rows → ⊥) → false ≡ offsetsForm rows count l
+  unfolding offsetsForm
+  other-rows h = rw (ne-eqb (length l) (2 * rows + 1) (λ e. h (omega arith)))
+
+  module _ (h : length l % 2 ≡ 1) (k : length l / 2 ≡ rows) where
+    pub some-form : 0 < length l
+    some-form = omega arith
+
+    rest : (os : List ℕ) → 0 < length os → fromTo 0 count os ≡ (eqb (getD os 0 0) 0 && climbsTo count (getD os 0 0) (drop 1 os))
+    unfolding fromTo
+    rest [] g = absurd (omega arith)
+    rest (x ∷ xs) g = refl
+
+    formed : offsetsForm rows count l ≡ (eqb (getD l 0 0) 0 && climbsTo count (getD l 0 0) (drop 1 l))
+    unfolding offsetsForm
+    formed = rw (eq-eqb (length l) (2 * rows + 1) (omega arith)) (rest l some-form)
+
+    pub starts-late : (getD l 0 0 ≡ 0 → ⊥) → false ≡ offsetsForm rows count l
+    starts-late g = rw (formed, ne-eqb (getD l 0 0) 0 g)
+
+    pub then-climbs : (r : Bool) → getD l 0 0 ≡ 0 → r ≡ climbsTo count 0 (drop 1 l) → r ≡ offsetsForm rows count l
+    then-climbs r g e = rw (formed, g) e
+
+-- ── deltas ───────────────────────────────────────────────────────────────────────────────────
+
+pub row-number : (first slot : ℕ) → Fits w64 slot → leb first (18446744073709551615 - slot / 2) ≡ ltb (first + slot / 2) (2 ^ 64)
+row-number first slot f =
+    same-test (leb first (18446744073709551615 - slot / 2)) (ltb (first + slot / 2) (2 ^ 64))
+    (λ e. lt-ltb (first + slot / 2) (2 ^ 64) (omega (arith, f .fits, leb-true first (18446744073709551615 - slot / 2) e)))
+    (λ e. le-leb first (18446744073709551615 - slot / 2) (omega (arith, ltb-true (first + slot / 2) (2 ^ 64) e)))
+
+-- the delta at a place, as the machine reads it back from its bits
+abbrev pub at : List ℤ → ℕ → ℤ
+at ds i = toZ w64 (ofZ w64 (getD ds i (pos 0)))
+
+module _ {t : Bool} (set end event i to : ℕ) (ds : List ℤ) (e : t ≡ all (sound set end event) (slice i to ds)) where
+  pub sound-done : to ≤ i → true ≡ t
+  unfolding all
+  sound-done h = rw (e, slice-none i to ds h)
+
+  module _ {b : Bool} (h : i < to) (k : to ≤ length ds) (s : SFits w64 (getD ds i (pos 0))) (g : b ≡ sound set end event (at ds i)) where
+    here : sound set end event (getD ds i (pos 0)) ≡ b
+    here = sym (rw (toZ-ofZ w64 (getD ds i (pos 0)) s) at g)
+
+    pub sound-stop : not b ≡ true → false ≡ t
+    unfolding all
+    sound-stop f = rw (e, slice-cons i to ds (pos 0), here, not-true b f)
+
+    pub sound-on : not b ≡ false → t ≡ all (sound set end event) (slice (i + 1) to ds)
+    unfolding all
+    sound-on f = rw (e, slice-cons i to ds (pos 0), here, not-false b f, add-one)
+
+-- ── slots ────────────────────────────────────────────────────────────────────────────────────
+
+module _ (first slot : ℕ) (b : Bool) (e : b ≡ ltb (eventOf first slot) end64) where
+  pub no-event : (p : Bool) → not b ≡ true → false ≡ (ltb (eventOf first slot) end64 && p)
+  no-event p h = rw (sym e ∙ not-true b h)
+
+  module _ (h : not b ≡ false) where
+    pub an-event : eventOf first slot < end64
+    an-event = ltb-true _ _ (sym e ∙ not-false b h)
+
+    -- an event's deltas that stand in a column from one place up to another
+    pub deltas-tell : (set end event from to : ℕ) (deltas list : List ℤ) (r : Bool) → list ≡ slice from to deltas → event ≡ eventOf first slot
+        → r ≡ all (sound set end event) (slice from to deltas) → r ≡ (ltb (eventOf first slot) end64 && all (sound set end (eventOf first slot)) list)
+    deltas-tell set end event from to deltas list r l i p = rw (sym e ∙ not-false b h, l, ← i) p
+
+-- what the tests of a slot say of all slots from it on
+module _ {t : Bool} (set first end slot : ℕ) (offsets : List ℕ) (deltas : List ℤ) (e : t ≡ soundFrom set first end slot (drop slot (cut offsets deltas))) where
+  pub slots-done : length offsets ≤ slot + 1 → true ≡ t
+  unfolding soundFrom
+  slots-done h = rw (e, drop-of-length-le (cut offsets deltas) {i = slot} (omega (arith, cut-length offsets deltas)))
+
+  pub slots-last : slot + 1 < length offsets → length offsets ≤ slot + 2 → (r : Bool)
+      → r ≡ (ltb (eventOf first slot) end64 && all (sound set end (eventOf first slot)) (getD (cut offsets deltas) slot [])) → r ≡ t
+  unfolding soundFrom
+  slots-last h k r g =
+      let in-cut : slot < length (cut offsets deltas) = omega (arith, cut-length offsets deltas) in
+      rw (e, drop-cons (cut offsets deltas) slot [] in-cut, drop-of-length-le (cut offsets deltas) {i = suc slot} (omega (arith, cut-length offsets deltas)), and-true) g
+
+-- ── the rules of one set ─────────────────────────────────────────────────────────────────────
+
+module _ (set first rows end count : ℕ) (offsets : List ℕ) (deltas : List ℤ) (b : Bool) (e : b ≡ offsetsForm rows count offsets) where
+  pub bad-form : not b ≡ true → Broken OffsetsForm ≡ ruling (setRules set first rows end (columnsOf count offsets deltas))
+  unfolding setRules firstOf
+  bad-form h = rw (sym e ∙ not-true b h)
+
+  module _ (h : not b ≡ false) where
+    pub no-edges : count ≡ 0 → Kept ≡ ruling (setRules set first rows end (columnsOf count offsets deltas))
+    unfolding setRules firstOf
+    no-edges k = rw (sym e ∙ not-false b h, le-ltb 0 count (omega arith))
+
+    module _ (k : count ≡ 0 → ⊥) where
+      pub bad-count : (length deltas ≡ count → ⊥) → Broken DeltaCount ≡ ruling (setRules set first rows end (columnsOf count offsets deltas))
+      unfolding setRules firstOf
+      bad-count f = rw (sym e ∙ not-false b h, lt-ltb 0 count (omega arith), ne-eqb (length deltas) count f)
+
+      module _ (f : length deltas ≡ count) where
+        pub deltas-climb : fromTo 0 (length deltas) offsets ≡ true
+        deltas-climb = rw f (form-climbs rows count offsets (sym e ∙ not-false b h))
+
+        module _ (r : Bool) (g : r ≡ soundFrom set first end 0 (cut offsets deltas)) where
+          pub bad-side : not r ≡ true → Broken TargetSide ≡ ruling (setRules set first rows end (columnsOf count offsets deltas))
+          unfolding setRules firstOf
+          bad-side q = rw (sym e ∙ not-false b h, lt-ltb 0 count (omega arith), eq-eqb (length deltas) count f, sym g ∙ not-true r q)
+
+          pub all-kept : not r ≡ false → Kept ≡ ruling (setRules set first rows end (columnsOf count offsets deltas))
+          unfolding setRules firstOf
+          all-kept q = rw (sym e ∙ not-false b h, lt-ltb 0 count (omega arith), eq-eqb (length deltas) count f, sym g ∙ not-false r q)
+
+-- ── label columns ────────────────────────────────────────────────────────────────────────────
+
+module _ {t : Bool} (i : ℕ) (l : List ℕ) (e : t ≡ all short32 (drop i l)) where
+  pub short-done : length l ≤ i → true ≡ t
+  unfolding all
+  short-done h = rw (e, drop-of-length-le l {i = i} h)
+
+  pub short-stop : i < length l → 4294967295 < getD l i 0 → false ≡ t
+  unfolding all
+  short-stop h k = rw (e, drop-cons l i 0, le-ltb (getD l i 0) end32 (omega arith))
+
+  pub short-on : i < length l → getD l i 0 ≤ 4294967295 → t ≡ all short32 (drop (i + 1) l)
+  unfolding all
+  short-on h k = rw (e, drop-cons l i 0, lt-ltb (getD l i 0) end32 (omega arith), add-one)
+
+module _ (rows : ℕ) (chains seqs : List ℕ) where
+  pub bad-chains : (length chains ≡ rows → ⊥) → Broken LabelColumns ≡ ruling (labelRules rows (labelColumns chains seqs))
+  unfolding labelRules firstOf
+  bad-chains h = rw (ne-eqb (length chains) rows h)
+
+  module _ (h : length chains ≡ rows) where
+    pub bad-seqs : (length seqs ≡ rows → ⊥) → Broken LabelColumns ≡ ruling (labelRules rows (labelColumns chains seqs))
+    unfolding labelRules firstOf
+    bad-seqs k = rw (eq-eqb (length chains) rows h, ne-eqb (length seqs) rows k)
+
+    module _ (k : length seqs ≡ rows) (b : Bool) (e : b ≡ all short32 chains) where
+      pub long-chain : not b ≡ true → Broken LabelRange ≡ ruling (labelRules rows (labelColumns chains seqs))
+      unfolding labelRules firstOf
+      long-chain f = rw (eq-eqb (length chains) rows h, eq-eqb (length seqs) rows k, sym e ∙ not-true b f)
+
+      module _ (f : not b ≡ false) (c : Bool) (g : c ≡ all short32 seqs) where
+        pub long-seq : not c ≡ true → Broken LabelRange ≡ ruling (labelRules rows (labelColumns chains seqs))
+        unfolding labelRules firstOf
+        long-seq q = rw (eq-eqb (length chains) rows h, eq-eqb (length seqs) rows k, sym e ∙ not-false b f, sym g ∙ not-true c q)
+
+        pub labels-kept : not c ≡ false → Kept ≡ ruling (labelRules rows (labelColumns chains seqs))
+        unfolding labelRules firstOf
+        labels-kept q = rw (eq-eqb (length chains) rows h, eq-eqb (length seqs) rows k, sym e ∙ not-false b f, sym g ∙ not-false c q)

@@ -1,2 +1,0 @@
-pub mod LabelTurns
-pub mod BucketRows
