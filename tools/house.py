@@ -139,7 +139,7 @@ def promises(table):
 def main():
     table = rows("Public functions")
     wrong = doors({path for row in table for path in functions(row[1])}) + promises(table)
-    print("\n".join(f"house: {line}" for line in wrong) or "house: doors, promises and edits are as README says")
+    print("\n".join(f"house: {line}" for line in dict.fromkeys(wrong)) or "house: doors, promises and edits are as README says")
     return 1 if wrong else 0
 
 

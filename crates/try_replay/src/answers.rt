@@ -2,8 +2,8 @@
 use crate::parts::after;
 use crate::parts::list;
 use crate::parts::number;
-use columns::refusal::Counted;
 use columns::refusal;
+use columns::refusal::Counted;
 use columns::refusal::Refusal;
 
 fn long(x: u32) -> u64 {

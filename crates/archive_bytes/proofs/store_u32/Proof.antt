@@ -21,17 +21,5 @@ returns c = search (needs, store4)
 pub store-u32-spec : {M : Type 1} → statement M
 store-u32-spec =
     tie.close
-    (tie.spec
-    (λ c κs. search needs)
-    (λ c. search needs)
-    (λ c κs. search needs)
-    (λ c. search needs)
-    slice-write-out-2
-    (λ c κs. search needs)
-    (λ c. search needs)
-    slice-write-out-3
-    (λ c κs. search needs)
-    (λ c. search needs)
-    slice-write-out-4
-    (λ c. search needs)
-    returns)
+    (tie.spec (λ c κs. search needs) (λ c. search needs) (λ c κs. search needs) (λ c. search needs) slice-write-out-2 (λ c κs. search needs)
+    (λ c. search needs) slice-write-out-3 (λ c κs. search needs) (λ c. search needs) slice-write-out-4 (λ c. search needs) returns)

@@ -12,5 +12,4 @@ returns : tie.Need-returns
 returns c = search many-children
 
 pub are-children-over-spec : {M : Type 1} → statement M
-are-children-over-spec =
-    tie.close (tie.spec (λ c κs. search needs) (λ c κs. search needs) add-result returns)
+are-children-over-spec = tie.close (tie.spec (λ c κs. search needs) (λ c κs. search needs) add-result returns)

@@ -20,11 +20,4 @@ returns-3 c = search sets-refused
 pub asked-rules-spec : {M : Type 1} → statement M
 asked-rules-spec =
     tie.close
-    (tie.spec
-    (λ c κs. search needs)
-    (λ c. search needs)
-    are-children-over-requires
-    returns
-    (λ c. search needs)
-    returns-2
-    returns-3)
+    (tie.spec (λ c κs. search needs) (λ c. search needs) are-children-over-requires returns (λ c. search needs) returns-2 returns-3)

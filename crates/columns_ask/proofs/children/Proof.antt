@@ -20,12 +20,5 @@ returns-2 c = (search children-refused, search children-as-were)
 pub children-spec : {M : Type 1} → statement M
 children-spec =
     tie.close
-    (tie.spec
-    (λ c κs. search needs)
-    asked-rules-requires
-    (λ c. search needs)
-    write-children-requires
-    (λ c. search needs)
-    (λ c. search needs)
-    returns
-    returns-2)
+    (tie.spec (λ c κs. search needs) asked-rules-requires (λ c. search needs) write-children-requires (λ c. search needs)
+    (λ c. search needs) returns returns-2)

@@ -15,12 +15,4 @@ returns-2 : tie.Need-returns-2
 returns-2 c = search label-refused
 
 pub label-spec : {M : Type 1} → statement M
-label-spec =
-    tie.close
-    (tie.spec
-    (λ c κs. search needs)
-    (λ c. search needs)
-    label-at-requires
-    (λ c. search needs)
-    returns
-    returns-2)
+label-spec = tie.close (tie.spec (λ c κs. search needs) (λ c. search needs) label-at-requires (λ c. search needs) returns returns-2)

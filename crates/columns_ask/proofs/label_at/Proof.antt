@@ -22,13 +22,5 @@ returns-3 c = search label-told
 pub label-at-spec : {M : Type 1} → statement M
 label-at-spec =
     tie.close
-    (tie.spec
-    returns
-    returns-2
-    (λ c. search needs)
-    (λ c. search needs)
-    short-requires
-    (λ c. search needs)
-    (λ c. search needs)
-    short-requires-2
-    returns-3)
+    (tie.spec returns returns-2 (λ c. search needs) (λ c. search needs) short-requires (λ c. search needs) (λ c. search needs)
+    short-requires-2 returns-3)

@@ -28,16 +28,5 @@ returns-4 c = search slot-length
 pub list-length-spec : {M : Type 1} → statement M
 list-length-spec =
     tie.close
-    (tie.spec
-    returns
-    returns-2
-    returns-3
-    (λ c. search needs)
-    (λ c. search needs)
-    (λ c. search needs)
-    (λ c. search needs)
-    shared-slice-read-result
-    (λ c. search needs)
-    shared-slice-read-result-2
-    sub-result
-    returns-4)
+    (tie.spec returns returns-2 returns-3 (λ c. search needs) (λ c. search needs) (λ c. search needs) (λ c. search needs)
+    shared-slice-read-result (λ c. search needs) shared-slice-read-result-2 sub-result returns-4)

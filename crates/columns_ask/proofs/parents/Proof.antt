@@ -18,12 +18,5 @@ returns-2 c = (search parents-refused, search parents-as-were)
 pub parents-spec : {M : Type 1} → statement M
 parents-spec =
     tie.close
-    (tie.spec
-    (λ c κs. search needs)
-    (λ c. search needs)
-    (λ c κs. search needs)
-    write-list-requires
-    (λ c. search needs)
-    (λ c. search needs)
-    returns
-    returns-2)
+    (tie.spec (λ c κs. search needs) (λ c. search needs) (λ c κs. search needs) write-list-requires (λ c. search needs) (λ c. search needs)
+    returns returns-2)

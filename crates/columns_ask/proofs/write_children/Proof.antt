@@ -15,5 +15,4 @@ returns : tie.Need-returns
 returns c = (search both-counted, search both-written)
 
 pub write-children-spec : {M : Type 1} → statement M
-write-children-spec =
-    tie.close (tie.spec write-list-requires write-list-requires-2 (λ c. search needs) returns)
+write-children-spec = tie.close (tie.spec write-list-requires write-list-requires-2 (λ c. search needs) returns)

@@ -25,12 +25,4 @@ returns-2 c = (search list-ends, search list-put)
 pub write-list-spec : {M : Type 1} → statement M
 write-list-spec =
     tie.close
-    (tie.spec
-    (λ c κs. search needs)
-    returns
-    sub-slot
-    mul-slot
-    add-slot
-    write-slot-requires
-    (λ c. search needs)
-    returns-2)
+    (tie.spec (λ c κs. search needs) returns sub-slot mul-slot add-slot write-slot-requires (λ c. search needs) returns-2)

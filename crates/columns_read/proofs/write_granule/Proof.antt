@@ -23,11 +23,5 @@ returns c =
 pub write-granule-spec : {M : Type 1} → statement M
 write-granule-spec =
     tie.close
-    (tie.spec
-    write-csr-requires
-    write-csr-requires-2
-    write-csr-requires-3
-    (λ c. search needs)
-    (λ c. search needs)
-    (λ c. search needs)
+    (tie.spec write-csr-requires write-csr-requires-2 write-csr-requires-3 (λ c. search needs) (λ c. search needs) (λ c. search needs)
     returns)

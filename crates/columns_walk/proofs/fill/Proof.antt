@@ -21,16 +21,5 @@ returns c = search ran-levels
 pub fill-spec : {M : Type 1} → statement M
 fill-spec =
     tie.close
-    (tie.spec
-    (λ c. search needs)
-    (λ c. search needs)
-    (λ c. search needs)
-    add-requires
-    (λ c. search needs)
-    (λ c. search needs)
-    (λ c. search needs)
-    (λ c. search needs)
-    run-requires
-    (λ c. search needs)
-    (λ c. search needs)
-    returns)
+    (tie.spec (λ c. search needs) (λ c. search needs) (λ c. search needs) add-requires (λ c. search needs) (λ c. search needs)
+    (λ c. search needs) (λ c. search needs) run-requires (λ c. search needs) (λ c. search needs) returns)

@@ -18,12 +18,5 @@ returns c = (search ranges-count, search ranges-put)
 pub write-ranges-spec : {M : Type 1} → statement M
 write-ranges-spec =
     tie.close
-    (tie.spec
-    (λ c κs. search needs)
-    slice-aggregate-ranges-of
-    slice-aggregate-ranges-of-2
-    ranges-of-requires
-    (λ c. search needs)
-    (λ c. search needs)
-    (λ c. search needs)
-    returns)
+    (tie.spec (λ c κs. search needs) slice-aggregate-ranges-of slice-aggregate-ranges-of-2 ranges-of-requires (λ c. search needs)
+    (λ c. search needs) (λ c. search needs) returns)

@@ -27,18 +27,5 @@ returns-5 c = (read-all-told _ _ _ (c .before .before .before .before .before .b
 pub read-spec : {M : Type 1} → statement M
 read-spec =
     tie.close
-    (tie.spec
-    (λ c κs. search needs)
-    returns
-    (λ c κs. search needs)
-    returns-2
-    (λ c κs. search needs)
-    returns-3
-    links-fit-requires
-    returns-4
-    write-links-requires
-    (λ c. search needs)
-    (λ c. search needs)
-    (λ c. search needs)
-    (λ c. search needs)
-    returns-5)
+    (tie.spec (λ c κs. search needs) returns (λ c κs. search needs) returns-2 (λ c κs. search needs) returns-3 links-fit-requires returns-4
+    write-links-requires (λ c. search needs) (λ c. search needs) (λ c. search needs) (λ c. search needs) returns-5)

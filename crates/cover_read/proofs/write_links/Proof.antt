@@ -21,13 +21,5 @@ returns c = search ok-written
 pub write-links-spec : {M : Type 1} → statement M
 write-links-spec =
     tie.close
-    (tie.spec
-    write-sums-requires
-    copy-column-requires
-    copy-column-requires-2
-    copy-column-requires-3
-    (λ c. search needs)
-    (λ c. search needs)
-    (λ c. search needs)
-    (λ c. search needs)
-    returns)
+    (tie.spec write-sums-requires copy-column-requires copy-column-requires-2 copy-column-requires-3 (λ c. search needs) (λ c. search needs)
+    (λ c. search needs) (λ c. search needs) returns)

@@ -25,5 +25,4 @@ returns-7 : tie.Need-returns-7
 returns-7 c = search to-level
 
 pub is-less-spec : {M : Type 1} → statement M
-is-less-spec =
-    tie.close (tie.spec returns returns-2 returns-3 returns-4 returns-5 returns-6 returns-7)
+is-less-spec = tie.close (tie.spec returns returns-2 returns-3 returns-4 returns-5 returns-6 returns-7)

@@ -30,15 +30,5 @@ returns-5 c = search then-rise
 pub links-fit-spec : {M : Type 1} → statement M
 links-fit-spec =
     tie.close
-    (tie.spec
-    returns
-    returns-2
-    returns-3
-    (λ c κs. search needs)
-    returns-4
-    (λ c. search needs)
-    write-sums-requires
-    (λ c. search needs)
-    slice-aggregate-links-rise
-    links-rise-requires
-    returns-5)
+    (tie.spec returns returns-2 returns-3 (λ c κs. search needs) returns-4 (λ c. search needs) write-sums-requires (λ c. search needs)
+    slice-aggregate-links-rise links-rise-requires returns-5)

@@ -13,10 +13,4 @@ returns-2 c = search (needs, told-by)
 pub ridgeoven-words-spec : {M : Type 1} → statement M
 ridgeoven-words-spec =
     tie.close
-    (tie.spec
-    (λ c κs. search needs)
-    returns
-    (λ c κs. search needs)
-    (λ c κs. search needs)
-    (λ c. search needs)
-    returns-2)
+    (tie.spec (λ c κs. search needs) returns (λ c κs. search needs) (λ c κs. search needs) (λ c. search needs) returns-2)

@@ -21,11 +21,4 @@ returns-3 c = search (told-refused (λ a. toldOf (numbered a)) (λ n. record { r
 pub renumbered-of-spec : {M : Type 1} → statement M
 renumbered-of-spec =
     tie.close
-    (tie.spec
-    (λ c. search needs)
-    (λ c. search needs)
-    (λ c. search needs)
-    (λ c κs. search needs)
-    returns
-    returns-2
-    returns-3)
+    (tie.spec (λ c. search needs) (λ c. search needs) (λ c. search needs) (λ c κs. search needs) returns returns-2 returns-3)

@@ -17,10 +17,4 @@ returns-2 c = search (told-arm (λ a. countOf (countedAs a)))
 pub reparented-of-spec : {M : Type 1} → statement M
 reparented-of-spec =
     tie.close
-    (tie.spec
-    (λ c. search needs)
-    (λ c κs. search needs)
-    (λ c. search needs)
-    (λ c κs. search needs)
-    returns
-    returns-2)
+    (tie.spec (λ c. search needs) (λ c κs. search needs) (λ c. search needs) (λ c κs. search needs) returns returns-2)

@@ -15,5 +15,4 @@ unfolding refusalOf
 returns-2 c = search (told-arm (λ a. refusalOf (replied a)))
 
 pub reply-number-spec : {M : Type 1} → statement M
-reply-number-spec =
-    tie.close (tie.spec (λ c. search needs) (λ c. search needs) (λ c κs. search needs) returns returns-2)
+reply-number-spec = tie.close (tie.spec (λ c. search needs) (λ c. search needs) (λ c κs. search needs) returns returns-2)

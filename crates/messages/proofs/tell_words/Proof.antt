@@ -10,10 +10,5 @@ slice-aggregate-write-all c = search (needs, prefix)
 pub tell-words-spec : {M : Type 1} → statement M
 tell-words-spec =
     tie.close
-    (tie.spec
-    (λ c. search needs)
-    (λ c κs. search needs)
-    (λ c. search needs)
-    slice-aggregate-write-all
-    (λ c κs. search needs)
+    (tie.spec (λ c. search needs) (λ c κs. search needs) (λ c. search needs) slice-aggregate-write-all (λ c κs. search needs)
     (λ c. search needs))

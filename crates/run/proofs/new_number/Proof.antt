@@ -20,13 +20,5 @@ returns-3 c = search (needs, resolved-is, map-nothing)
 pub new-number-spec : {M : Type 1} → statement M
 new-number-spec =
     tie.close
-    (tie.spec
-    (λ c κs. search needs)
-    (λ c κs. search needs)
-    (λ c κs. search needs)
-    returns
-    new-number-requires
-    (λ c. search needs)
-    (λ c. search needs)
-    returns-2
-    returns-3)
+    (tie.spec (λ c κs. search needs) (λ c κs. search needs) (λ c κs. search needs) returns new-number-requires (λ c. search needs)
+    (λ c. search needs) returns-2 returns-3)

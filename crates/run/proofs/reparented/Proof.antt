@@ -17,10 +17,4 @@ returns-2 c = search (needs, resolved-is, count-now)
 pub reparented-spec : {M : Type 1} → statement M
 reparented-spec =
     tie.close
-    (tie.spec
-    (λ c κs. search needs)
-    (λ c κs. search needs)
-    (λ c κs. search needs)
-    returns
-    reparented-requires
-    returns-2)
+    (tie.spec (λ c κs. search needs) (λ c κs. search needs) (λ c κs. search needs) returns reparented-requires returns-2)

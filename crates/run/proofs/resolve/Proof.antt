@@ -20,12 +20,5 @@ returns-3 c = search (needs, taking-is, resolve-done)
 pub resolve-spec : {M : Type 1} → statement M
 resolve-spec =
     tie.close
-    (tie.spec
-    (λ c κs. search needs)
-    (λ c κs. search needs)
-    returns
-    resolve-requires
-    (λ c. search needs)
-    (λ c. search needs)
-    returns-2
+    (tie.spec (λ c κs. search needs) (λ c κs. search needs) returns resolve-requires (λ c. search needs) (λ c. search needs) returns-2
     returns-3)

@@ -20,12 +20,5 @@ returns-3 c = search (needs, taking-is, take-done)
 pub take-spec : {M : Type 1} → statement M
 take-spec =
     tie.close
-    (tie.spec
-    (λ c κs. search needs)
-    (λ c κs. search needs)
-    returns
-    take-requires
-    (λ c. search needs)
-    (λ c. search needs)
-    returns-2
+    (tie.spec (λ c κs. search needs) (λ c κs. search needs) returns take-requires (λ c. search needs) (λ c. search needs) returns-2
     returns-3)

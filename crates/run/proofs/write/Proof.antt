@@ -17,11 +17,5 @@ returns-2 c = search (needs, resolved-is, write-now)
 pub write-spec : {M : Type 1} → statement M
 write-spec =
     tie.close
-    (tie.spec
-    (λ c κs. search needs)
-    (λ c κs. search needs)
-    (λ c κs. search needs)
-    returns
-    write-sheet-requires
-    (λ c. search needs)
+    (tie.spec (λ c κs. search needs) (λ c κs. search needs) (λ c κs. search needs) returns write-sheet-requires (λ c. search needs)
     returns-2)

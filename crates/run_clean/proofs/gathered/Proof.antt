@@ -143,30 +143,8 @@ returns-4 c =
 pub gathered-spec : {M : Type 1} → statement M
 gathered-spec =
     tie.close
-    (tie.spec
-    (λ c κs. search needs)
-    (λ c κs. search needs)
-    (λ c κs. search needs)
-    returns
-    fill-rows-requires
-    slice-aggregate-fill-lists
-    fill-lists-requires
-    (λ c. search needs)
-    (λ c. search needs)
-    (λ c κs. search needs)
-    returns-2
-    array-share-prefix-flags
-    slice-aggregate-fill-unresolved
-    fill-unresolved-requires
-    array-share-prefix-flags-2
-    slice-aggregate-fill-roots
-    fill-roots-requires
-    fill-links-requires
-    array-share-prefix-flags-3
-    slice-aggregate-keep-rows
-    keep-rows-requires
-    (λ c κs. search needs)
-    is-filled-requires
-    (λ c κs. search needs)
-    returns-3
-    returns-4)
+    (tie.spec (λ c κs. search needs) (λ c κs. search needs) (λ c κs. search needs) returns fill-rows-requires slice-aggregate-fill-lists
+    fill-lists-requires (λ c. search needs) (λ c. search needs) (λ c κs. search needs) returns-2 array-share-prefix-flags
+    slice-aggregate-fill-unresolved fill-unresolved-requires array-share-prefix-flags-2 slice-aggregate-fill-roots fill-roots-requires
+    fill-links-requires array-share-prefix-flags-3 slice-aggregate-keep-rows keep-rows-requires (λ c κs. search needs) is-filled-requires
+    (λ c κs. search needs) returns-3 returns-4)

@@ -35,11 +35,4 @@ returns-2 c =
 pub put-bare-spec : {M : Type 1} → statement M
 put-bare-spec =
     tie.close
-    (tie.spec
-    (λ c κs. search needs)
-    (λ c κs. search needs)
-    (λ c. search needs)
-    returns
-    put-five-requires
-    (λ c. search needs)
-    returns-2)
+    (tie.spec (λ c κs. search needs) (λ c κs. search needs) (λ c. search needs) returns put-five-requires (λ c. search needs) returns-2)

@@ -53,13 +53,5 @@ returns-2 c =
 pub put-covered-spec : {M : Type 1} → statement M
 put-covered-spec =
     tie.close
-    (tie.spec
-    (λ c κs. search needs)
-    (λ c κs. search needs)
-    (λ c κs. search needs)
-    (λ c. search needs)
-    returns
-    put-five-requires
-    put-cover-requires
-    same-length
-    returns-2)
+    (tie.spec (λ c κs. search needs) (λ c κs. search needs) (λ c κs. search needs) (λ c. search needs) returns put-five-requires
+    put-cover-requires same-length returns-2)

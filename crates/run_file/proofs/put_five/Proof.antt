@@ -93,11 +93,5 @@ returns c =
 pub put-five-spec : {M : Type 1} → statement M
 put-five-spec =
     tie.close
-    (tie.spec
-    (λ c κs. search needs)
-    (λ c κs. search needs)
-    put-rows-requires
-    put-unresolved-requires
-    put-roots-requires
-    (λ c. search needs)
+    (tie.spec (λ c κs. search needs) (λ c κs. search needs) put-rows-requires put-unresolved-requires put-roots-requires (λ c. search needs)
     returns)

@@ -25,17 +25,5 @@ returns-3 c = search list-all
 pub list-spec : {M : Type 1} → statement M
 list-spec =
     tie.close
-    (tie.spec
-    (λ c κs. search needs)
-    (λ c κs. search needs)
-    (λ c κs. search needs)
-    (λ c. search needs)
-    (λ c. search needs)
-    mul-if1
-    (λ c. search needs)
-    add-if1-2
-    returns
-    put-listing-requires
-    returns-2
-    (λ c. search needs)
-    returns-3)
+    (tie.spec (λ c κs. search needs) (λ c κs. search needs) (λ c κs. search needs) (λ c. search needs) (λ c. search needs) mul-if1
+    (λ c. search needs) add-if1-2 returns put-listing-requires returns-2 (λ c. search needs) returns-3)

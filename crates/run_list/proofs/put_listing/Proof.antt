@@ -19,11 +19,5 @@ returns c = search text-written
 pub put-listing-spec : {M : Type 1} → statement M
 put-listing-spec =
     tie.close
-    (tie.spec
-    (λ c κs. search needs)
-    put-held-requires
-    put-files-requires
-    (λ c κs. search needs)
-    put-reparented-requires
-    (λ c. search needs)
+    (tie.spec (λ c κs. search needs) put-held-requires put-files-requires (λ c κs. search needs) put-reparented-requires (λ c. search needs)
     returns)

@@ -261,23 +261,6 @@ returns-2 c =
 pub put-built-spec : {M : Type 1} → statement M
 put-built-spec =
     tie.close
-    (tie.spec
-    (λ c κs. search needs)
-    sub-n
-    sub-m
-    add-part-head
-    part-head-requires
-    place-of-requires
-    place-of-requires-2
-    sub-k
-    less64-requires
-    element-copy-out-if1
-    slice-aggregate-put-bare
-    put-bare-requires
-    (λ c. search needs)
-    returns
-    cover-of-requires
-    slice-aggregate-put-covered
-    put-covered-requires
-    (λ c. search needs)
-    returns-2)
+    (tie.spec (λ c κs. search needs) sub-n sub-m add-part-head part-head-requires place-of-requires place-of-requires-2 sub-k
+    less64-requires element-copy-out-if1 slice-aggregate-put-bare put-bare-requires (λ c. search needs) returns cover-of-requires
+    slice-aggregate-put-covered put-covered-requires (λ c. search needs) returns-2)

@@ -172,32 +172,8 @@ returns-2 c =
 pub put-group-spec : {M : Type 1} → statement M
 put-group-spec =
     tie.close
-    (tie.spec
-    byte-place-of-requires
-    add-byte-place-of
-    byte-place-of-requires-2
-    add-place-of
-    place-of-requires
-    add-place-of-2
-    place-of-requires-2
-    sub-lent-sets
-    sub-lent-sets-2
-    lent-sets-requires
-    (λ c. search needs)
-    (λ c. search needs)
-    put-built-requires
-    (λ c. search needs)
-    (λ c. search needs)
-    (λ c. search needs)
-    (λ c. search needs)
-    (λ c. search needs)
-    (λ c. search needs)
-    returns
-    (λ c. search needs)
-    (λ c. search needs)
-    (λ c. search needs)
-    (λ c. search needs)
-    (λ c. search needs)
-    (λ c. search needs)
-    (λ c. search needs)
-    returns-2)
+    (tie.spec byte-place-of-requires add-byte-place-of byte-place-of-requires-2 add-place-of place-of-requires add-place-of-2
+    place-of-requires-2 sub-lent-sets sub-lent-sets-2 lent-sets-requires (λ c. search needs) (λ c. search needs) put-built-requires
+    (λ c. search needs) (λ c. search needs) (λ c. search needs) (λ c. search needs) (λ c. search needs) (λ c. search needs) returns
+    (λ c. search needs) (λ c. search needs) (λ c. search needs) (λ c. search needs) (λ c. search needs) (λ c. search needs)
+    (λ c. search needs) returns-2)

@@ -27,19 +27,6 @@ returns-4 c = search (needs, then-resolved)
 pub listing-spec : {M : Type 1} → statement M
 listing-spec =
     tie.close
-    (tie.spec
-    returns
-    (λ c κs. search needs)
-    (λ c. search needs)
-    returns-2
-    (λ c κs. search needs)
-    (λ c κs. search needs)
-    take-requires
-    (λ c. search needs)
-    (λ c κs. search needs)
-    (λ c. search needs)
-    list-held-requires
-    (λ c. search needs)
-    returns-3
-    (λ c. search needs)
+    (tie.spec returns (λ c κs. search needs) (λ c. search needs) returns-2 (λ c κs. search needs) (λ c κs. search needs) take-requires
+    (λ c. search needs) (λ c κs. search needs) (λ c. search needs) list-held-requires (λ c. search needs) returns-3 (λ c. search needs)
     returns-4)

@@ -36,13 +36,5 @@ returns c = search count-ends
 pub count-reparented-spec : {M : Type 1} → statement M
 count-reparented-spec =
     tie.close
-    (tie.spec
-    Inv-loop
-    μ-loop
-    loop-holds
-    is-reparented-requires
-    (λ c. search needs)
-    (λ c. search needs)
-    (λ c. search needs)
-    loop-again
+    (tie.spec Inv-loop μ-loop loop-holds is-reparented-requires (λ c. search needs) (λ c. search needs) (λ c. search needs) loop-again
     returns)

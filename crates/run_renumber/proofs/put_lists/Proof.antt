@@ -20,10 +20,4 @@ returns c = search lists-named
 pub put-lists-spec : {M : Type 1} → statement M
 put-lists-spec =
     tie.close
-    (tie.spec
-    (λ c. search needs)
-    slice-aggregate-add-slots
-    add-slots-requires
-    same-length
-    (λ c. search needs)
-    returns)
+    (tie.spec (λ c. search needs) slice-aggregate-add-slots add-slots-requires same-length (λ c. search needs) returns)

@@ -12,5 +12,4 @@ returns : tie.Need-returns
 returns c = search lists-renewed
 
 pub new-lists-spec : {M : Type 1} → statement M
-new-lists-spec =
-    tie.close (tie.spec (λ c κs. search needs) (λ c. search needs) new-edges-requires returns)
+new-lists-spec = tie.close (tie.spec (λ c κs. search needs) (λ c. search needs) new-edges-requires returns)

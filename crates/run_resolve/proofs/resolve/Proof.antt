@@ -25,14 +25,5 @@ returns-4 c = search all-kept
 pub resolve-spec : {M : Type 1} → statement M
 resolve-spec =
     tie.close
-    (tie.spec
-    (λ c κs. search needs)
-    returns
-    (λ c κs. search needs)
-    (λ c κs. search needs)
-    returns-2
-    survivors-requires
-    is-filled-requires
-    (λ c κs. search needs)
-    returns-3
-    returns-4)
+    (tie.spec (λ c κs. search needs) returns (λ c κs. search needs) (λ c κs. search needs) returns-2 survivors-requires is-filled-requires
+    (λ c κs. search needs) returns-3 returns-4)

@@ -19,10 +19,4 @@ returns c = search survivors-in
 pub survivors-spec : {M : Type 1} → statement M
 survivors-spec =
     tie.close
-    (tie.spec
-    (λ c κs. search needs)
-    array-share-prefix-f
-    slice-aggregate-kept-sheet
-    kept-sheet-requires
-    (λ c κs. search needs)
-    returns)
+    (tie.spec (λ c κs. search needs) array-share-prefix-f slice-aggregate-kept-sheet kept-sheet-requires (λ c κs. search needs) returns)

@@ -44,14 +44,5 @@ returns c =
 pub lent-sets-spec : {M : Type 1} → statement M
 lent-sets-spec =
     tie.close
-    (tie.spec
-    depth-at-requires
-    is-covered-requires
-    build-rows-requires
-    (λ c. search needs)
-    (λ c. search needs)
-    (λ c. search needs)
-    (λ c. search needs)
-    (λ c. search needs)
-    (λ c. search needs)
-    returns)
+    (tie.spec depth-at-requires is-covered-requires build-rows-requires (λ c. search needs) (λ c. search needs) (λ c. search needs)
+    (λ c. search needs) (λ c. search needs) (λ c. search needs) returns)

@@ -39,15 +39,5 @@ returns c =
 pub store-spec : {M : Type 1} → statement M
 store-spec =
     tie.close
-    (tie.spec
-    (λ c κs. search needs)
-    store-names-requires
-    store-rows-requires
-    store-set-requires
-    store-unresolved-requires
-    store-roots-requires
-    store-links-requires
-    store-flags-requires
-    store-set-requires-2
-    store-set-requires-3
-    returns)
+    (tie.spec (λ c κs. search needs) store-names-requires store-rows-requires store-set-requires store-unresolved-requires
+    store-roots-requires store-links-requires store-flags-requires store-set-requires-2 store-set-requires-3 returns)

@@ -14,6 +14,4 @@ returns-2 : tie.Need-returns-2
 returns-2 c = search then-files
 
 pub hold-rules-spec : {M : Type 1} → statement M
-hold-rules-spec =
-    tie.close
-    (tie.spec (λ c κs. search needs) (λ c. search needs) (λ c. search needs) known-rules-requires returns returns-2)
+hold-rules-spec = tie.close (tie.spec (λ c κs. search needs) (λ c. search needs) (λ c. search needs) known-rules-requires returns returns-2)

@@ -19,9 +19,4 @@ returns c = search looked-back
 pub known-rules-spec : {M : Type 1} → statement M
 known-rules-spec =
     tie.close
-    (tie.spec
-    (λ c κs. search needs)
-    array-share-prefix-name
-    slice-aggregate-files-rules
-    files-rules-requires
-    returns)
+    (tie.spec (λ c κs. search needs) array-share-prefix-name slice-aggregate-files-rules files-rules-requires returns)

@@ -11,5 +11,4 @@ returns : tie.Need-returns
 returns c = search limits-known
 
 pub limits-spec : {M : Type 1} → statement M
-limits-spec =
-    tie.close (tie.spec (λ c κs. search needs) groups-over-requires (λ c κs. search needs) returns)
+limits-spec = tie.close (tie.spec (λ c κs. search needs) groups-over-requires (λ c κs. search needs) returns)

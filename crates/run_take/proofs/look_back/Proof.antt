@@ -17,5 +17,4 @@ returns-2 : tie.Need-returns-2
 returns-2 c = search last-group
 
 pub look-back-spec : {M : Type 1} → statement M
-look-back-spec =
-    tie.close (tie.spec (λ c κs. search needs) returns (λ c. search needs) add-t10 array-read-t13 returns-2)
+look-back-spec = tie.close (tie.spec (λ c κs. search needs) returns (λ c. search needs) add-t10 array-read-t13 returns-2)

@@ -129,40 +129,9 @@ returns-2 c =
 pub put-groups-spec : {M : Type 1} → statement M
 put-groups-spec =
     tie.close
-    (tie.spec
-    Inv-loop
-    μ-loop
-    (λ c κs. search needs)
-    wide-kinds-requires
-    loop-holds
-    (λ c. search needs)
-    (λ c. search needs)
-    (λ c. search needs)
-    (λ c. search needs)
-    (λ c. search needs)
-    (λ c. search needs)
-    (λ c. search needs)
-    (λ c. search needs)
-    (λ c. search needs)
-    (λ c. search needs)
-    (λ c. search needs)
-    (λ c. search needs)
-    (λ c. search needs)
-    (λ c. search needs)
-    (λ c. search needs)
-    (λ c. search needs)
-    (λ c. search needs)
-    (λ c. search needs)
-    (λ c. search needs)
-    (λ c. search needs)
-    put-group-requires
-    (λ c. search needs)
-    same-length
-    returns
-    (λ c. search needs)
-    add-total
-    add-g
-    loop-less
-    loop-again
-    (λ c. search needs)
+    (tie.spec Inv-loop μ-loop (λ c κs. search needs) wide-kinds-requires loop-holds (λ c. search needs) (λ c. search needs)
+    (λ c. search needs) (λ c. search needs) (λ c. search needs) (λ c. search needs) (λ c. search needs) (λ c. search needs)
+    (λ c. search needs) (λ c. search needs) (λ c. search needs) (λ c. search needs) (λ c. search needs) (λ c. search needs)
+    (λ c. search needs) (λ c. search needs) (λ c. search needs) (λ c. search needs) (λ c. search needs) (λ c. search needs)
+    put-group-requires (λ c. search needs) same-length returns (λ c. search needs) add-total add-g loop-less loop-again (λ c. search needs)
     returns-2)

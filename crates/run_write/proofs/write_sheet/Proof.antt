@@ -30,19 +30,6 @@ returns-4 c = search (needs, wrote-again)
 pub write-sheet-spec : {M : Type 1} → statement M
 write-sheet-spec =
     tie.close
-    (tie.spec
-    (λ c κs. search needs)
-    (λ c. search needs)
-    (λ c κs. search needs)
-    (λ c. search needs)
-    (λ c. search needs)
-    returns
-    (λ c. search needs)
-    slice-aggregate-store-bytes
-    store-bytes-requires
-    (λ c. search needs)
-    returns-2
-    (λ c κs. search needs)
-    returns-3
-    (λ c. search needs)
-    returns-4)
+    (tie.spec (λ c κs. search needs) (λ c. search needs) (λ c κs. search needs) (λ c. search needs) (λ c. search needs) returns
+    (λ c. search needs) slice-aggregate-store-bytes store-bytes-requires (λ c. search needs) returns-2 (λ c κs. search needs) returns-3
+    (λ c. search needs) returns-4)

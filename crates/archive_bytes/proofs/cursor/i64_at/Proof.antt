@@ -15,5 +15,4 @@ returns-3 : tie.Need-returns-3
 returns-3 c = long-delta _ _ (omega arith) (c .before .load-u64 .ensures) (c .signed .ensures) (search needs)
 
 pub i64-at-spec : {M : Type 1} → statement M
-i64-at-spec =
-    tie.close (tie.spec returns (λ c. search needs) returns-2 (λ c κs. search needs) (λ c κs. search needs) returns-3)
+i64-at-spec = tie.close (tie.spec returns (λ c. search needs) returns-2 (λ c κs. search needs) (λ c κs. search needs) returns-3)

@@ -18,5 +18,4 @@ returns-3 : tie.Need-returns-3
 returns-3 c = (search (needs, are-there), c .before .fill-i64s .ensures)
 
 pub load-i64s-spec : {M : Type 1} → statement M
-load-i64s-spec =
-    tie.close (tie.spec returns (λ c κs. search needs) returns-2 fill-i64s-requires (λ c. search needs) returns-3)
+load-i64s-spec = tie.close (tie.spec returns (λ c κs. search needs) returns-2 fill-i64s-requires (λ c. search needs) returns-3)

@@ -18,5 +18,4 @@ returns-3 : tie.Need-returns-3
 returns-3 c = (search (needs, are-there), c .before .before .fill-u32s .ensures)
 
 pub load-u32s-spec : {M : Type 1} → statement M
-load-u32s-spec =
-    tie.close (tie.spec returns (λ c κs. search needs) returns-2 fill-u32s-requires (λ c. search needs) returns-3)
+load-u32s-spec = tie.close (tie.spec returns (λ c κs. search needs) returns-2 fill-u32s-requires (λ c. search needs) returns-3)

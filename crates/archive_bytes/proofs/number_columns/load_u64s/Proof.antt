@@ -18,5 +18,4 @@ returns-3 : tie.Need-returns-3
 returns-3 c = (search (needs, are-there), c .before .before .fill-u64s .ensures)
 
 pub load-u64s-spec : {M : Type 1} → statement M
-load-u64s-spec =
-    tie.close (tie.spec returns (λ c κs. search needs) returns-2 fill-u64s-requires (λ c. search needs) returns-3)
+load-u64s-spec = tie.close (tie.spec returns (λ c κs. search needs) returns-2 fill-u64s-requires (λ c. search needs) returns-3)

@@ -32,14 +32,5 @@ returns-2 c = search (needs, level-done)
 pub children-ok-spec : {M : Type 1} → statement M
 children-ok-spec =
     tie.close
-    (tie.spec
-    Inv-loop
-    μ-loop
-    loop-holds
-    (λ c κs. search needs)
-    returns
-    (λ c. search needs)
-    (λ c. search needs)
-    (λ c. search needs)
-    loop-again
-    returns-2)
+    (tie.spec Inv-loop μ-loop loop-holds (λ c κs. search needs) returns (λ c. search needs) (λ c. search needs) (λ c. search needs)
+    loop-again returns-2)

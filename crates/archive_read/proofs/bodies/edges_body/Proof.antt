@@ -28,18 +28,5 @@ returns-5 c = (search all3, (search set-inside, search set-inside, search set-in
 pub edges-body-spec : {M : Type 1} → statement M
 edges-body-spec =
     tie.close
-    (tie.spec
-    (λ c κs. search needs)
-    (λ c. search needs)
-    (λ c. search needs)
-    returns
-    set-at-requires-2
-    (λ c. search needs)
-    (λ c. search needs)
-    returns-2
-    set-at-requires-3
-    (λ c. search needs)
-    (λ c. search needs)
-    returns-3
-    returns-4
-    returns-5)
+    (tie.spec (λ c κs. search needs) (λ c. search needs) (λ c. search needs) returns set-at-requires-2 (λ c. search needs)
+    (λ c. search needs) returns-2 set-at-requires-3 (λ c. search needs) (λ c. search needs) returns-3 returns-4 returns-5)

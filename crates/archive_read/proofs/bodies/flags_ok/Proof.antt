@@ -32,14 +32,5 @@ returns-2 c = search (needs, flags-done)
 pub flags-ok-spec : {M : Type 1} → statement M
 flags-ok-spec =
     tie.close
-    (tie.spec
-    Inv-loop
-    μ-loop
-    loop-holds
-    (λ c. search needs)
-    returns
-    (λ c. search needs)
-    (λ c. search needs)
-    (λ c. search needs)
-    loop-again
+    (tie.spec Inv-loop μ-loop loop-holds (λ c. search needs) returns (λ c. search needs) (λ c. search needs) (λ c. search needs) loop-again
     returns-2)

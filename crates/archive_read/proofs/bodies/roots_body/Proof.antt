@@ -19,13 +19,5 @@ returns-4 c = (search (needs, are-roots), search needs)
 pub roots-body-spec : {M : Type 1} → statement M
 roots-body-spec =
     tie.close
-    (tie.spec
-    returns
-    (λ c κs. search needs)
-    (λ c κs. search needs)
-    (λ c. search needs)
-    (λ c. search needs)
-    returns-2
-    (λ c κs. search needs)
-    returns-3
-    returns-4)
+    (tie.spec returns (λ c κs. search needs) (λ c κs. search needs) (λ c. search needs) (λ c. search needs) returns-2 (λ c κs. search needs)
+    returns-3 returns-4)

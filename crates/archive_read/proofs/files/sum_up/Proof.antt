@@ -42,15 +42,5 @@ returns-2 c = search sums-done
 pub sum-up-spec : {M : Type 1} → statement M
 sum-up-spec =
     tie.close
-    (tie.spec
-    Inv-loop
-    μ-loop
-    loop-holds
-    (λ c κs. search needs)
-    (λ c. search needs)
-    (λ c. search needs)
-    returns
-    with-file-requires
-    loop-less
-    loop-again
-    returns-2)
+    (tie.spec Inv-loop μ-loop loop-holds (λ c κs. search needs) (λ c. search needs) (λ c. search needs) returns with-file-requires loop-less
+    loop-again returns-2)

@@ -36,15 +36,5 @@ returns c = search needs
 pub with-file-spec : {M : Type 1} → statement M
 with-file-spec =
     tie.close
-    (tie.spec
-    (λ c. search needs)
-    (λ c. search needs)
-    (λ c. search needs)
-    (λ c. search needs)
-    add-t14
-    add-t15
-    add-t16
-    add-t17
-    add-t18
-    add-t19
-    returns)
+    (tie.spec (λ c. search needs) (λ c. search needs) (λ c. search needs) (λ c. search needs) add-t14 add-t15 add-t16 add-t17 add-t18
+    add-t19 returns)

@@ -30,23 +30,6 @@ returns-7 c = let i = c .before .before .before .before .before .before in
 pub find-body-spec : {M : Type 1} → statement M
 find-body-spec =
     tie.close
-    (tie.spec
-    returns
-    (λ c. search needs)
-    returns-2
-    (λ c κs. search needs)
-    (λ c κs. search needs)
-    returns-3
-    (λ c. search needs)
-    (λ c. search needs)
-    returns-4
-    (λ c. search needs)
-    (λ c. search needs)
-    returns-5
-    (λ c. search needs)
-    (λ c. search needs)
-    returns-6
-    (λ c. search needs)
-    (λ c. search needs)
-    (λ c. search needs)
-    returns-7)
+    (tie.spec returns (λ c. search needs) returns-2 (λ c κs. search needs) (λ c κs. search needs) returns-3 (λ c. search needs)
+    (λ c. search needs) returns-4 (λ c. search needs) (λ c. search needs) returns-5 (λ c. search needs) (λ c. search needs) returns-6
+    (λ c. search needs) (λ c. search needs) (λ c. search needs) returns-7)

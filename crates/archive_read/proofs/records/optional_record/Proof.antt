@@ -22,16 +22,5 @@ returns-4 c = (search has-cover, search cover-after)
 pub optional-record-spec : {M : Type 1} → statement M
 optional-record-spec =
     tie.close
-    (tie.spec
-    (λ c κs. search needs)
-    returns
-    (λ c κs. search needs)
-    (λ c. search needs)
-    (λ c. search needs)
-    returns-2
-    bytes-of-requires
-    (λ c κs. search needs)
-    (λ c. search needs)
-    (λ c. search needs)
-    returns-3
-    returns-4)
+    (tie.spec (λ c κs. search needs) returns (λ c κs. search needs) (λ c. search needs) (λ c. search needs) returns-2 bytes-of-requires
+    (λ c κs. search needs) (λ c. search needs) (λ c. search needs) returns-3 returns-4)

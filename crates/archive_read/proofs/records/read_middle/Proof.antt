@@ -28,21 +28,6 @@ returns-5 c = (search is-middle, search middle-after)
 pub read-middle-spec : {M : Type 1} → statement M
 read-middle-spec =
     tie.close
-    (tie.spec
-    (λ c κs. search needs)
-    (λ c. search needs)
-    (λ c. search needs)
-    returns
-    bytes-of-requires
-    (λ c κs. search needs)
-    returns-2
-    (λ c κs. search needs)
-    (λ c. search needs)
-    (λ c. search needs)
-    returns-3
-    bytes-of-requires-2
-    (λ c κs. search needs)
-    (λ c. search needs)
-    (λ c. search needs)
-    returns-4
-    returns-5)
+    (tie.spec (λ c κs. search needs) (λ c. search needs) (λ c. search needs) returns bytes-of-requires (λ c κs. search needs) returns-2
+    (λ c κs. search needs) (λ c. search needs) (λ c. search needs) returns-3 bytes-of-requires-2 (λ c κs. search needs) (λ c. search needs)
+    (λ c. search needs) returns-4 returns-5)

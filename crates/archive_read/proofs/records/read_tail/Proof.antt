@@ -22,16 +22,5 @@ returns-3 c = (search is-tail, search tail-after)
 pub read-tail-spec : {M : Type 1} → statement M
 read-tail-spec =
     tie.close
-    (tie.spec
-    (λ c κs. search needs)
-    (λ c. search needs)
-    (λ c. search needs)
-    returns
-    bytes-of-requires
-    (λ c κs. search needs)
-    (λ c. search needs)
-    (λ c. search needs)
-    returns-2
-    optional-record-requires
-    (λ c κs. search needs)
-    returns-3)
+    (tie.spec (λ c κs. search needs) (λ c. search needs) (λ c. search needs) returns bytes-of-requires (λ c κs. search needs)
+    (λ c. search needs) (λ c. search needs) returns-2 optional-record-requires (λ c κs. search needs) returns-3)

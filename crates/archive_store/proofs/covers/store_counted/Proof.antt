@@ -8,6 +8,4 @@ returns : tie.Need-returns
 returns c = search (needs, ranges-counted)
 
 pub store-counted-spec : {M : Type 1} → statement M
-store-counted-spec =
-    tie.close
-    (tie.spec (λ c κs. search needs) (λ c. search needs) (λ c κs. search needs) (λ c. search needs) returns)
+store-counted-spec = tie.close (tie.spec (λ c κs. search needs) (λ c. search needs) (λ c κs. search needs) (λ c. search needs) returns)

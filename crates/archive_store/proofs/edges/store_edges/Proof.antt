@@ -8,6 +8,4 @@ returns : tie.Need-returns
 returns c = search (needs, edges-stored)
 
 pub store-edges-spec : {M : Type 1} → statement M
-store-edges-spec =
-    tie.close
-    (tie.spec (λ c κs. search needs) (λ c κs. search needs) (λ c κs. search needs) (λ c. search needs) returns)
+store-edges-spec = tie.close (tie.spec (λ c κs. search needs) (λ c κs. search needs) (λ c κs. search needs) (λ c. search needs) returns)

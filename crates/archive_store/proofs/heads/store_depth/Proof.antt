@@ -13,10 +13,4 @@ returns-2 c = search (needs, depth-unknown)
 pub store-depth-spec : {M : Type 1} → statement M
 store-depth-spec =
     tie.close
-    (tie.spec
-    (λ c κs. search needs)
-    (λ c. search needs)
-    returns
-    (λ c κs. search needs)
-    (λ c. search needs)
-    returns-2)
+    (tie.spec (λ c κs. search needs) (λ c. search needs) returns (λ c κs. search needs) (λ c. search needs) returns-2)

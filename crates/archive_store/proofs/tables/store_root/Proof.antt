@@ -8,5 +8,4 @@ returns : tie.Need-returns
 returns c = search (needs, root-stored)
 
 pub store-root-spec : {M : Type 1} → statement M
-store-root-spec =
-    tie.close (tie.spec (λ c κs. search needs) (λ c. search needs) (λ c κs. search needs) (λ c. search needs) returns)
+store-root-spec = tie.close (tie.spec (λ c κs. search needs) (λ c. search needs) (λ c κs. search needs) (λ c. search needs) returns)

@@ -20,4 +20,6 @@ returns-4 : tie.Need-returns-4
 returns-4 c = search (needs, fit-numbers)
 
 pub edges-rules-spec : {M : Type 1} → statement M
-edges-rules-spec = tie.close (tie.spec (λ c κs. search needs) returns low-sets-requires returns-2 (λ c κs. search needs) returns-3 returns-4)
+edges-rules-spec =
+    tie.close
+    (tie.spec (λ c κs. search needs) returns low-sets-requires returns-2 (λ c κs. search needs) returns-3 returns-4)

@@ -17,4 +17,7 @@ returns-4 : tie.Need-returns-4
 returns-4 c = search (needs, fit)
 
 pub head-rules-spec : {M : Type 1} → statement M
-head-rules-spec = tie.close (tie.spec (λ c κs. search needs) returns (λ c. search needs) (λ c. search needs) (λ c κs. search needs) returns-2 (λ c κs. search needs) returns-3 returns-4)
+head-rules-spec =
+    tie.close
+    (tie.spec (λ c κs. search needs) returns (λ c. search needs) (λ c. search needs) (λ c κs. search needs) returns-2 (λ c κs. search needs)
+    returns-3 returns-4)

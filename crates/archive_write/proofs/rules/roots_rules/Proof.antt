@@ -20,4 +20,6 @@ returns-4 : tie.Need-returns-4
 returns-4 c = search (needs, fit)
 
 pub roots-rules-spec : {M : Type 1} → statement M
-roots-rules-spec = tie.close (tie.spec (λ c κs. search needs) returns low-roots-requires returns-2 (λ c κs. search needs) returns-3 returns-4)
+roots-rules-spec =
+    tie.close
+    (tie.spec (λ c κs. search needs) returns low-roots-requires returns-2 (λ c κs. search needs) returns-3 returns-4)

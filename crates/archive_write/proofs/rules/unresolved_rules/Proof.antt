@@ -20,4 +20,6 @@ returns-4 : tie.Need-returns-4
 returns-4 c = search (needs, fit)
 
 pub unresolved-rules-spec : {M : Type 1} → statement M
-unresolved-rules-spec = tie.close (tie.spec (λ c κs. search needs) returns low-unresolved-requires returns-2 (λ c κs. search needs) returns-3 returns-4)
+unresolved-rules-spec =
+    tie.close
+    (tie.spec (λ c κs. search needs) returns low-unresolved-requires returns-2 (λ c κs. search needs) returns-3 returns-4)

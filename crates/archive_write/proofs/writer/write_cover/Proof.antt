@@ -15,4 +15,6 @@ returns-2 : tie.Need-returns-2
 returns-2 c = (search (needs, cover-ends), search (needs, written))
 
 pub write-cover-spec : {M : Type 1} → statement M
-write-cover-spec = tie.close (tie.spec (λ c κs. search needs) (λ c. search needs) (λ c. search needs) record-cover-requires returns (λ c. search needs) returns-2)
+write-cover-spec =
+    tie.close
+    (tie.spec (λ c κs. search needs) (λ c. search needs) (λ c. search needs) record-cover-requires returns (λ c. search needs) returns-2)

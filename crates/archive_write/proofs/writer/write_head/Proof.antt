@@ -15,4 +15,6 @@ returns-2 : tie.Need-returns-2
 returns-2 c = (search (needs, head-ends), search (needs, written))
 
 pub write-head-spec : {M : Type 1} → statement M
-write-head-spec = tie.close (tie.spec (λ c κs. search needs) (λ c. search needs) (λ c. search needs) record-head-requires returns (λ c. search needs) returns-2)
+write-head-spec =
+    tie.close
+    (tie.spec (λ c κs. search needs) (λ c. search needs) (λ c. search needs) record-head-requires returns (λ c. search needs) returns-2)

@@ -15,4 +15,6 @@ returns-2 : tie.Need-returns-2
 returns-2 c = (search (needs, roots-end), search (needs, written))
 
 pub write-roots-spec : {M : Type 1} → statement M
-write-roots-spec = tie.close (tie.spec (λ c κs. search needs) (λ c. search needs) (λ c. search needs) record-roots-requires returns (λ c. search needs) returns-2)
+write-roots-spec =
+    tie.close
+    (tie.spec (λ c κs. search needs) (λ c. search needs) (λ c. search needs) record-roots-requires returns (λ c. search needs) returns-2)

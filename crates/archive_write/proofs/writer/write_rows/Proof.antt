@@ -15,4 +15,6 @@ returns-2 : tie.Need-returns-2
 returns-2 c = (search (needs, rows-end), search (needs, written))
 
 pub write-rows-spec : {M : Type 1} → statement M
-write-rows-spec = tie.close (tie.spec (λ c κs. search needs) (λ c. search needs) (λ c. search needs) record-rows-requires returns (λ c. search needs) returns-2)
+write-rows-spec =
+    tie.close
+    (tie.spec (λ c κs. search needs) (λ c. search needs) (λ c. search needs) record-rows-requires returns (λ c. search needs) returns-2)

@@ -15,4 +15,7 @@ returns-2 : tie.Need-returns-2
 returns-2 c = (search (needs, unresolved-end), search (needs, written))
 
 pub write-unresolved-spec : {M : Type 1} → statement M
-write-unresolved-spec = tie.close (tie.spec (λ c κs. search needs) (λ c. search needs) (λ c. search needs) record-unresolved-requires returns (λ c. search needs) returns-2)
+write-unresolved-spec =
+    tie.close
+    (tie.spec (λ c κs. search needs) (λ c. search needs) (λ c. search needs) record-unresolved-requires returns (λ c. search needs)
+    returns-2)

@@ -27,12 +27,4 @@ returns-5 c = (search roots-answer, search roots-out)
 pub state-root-entries-spec : {M : Type 1} → statement M
 state-root-entries-spec =
     tie.close
-    (tie.spec
-    returns
-    returns-2
-    returns-3
-    (λ c κs. search needs)
-    returns-4
-    write-rows-requires
-    (λ c. search needs)
-    returns-5)
+    (tie.spec returns returns-2 returns-3 (λ c κs. search needs) returns-4 write-rows-requires (λ c. search needs) returns-5)

@@ -17,6 +17,4 @@ returns-4 : tie.Need-returns-4
 returns-4 c = search none-over
 
 pub are-columns-over-spec : {M : Type 1} → statement M
-are-columns-over-spec =
-    tie.close
-    (tie.spec (λ c κs. search needs) returns returns-2 (λ c κs. search needs) returns-3 returns-4)
+are-columns-over-spec = tie.close (tie.spec (λ c κs. search needs) returns returns-2 (λ c κs. search needs) returns-3 returns-4)

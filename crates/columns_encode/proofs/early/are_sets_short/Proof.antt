@@ -14,12 +14,4 @@ returns-3 : tie.Need-returns-3
 returns-3 c = search inbound-short
 
 pub are-sets-short-spec : {M : Type 1} → statement M
-are-sets-short-spec =
-    tie.close
-    (tie.spec
-    (λ c κs. search needs)
-    returns
-    (λ c κs. search needs)
-    returns-2
-    (λ c κs. search needs)
-    returns-3)
+are-sets-short-spec = tie.close (tie.spec (λ c κs. search needs) returns (λ c κs. search needs) returns-2 (λ c κs. search needs) returns-3)

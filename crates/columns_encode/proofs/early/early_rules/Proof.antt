@@ -16,12 +16,5 @@ returns-2 c = search limits-then
 pub early-rules-spec : {M : Type 1} → statement M
 early-rules-spec =
     tie.close
-    (tie.spec
-    (λ c κs. search needs)
-    (λ c κs. search needs)
-    (λ c κs. search needs)
-    (λ c. search needs)
-    (λ c. search needs)
-    input-rules-requires
-    returns
-    returns-2)
+    (tie.spec (λ c κs. search needs) (λ c κs. search needs) (λ c κs. search needs) (λ c. search needs) (λ c. search needs)
+    input-rules-requires returns returns-2)

@@ -48,26 +48,7 @@ returns-2 c =
 pub encode-kept-spec : {M : Type 1} → statement M
 encode-kept-spec =
     tie.close
-    (tie.spec
-    late-rules-requires
-    (λ c. search needs)
-    (λ c. search needs)
-    (λ c. search needs)
-    (λ c. search needs)
-    slice-read-index
-    (λ c κs. search needs)
-    write-sets-requires
-    (λ c. search needs)
-    (λ c. search needs)
-    (λ c. search needs)
-    returns
-    (λ c. search needs)
-    (λ c. search needs)
-    (λ c. search needs)
-    (λ c. search needs)
-    (λ c. search needs)
-    (λ c. search needs)
-    (λ c. search needs)
-    (λ c. search needs)
-    (λ c. search needs)
-    returns-2)
+    (tie.spec late-rules-requires (λ c. search needs) (λ c. search needs) (λ c. search needs) (λ c. search needs) slice-read-index
+    (λ c κs. search needs) write-sets-requires (λ c. search needs) (λ c. search needs) (λ c. search needs) returns (λ c. search needs)
+    (λ c. search needs) (λ c. search needs) (λ c. search needs) (λ c. search needs) (λ c. search needs) (λ c. search needs)
+    (λ c. search needs) (λ c. search needs) returns-2)

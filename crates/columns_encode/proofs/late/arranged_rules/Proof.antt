@@ -18,10 +18,4 @@ returns c = (search arranged-says, search arranged)
 pub arranged-rules-spec : {M : Type 1} → statement M
 arranged-rules-spec =
     tie.close
-    (tie.spec
-    arrange-requires
-    table-rules-requires
-    (λ c. search needs)
-    (λ c. search needs)
-    (λ c. search needs)
-    returns)
+    (tie.spec arrange-requires table-rules-requires (λ c. search needs) (λ c. search needs) (λ c. search needs) returns)

@@ -19,13 +19,5 @@ returns-2 c = (search late-then, λ z. search needs)
 pub late-rules-spec : {M : Type 1} → statement M
 late-rules-spec =
     tie.close
-    (tie.spec
-    (λ c κs. search needs)
-    (λ c. search needs)
-    (λ c. search needs)
-    arranged-rules-requires
-    returns
-    (λ c. search needs)
-    (λ c. search needs)
-    (λ c. search needs)
-    returns-2)
+    (tie.spec (λ c κs. search needs) (λ c. search needs) (λ c. search needs) arranged-rules-requires returns (λ c. search needs)
+    (λ c. search needs) (λ c. search needs) returns-2)

@@ -32,14 +32,5 @@ returns-2 c = search then-spans
 pub table-rules-spec : {M : Type 1} → statement M
 table-rules-spec =
     tie.close
-    (tie.spec
-    (λ c. search needs)
-    (λ c. search needs)
-    slice-aggregate-no-repeats
-    slice-aggregate-no-repeats-2
-    no-repeats-requires
-    returns
-    slice-aggregate-span-rules
-    slice-aggregate-span-rules-2
-    span-rules-requires
-    returns-2)
+    (tie.spec (λ c. search needs) (λ c. search needs) slice-aggregate-no-repeats slice-aggregate-no-repeats-2 no-repeats-requires returns
+    slice-aggregate-span-rules slice-aggregate-span-rules-2 span-rules-requires returns-2)

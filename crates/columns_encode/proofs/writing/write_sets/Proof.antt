@@ -23,16 +23,5 @@ returns c = (search three-counted, (search needs, (search needs, (search needs, 
 pub write-sets-spec : {M : Type 1} → statement M
 write-sets-spec =
     tie.close
-    (tie.spec
-    write-set-requires
-    write-table-requires
-    write-turned-requires
-    (λ c. search needs)
-    (λ c. search needs)
-    (λ c. search needs)
-    (λ c. search needs)
-    (λ c. search needs)
-    (λ c. search needs)
-    (λ c. search needs)
-    (λ c. search needs)
-    returns)
+    (tie.spec write-set-requires write-table-requires write-turned-requires (λ c. search needs) (λ c. search needs) (λ c. search needs)
+    (λ c. search needs) (λ c. search needs) (λ c. search needs) (λ c. search needs) (λ c. search needs) returns)

@@ -10,6 +10,4 @@ reach-requires : tie.Need-reach-requires
 reach-requires c κs = (none-at _ 4097 2053 (search needs) (omega arith), (search needs, search needs))
 
 pub reached-spec : {M : Type 1} → statement M
-reached-spec =
-    tie.close
-    (tie.spec (λ c. search needs) (λ c. search needs) reach-requires (λ c. search needs) (λ c. search needs))
+reached-spec = tie.close (tie.spec (λ c. search needs) (λ c. search needs) reach-requires (λ c. search needs) (λ c. search needs))

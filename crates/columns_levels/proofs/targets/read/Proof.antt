@@ -11,11 +11,4 @@ returns : tie.Need-returns
 returns c = (search read-count, search read-written)
 
 pub read-spec : {M : Type 1} → statement M
-read-spec =
-    tie.close
-    (tie.spec
-    (λ c. search needs)
-    slice-aggregate-decode-csr
-    (λ c κs. search needs)
-    (λ c. search needs)
-    returns)
+read-spec = tie.close (tie.spec (λ c. search needs) slice-aggregate-decode-csr (λ c κs. search needs) (λ c. search needs) returns)

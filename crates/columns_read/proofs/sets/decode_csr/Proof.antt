@@ -16,11 +16,4 @@ returns-2 c = (search set-refused, search set-as-was)
 pub decode-csr-spec : {M : Type 1} → statement M
 decode-csr-spec =
     tie.close
-    (tie.spec
-    (λ c κs. search needs)
-    (λ c. search needs)
-    write-csr-requires
-    (λ c. search needs)
-    (λ c. search needs)
-    returns
-    returns-2)
+    (tie.spec (λ c κs. search needs) (λ c. search needs) write-csr-requires (λ c. search needs) (λ c. search needs) returns returns-2)

@@ -17,6 +17,4 @@ returns-4 : tie.Need-returns-4
 returns-4 c = search then-climbs
 
 pub is-form-spec : {M : Type 1} → statement M
-is-form-spec =
-    tie.close
-    (tie.spec returns returns-2 (λ c. search needs) returns-3 (λ c κs. search needs) returns-4)
+is-form-spec = tie.close (tie.spec returns returns-2 (λ c. search needs) returns-3 (λ c κs. search needs) returns-4)

@@ -20,16 +20,5 @@ returns-2 c = search (deltas-tell, slot-cut)
 pub is-slot-sound-spec : {M : Type 1} → statement M
 is-slot-sound-spec =
     tie.close
-    (tie.spec
-    (λ c κs. search needs)
-    returns
-    (λ c. search needs)
-    (λ c. search needs)
-    (λ c κs. search needs)
-    (λ c. search needs)
-    (λ c. search needs)
-    (λ c. search needs)
-    (λ c κs. search needs)
-    event-requires
-    all-sound-requires
-    returns-2)
+    (tie.spec (λ c κs. search needs) returns (λ c. search needs) (λ c. search needs) (λ c κs. search needs) (λ c. search needs)
+    (λ c. search needs) (λ c. search needs) (λ c κs. search needs) event-requires all-sound-requires returns-2)

@@ -20,13 +20,4 @@ returns-5 : tie.Need-returns-5
 returns-5 c = search labels-kept
 
 pub label-rules-spec : {M : Type 1} → statement M
-label-rules-spec =
-    tie.close
-    (tie.spec
-    returns
-    returns-2
-    (λ c κs. search needs)
-    returns-3
-    (λ c κs. search needs)
-    returns-4
-    returns-5)
+label-rules-spec = tie.close (tie.spec returns returns-2 (λ c κs. search needs) returns-3 (λ c κs. search needs) returns-4 returns-5)

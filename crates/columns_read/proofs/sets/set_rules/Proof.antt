@@ -23,6 +23,4 @@ returns-5 : tie.Need-returns-5
 returns-5 c = search all-kept
 
 pub set-rules-spec : {M : Type 1} → statement M
-set-rules-spec =
-    tie.close
-    (tie.spec (λ c κs. search needs) returns returns-2 returns-3 are-sound-requires returns-4 returns-5)
+set-rules-spec = tie.close (tie.spec (λ c κs. search needs) returns returns-2 returns-3 are-sound-requires returns-4 returns-5)

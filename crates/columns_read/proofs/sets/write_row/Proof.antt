@@ -31,21 +31,6 @@ returns-2 c = (search row-ends, search row-written)
 pub write-row-spec : {M : Type 1} → statement M
 write-row-spec =
     tie.close
-    (tie.spec
-    (λ c. search needs)
-    (λ c. search needs)
-    (λ c κs. search needs)
-    (λ c. search needs)
-    (λ c. search needs)
-    (λ c. search needs)
-    (λ c κs. search needs)
-    sub-if1
-    add-if1
-    event-requires
-    write-within-requires
-    (λ c. search needs)
-    returns
-    event-requires-2
-    write-targets-requires
-    (λ c. search needs)
-    returns-2)
+    (tie.spec (λ c. search needs) (λ c. search needs) (λ c κs. search needs) (λ c. search needs) (λ c. search needs) (λ c. search needs)
+    (λ c κs. search needs) sub-if1 add-if1 event-requires write-within-requires (λ c. search needs) returns event-requires-2
+    write-targets-requires (λ c. search needs) returns-2)

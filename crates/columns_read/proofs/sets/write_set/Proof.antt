@@ -38,18 +38,5 @@ returns-2 c = (search all-counted, search all-written)
 pub write-set-spec : {M : Type 1} → statement M
 write-set-spec =
     tie.close
-    (tie.spec
-    Inv-loop
-    μ-loop
-    loop-holds
-    (λ c. search needs)
-    write-row-requires
-    (λ c. search needs)
-    (λ c. search needs)
-    loop-again
-    (λ c. search needs)
-    write-slot-requires
-    (λ c. search needs)
-    returns
-    (λ c. search needs)
-    returns-2)
+    (tie.spec Inv-loop μ-loop loop-holds (λ c. search needs) write-row-requires (λ c. search needs) (λ c. search needs) loop-again
+    (λ c. search needs) write-slot-requires (λ c. search needs) returns (λ c. search needs) returns-2)

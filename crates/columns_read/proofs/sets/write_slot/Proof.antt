@@ -17,15 +17,5 @@ returns c = (search slot-ends, search slot-written)
 pub write-slot-spec : {M : Type 1} → statement M
 write-slot-spec =
     tie.close
-    (tie.spec
-    (λ c. search needs)
-    (λ c. search needs)
-    (λ c κs. search needs)
-    (λ c. search needs)
-    (λ c. search needs)
-    (λ c. search needs)
-    (λ c κs. search needs)
-    event-requires
-    write-targets-requires
-    (λ c. search needs)
-    returns)
+    (tie.spec (λ c. search needs) (λ c. search needs) (λ c κs. search needs) (λ c. search needs) (λ c. search needs) (λ c. search needs)
+    (λ c κs. search needs) event-requires write-targets-requires (λ c. search needs) returns)

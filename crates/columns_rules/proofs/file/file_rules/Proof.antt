@@ -22,12 +22,4 @@ returns-4 c = search then-parents
 pub file-rules-spec : {M : Type 1} → statement M
 file-rules-spec =
     tie.close
-    (tie.spec
-    (λ c κs. search needs)
-    returns
-    (λ c κs. search needs)
-    returns-2
-    (λ c κs. search needs)
-    returns-3
-    slot-rules-requires
-    returns-4)
+    (tie.spec (λ c κs. search needs) returns (λ c κs. search needs) returns-2 (λ c κs. search needs) returns-3 slot-rules-requires returns-4)

@@ -9,11 +9,4 @@ rise-in-requires : tie.Need-rise-in-requires
 rise-in-requires c κs = (none-held _ 1024 1031 (omega arith), search needs)
 
 pub seqs-rise-spec : {M : Type 1} → statement M
-seqs-rise-spec =
-    tie.close
-    (tie.spec
-    (λ c. search needs)
-    (λ c. search needs)
-    (λ c. search needs)
-    rise-in-requires
-    (λ c. search needs))
+seqs-rise-spec = tie.close (tie.spec (λ c. search needs) (λ c. search needs) (λ c. search needs) rise-in-requires (λ c. search needs))

@@ -19,14 +19,5 @@ returns c = search (needs, slot-says)
 pub slot-rule-spec : {M : Type 1} → statement M
 slot-rule-spec =
     tie.close
-    (tie.spec
-    (λ c. search needs)
-    shared-slice-read-index
-    (λ c κs. search needs)
-    (λ c. search needs)
-    (λ c. search needs)
-    shared-slice-read-index-2
-    (λ c κs. search needs)
-    (λ c. search needs)
-    parent-rules-requires
-    returns)
+    (tie.spec (λ c. search needs) shared-slice-read-index (λ c κs. search needs) (λ c. search needs) (λ c. search needs)
+    shared-slice-read-index-2 (λ c κs. search needs) (λ c. search needs) parent-rules-requires returns)

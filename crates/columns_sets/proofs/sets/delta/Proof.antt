@@ -20,5 +20,4 @@ returns-2 : tie.Need-returns-2
 returns-2 c = search up-is
 
 pub delta-spec : {M : Type 1} → statement M
-delta-spec =
-    tie.close (tie.spec cast-result returns (λ c. search needs) (λ c. search needs) cast-result-2 sub-result returns-2)
+delta-spec = tie.close (tie.spec cast-result returns (λ c. search needs) (λ c. search needs) cast-result-2 sub-result returns-2)

@@ -30,18 +30,5 @@ returns c = search writing-done
 pub write-deltas-spec : {M : Type 1} → statement M
 write-deltas-spec =
     tie.close
-    (tie.spec
-    Inv-loop
-    μ-loop
-    (λ c. search needs)
-    (λ c. search needs)
-    shared-slice-read-index
-    (λ c κs. search needs)
-    loop-holds
-    (λ c. search needs)
-    write-slot-of-requires
-    (λ c. search needs)
-    (λ c. search needs)
-    loop-again
-    (λ c. search needs)
-    returns)
+    (tie.spec Inv-loop μ-loop (λ c. search needs) (λ c. search needs) shared-slice-read-index (λ c κs. search needs) loop-holds
+    (λ c. search needs) write-slot-of-requires (λ c. search needs) (λ c. search needs) loop-again (λ c. search needs) returns)

@@ -19,20 +19,6 @@ returns c = (search set-counted, (search starts-written, search deltas-written))
 pub write-set-spec : {M : Type 1} → statement M
 write-set-spec =
     tie.close
-    (tie.spec
-    (λ c κs. search needs)
-    (λ c κs. search needs)
-    (λ c. search needs)
-    (λ c. search needs)
-    shared-slice-read-index
-    (λ c κs. search needs)
-    (λ c. search needs)
-    (λ c. search needs)
-    (λ c. search needs)
-    (λ c. search needs)
-    shared-slice-read-index-2
-    (λ c κs. search needs)
-    sub-result
-    (λ c. search needs)
-    (λ c. search needs)
-    returns)
+    (tie.spec (λ c κs. search needs) (λ c κs. search needs) (λ c. search needs) (λ c. search needs) shared-slice-read-index
+    (λ c κs. search needs) (λ c. search needs) (λ c. search needs) (λ c. search needs) (λ c. search needs) shared-slice-read-index-2
+    (λ c κs. search needs) sub-result (λ c. search needs) (λ c. search needs) returns)

@@ -20,18 +20,6 @@ returns c = search piece-says
 pub write-slot-of-spec : {M : Type 1} → statement M
 write-slot-of-spec =
     tie.close
-    (tie.spec
-    (λ c. search needs)
-    (λ c. search needs)
-    (λ c. search needs)
-    shared-slice-read-index
-    (λ c κs. search needs)
-    (λ c. search needs)
-    (λ c. search needs)
-    shared-slice-read-index-2
-    (λ c κs. search needs)
-    (λ c. search needs)
-    (λ c. search needs)
-    write-slot-requires
-    (λ c. search needs)
-    returns)
+    (tie.spec (λ c. search needs) (λ c. search needs) (λ c. search needs) shared-slice-read-index (λ c κs. search needs) (λ c. search needs)
+    (λ c. search needs) shared-slice-read-index-2 (λ c κs. search needs) (λ c. search needs) (λ c. search needs) write-slot-requires
+    (λ c. search needs) returns)

@@ -16,12 +16,5 @@ write-set-requires c κs = (search needs, (search needs, search prefix-short))
 pub write-table-spec : {M : Type 1} → statement M
 write-table-spec =
     tie.close
-    (tie.spec
-    (λ c. search needs)
-    (λ c. search needs)
-    slice-aggregate-write-set
-    slice-aggregate-write-set-2
-    write-set-requires
-    (λ c. search needs)
-    (λ c. search needs)
-    (λ c. search needs))
+    (tie.spec (λ c. search needs) (λ c. search needs) slice-aggregate-write-set slice-aggregate-write-set-2 write-set-requires
+    (λ c. search needs) (λ c. search needs) (λ c. search needs))

@@ -19,11 +19,4 @@ returns c = (search turned-counted, (search turned-starts, search turned-deltas)
 pub write-turned-spec : {M : Type 1} → statement M
 write-turned-spec =
     tie.close
-    (tie.spec
-    turn-requires
-    write-table-requires
-    (λ c. search needs)
-    (λ c. search needs)
-    (λ c. search needs)
-    (λ c. search needs)
-    returns)
+    (tie.spec turn-requires write-table-requires (λ c. search needs) (λ c. search needs) (λ c. search needs) (λ c. search needs) returns)

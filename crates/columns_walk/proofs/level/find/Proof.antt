@@ -18,12 +18,5 @@ returns c = search found
 pub find-spec : {M : Type 1} → statement M
 find-spec =
     tie.close
-    (tie.spec
-    (λ c. search needs)
-    (λ c. search needs)
-    add-list-requires
-    (λ c. search needs)
-    (λ c. search needs)
-    collect-requires
-    (λ c. search needs)
-    returns)
+    (tie.spec (λ c. search needs) (λ c. search needs) add-list-requires (λ c. search needs) (λ c. search needs) collect-requires
+    (λ c. search needs) returns)

@@ -18,13 +18,5 @@ returns c = search stored-written
 pub write-stored-spec : {M : Type 1} → statement M
 write-stored-spec =
     tie.close
-    (tie.spec
-    (λ c κs. search needs)
-    copy-column-requires
-    copy-column-requires-2
-    copy-column-requires-3
-    (λ c. search needs)
-    (λ c. search needs)
-    (λ c. search needs)
-    (λ c. search needs)
-    returns)
+    (tie.spec (λ c κs. search needs) copy-column-requires copy-column-requires-2 copy-column-requires-3 (λ c. search needs)
+    (λ c. search needs) (λ c. search needs) (λ c. search needs) returns)

@@ -15,11 +15,5 @@ returns c = (search needs, (search needs, search sorted-rows))
 pub choose-rows-spec : {M : Type 1} → statement M
 choose-rows-spec =
     tie.close
-    (tie.spec
-    (λ c. search needs)
-    (λ c κs. search needs)
-    (λ c. search needs)
-    slice-aggregate-choose
-    choose-requires
-    (λ c. search needs)
+    (tie.spec (λ c. search needs) (λ c κs. search needs) (λ c. search needs) slice-aggregate-choose choose-requires (λ c. search needs)
     returns)

@@ -12,11 +12,5 @@ returns c = (search needs, (search tail-within, search tail-place))
 pub first-from-spec : {M : Type 1} → statement M
 first-from-spec =
     tie.close
-    (tie.spec
-    (λ c. search needs)
-    (λ c. search needs)
-    (λ c. search needs)
-    (λ c. search needs)
-    place-in-narrow-requires
-    (λ c. search needs)
+    (tie.spec (λ c. search needs) (λ c. search needs) (λ c. search needs) (λ c. search needs) place-in-narrow-requires (λ c. search needs)
     returns)

@@ -7,6 +7,4 @@ returns : tie.Need-returns
 returns c = search chains-sorted
 
 pub put-sorted-spec : {M : Type 1} → statement M
-put-sorted-spec =
-    tie.close
-    (tie.spec (λ c κs. search needs) (λ c. search needs) (λ c κs. search needs) (λ c. search needs) returns)
+put-sorted-spec = tie.close (tie.spec (λ c κs. search needs) (λ c. search needs) (λ c κs. search needs) (λ c. search needs) returns)

@@ -34,17 +34,5 @@ returns-5 c = (search found-told, search found-written)
 pub chain-links-spec : {M : Type 1} → statement M
 chain-links-spec =
     tie.close
-    (tie.spec
-    (λ c κs. search needs)
-    returns
-    returns-2
-    (λ c κs. search needs)
-    returns-3
-    links-fit-requires
-    returns-4
-    write-chosen-requires
-    (λ c. search needs)
-    (λ c. search needs)
-    (λ c. search needs)
-    (λ c. search needs)
-    returns-5)
+    (tie.spec (λ c κs. search needs) returns returns-2 (λ c κs. search needs) returns-3 links-fit-requires returns-4 write-chosen-requires
+    (λ c. search needs) (λ c. search needs) (λ c. search needs) (λ c. search needs) returns-5)

@@ -19,14 +19,5 @@ returns c = (search stored-count, search stored-written)
 pub write-chosen-spec : {M : Type 1} → statement M
 write-chosen-spec =
     tie.close
-    (tie.spec
-    (λ c. search needs)
-    write-sums-requires
-    (λ c. search needs)
-    slice-aggregate-pick-chosen
-    pick-chosen-requires
-    (λ c. search needs)
-    (λ c. search needs)
-    (λ c. search needs)
-    (λ c. search needs)
-    returns)
+    (tie.spec (λ c. search needs) write-sums-requires (λ c. search needs) slice-aggregate-pick-chosen pick-chosen-requires
+    (λ c. search needs) (λ c. search needs) (λ c. search needs) (λ c. search needs) returns)

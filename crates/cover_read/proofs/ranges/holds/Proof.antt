@@ -27,15 +27,5 @@ returns-4 c = search window-meets
 pub holds-spec : {M : Type 1} → statement M
 holds-spec =
     tie.close
-    (tie.spec
-    place-in-narrow-requires
-    returns
-    (λ c. search needs)
-    (λ c. search needs)
-    returns-2
-    (λ c. search needs)
-    shared-slice-read-if3
-    returns-3
-    (λ c. search needs)
-    shared-slice-read-result
-    returns-4)
+    (tie.spec place-in-narrow-requires returns (λ c. search needs) (λ c. search needs) returns-2 (λ c. search needs) shared-slice-read-if3
+    returns-3 (λ c. search needs) shared-slice-read-result returns-4)

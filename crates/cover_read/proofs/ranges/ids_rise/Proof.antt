@@ -10,5 +10,4 @@ returns-2 : tie.Need-returns-2
 returns-2 c = search rising-first
 
 pub ids-rise-spec : {M : Type 1} → statement M
-ids-rise-spec =
-    tie.close (tie.spec returns (λ c. search needs) (λ c κs. search needs) returns-2)
+ids-rise-spec = tie.close (tie.spec returns (λ c. search needs) (λ c κs. search needs) returns-2)

@@ -16,5 +16,4 @@ returns-4 : tie.Need-returns-4
 returns-4 c = search then-ordered
 
 pub ranges-fit-spec : {M : Type 1} → statement M
-ranges-fit-spec =
-    tie.close (tie.spec returns returns-2 (λ c κs. search needs) returns-3 (λ c κs. search needs) returns-4)
+ranges-fit-spec = tie.close (tie.spec returns returns-2 (λ c κs. search needs) returns-3 (λ c κs. search needs) returns-4)

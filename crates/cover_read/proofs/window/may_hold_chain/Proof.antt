@@ -16,6 +16,4 @@ returns-3 : tie.Need-returns-3
 returns-3 c = search window-told
 
 pub may-hold-chain-spec : {M : Type 1} → statement M
-may-hold-chain-spec =
-    tie.close
-    (tie.spec (λ c κs. search needs) returns (λ c κs. search needs) returns-2 holds-requires returns-3)
+may-hold-chain-spec = tie.close (tie.spec (λ c κs. search needs) returns (λ c κs. search needs) returns-2 holds-requires returns-3)

@@ -18,13 +18,5 @@ returns c = search links-picked
 pub pick-links-spec : {M : Type 1} → statement M
 pick-links-spec =
     tie.close
-    (tie.spec
-    (λ c κs. search needs)
-    pick-requires-2
-    pick-requires-3
-    pick-requires-4
-    (λ c. search needs)
-    (λ c. search needs)
-    (λ c. search needs)
-    (λ c. search needs)
-    returns)
+    (tie.spec (λ c κs. search needs) pick-requires-2 pick-requires-3 pick-requires-4 (λ c. search needs) (λ c. search needs)
+    (λ c. search needs) (λ c. search needs) returns)

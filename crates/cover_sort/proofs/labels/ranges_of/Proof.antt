@@ -23,13 +23,5 @@ returns c =
 pub ranges-of-spec : {M : Type 1} → statement M
 ranges-of-spec =
     tie.close
-    (tie.spec
-    (λ c. search needs)
-    (λ c κs. search needs)
-    (λ c. search needs)
-    slice-aggregate-join-runs
-    join-runs-requires
-    (λ c. search needs)
-    (λ c. search needs)
-    (λ c. search needs)
-    returns)
+    (tie.spec (λ c. search needs) (λ c κs. search needs) (λ c. search needs) slice-aggregate-join-runs join-runs-requires
+    (λ c. search needs) (λ c. search needs) (λ c. search needs) returns)

@@ -14,12 +14,4 @@ unfolding builtOf
 returns-2 c = search (told-arm builtOf)
 
 pub built-of-spec : {M : Type 1} → statement M
-built-of-spec =
-    tie.close
-    (tie.spec
-    (λ c. search needs)
-    (λ c κs. search needs)
-    (λ c. search needs)
-    (λ c κs. search needs)
-    returns
-    returns-2)
+built-of-spec = tie.close (tie.spec (λ c. search needs) (λ c κs. search needs) (λ c. search needs) (λ c κs. search needs) returns returns-2)

@@ -10,11 +10,5 @@ returns c = (search granule-told, (search granule-written, (search granule-writt
 pub ridgeoven-read-granule-spec : {M : Type 1} → statement M
 ridgeoven-read-granule-spec =
     tie.close
-    (tie.spec
-    (λ c κs. search needs)
-    (λ c κs. search needs)
-    (λ c κs. search needs)
-    (λ c. search needs)
-    (λ c. search needs)
-    (λ c. search needs)
-    returns)
+    (tie.spec (λ c κs. search needs) (λ c κs. search needs) (λ c κs. search needs) (λ c. search needs) (λ c. search needs)
+    (λ c. search needs) returns)

@@ -9,5 +9,4 @@ returns : tie.Need-returns
 returns c = (search (told countOf), search needs)
 
 pub ridgeoven-read-set-spec : {M : Type 1} → statement M
-ridgeoven-read-set-spec =
-    tie.close (tie.spec (λ c κs. search needs) (λ c κs. search needs) (λ c. search needs) returns)
+ridgeoven-read-set-spec = tie.close (tie.spec (λ c κs. search needs) (λ c κs. search needs) (λ c. search needs) returns)

@@ -9,5 +9,4 @@ returns : tie.Need-returns
 returns c = (search (told rootsOf), search needs)
 
 pub ridgeoven-roots-spec : {M : Type 1} → statement M
-ridgeoven-roots-spec =
-    tie.close (tie.spec (λ c κs. search needs) (λ c κs. search needs) (λ c. search needs) returns)
+ridgeoven-roots-spec = tie.close (tie.spec (λ c κs. search needs) (λ c κs. search needs) (λ c. search needs) returns)

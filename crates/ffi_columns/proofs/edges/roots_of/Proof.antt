@@ -14,12 +14,4 @@ unfolding rootsOf
 returns-2 c = search (told-arm rootsOf)
 
 pub roots-of-spec : {M : Type 1} → statement M
-roots-of-spec =
-    tie.close
-    (tie.spec
-    (λ c. search needs)
-    (λ c κs. search needs)
-    (λ c. search needs)
-    (λ c κs. search needs)
-    returns
-    returns-2)
+roots-of-spec = tie.close (tie.spec (λ c. search needs) (λ c κs. search needs) (λ c. search needs) (λ c κs. search needs) returns returns-2)

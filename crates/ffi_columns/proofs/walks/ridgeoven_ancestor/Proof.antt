@@ -8,5 +8,4 @@ returns : tie.Need-returns
 returns c = search promised-by
 
 pub ridgeoven-ancestor-spec : {M : Type 1} → statement M
-ridgeoven-ancestor-spec =
-    tie.close (tie.spec (λ c κs. search needs) (λ c κs. search needs) (λ c κs. search needs) returns)
+ridgeoven-ancestor-spec = tie.close (tie.spec (λ c κs. search needs) (λ c κs. search needs) (λ c κs. search needs) returns)

@@ -7,5 +7,4 @@ returns : tie.Need-returns
 returns c = (cc, cc)
 
 pub ridgeoven-next-spec : {M : Type 1} → statement M
-ridgeoven-next-spec =
-    tie.close (tie.spec (λ c κs. search needs) (λ c κs. search needs) (λ c κs. search needs) (λ c. search needs) returns)
+ridgeoven-next-spec = tie.close (tie.spec (λ c κs. search needs) (λ c κs. search needs) (λ c κs. search needs) (λ c. search needs) returns)

@@ -14,5 +14,4 @@ unfolding walkedOf
 returns-2 c = search (told-refused walkedOf (λ n. record { refusal = n; levels = 0; handed = 0 }))
 
 pub walked-of-spec : {M : Type 1} → statement M
-walked-of-spec =
-    tie.close (tie.spec (λ c. search needs) (λ c. search needs) (λ c κs. search needs) returns returns-2)
+walked-of-spec = tie.close (tie.spec (λ c. search needs) (λ c. search needs) (λ c κs. search needs) returns returns-2)

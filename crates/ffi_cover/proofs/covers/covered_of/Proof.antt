@@ -14,5 +14,4 @@ unfolding coveredOf
 returns-2 c = search (told-refused coveredOf (λ n. record { refusal = n; ranges = 0; links = 0 }))
 
 pub covered-of-spec : {M : Type 1} → statement M
-covered-of-spec =
-    tie.close (tie.spec (λ c. search needs) (λ c. search needs) (λ c κs. search needs) returns returns-2)
+covered-of-spec = tie.close (tie.spec (λ c. search needs) (λ c. search needs) (λ c κs. search needs) returns returns-2)

@@ -18,6 +18,4 @@ unfolding heldOf
 returns-3 c = search (told-refused heldOf (λ n. record { refusal = n; holds = 0 }))
 
 pub held-of-spec : {M : Type 1} → statement M
-held-of-spec =
-    tie.close
-    (tie.spec (λ c. search needs) returns (λ c. search needs) (λ c κs. search needs) returns-2 returns-3)
+held-of-spec = tie.close (tie.spec (λ c. search needs) returns (λ c. search needs) (λ c κs. search needs) returns-2 returns-3)

@@ -22,13 +22,5 @@ returns c = search (needs, some-written)
 pub put-some-spec : {M : Type 1} → statement M
 put-some-spec =
     tie.close
-    (tie.spec
-    (λ c κs. search needs)
-    (λ c. search needs)
-    (λ c κs. search needs)
-    sub-put-word
-    part-put-word-start
-    part-put-word-end
-    put-word-requires
-    (λ c. search needs)
-    returns)
+    (tie.spec (λ c κs. search needs) (λ c. search needs) (λ c κs. search needs) sub-put-word part-put-word-start part-put-word-end
+    put-word-requires (λ c. search needs) returns)

@@ -19,5 +19,4 @@ returns-2 : tie.Need-returns-2
 returns-2 c = search (needs, by-number)
 
 pub words-of-number-spec : {M : Type 1} → statement M
-words-of-number-spec =
-    tie.close (tie.spec returns (λ c κs. search needs) put-some-requires (λ c. search needs) returns-2)
+words-of-number-spec = tie.close (tie.spec returns (λ c κs. search needs) put-some-requires (λ c. search needs) returns-2)

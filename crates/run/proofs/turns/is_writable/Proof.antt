@@ -20,6 +20,4 @@ returns-3 : tie.Need-returns-3
 returns-3 c = search then-filled
 
 pub is-writable-spec : {M : Type 1} → statement M
-is-writable-spec =
-    tie.close
-    (tie.spec (λ c κs. search needs) returns is-ordered-requires returns-2 is-filled-requires returns-3)
+is-writable-spec = tie.close (tie.spec (λ c κs. search needs) returns is-ordered-requires returns-2 is-filled-requires returns-3)

@@ -32,12 +32,5 @@ returns c = (search needs, search links-sorted)
 pub fill-links-spec : {M : Type 1} → statement M
 fill-links-spec =
     tie.close
-    (tie.spec
-    grow-links-requires
-    slice-aggregate-sort-into
-    slice-aggregate-sort-into-2
-    slice-aggregate-sort-into-3
-    slice-aggregate-sort-into-4
-    slice-aggregate-sort-into-5
-    sort-into-requires
-    returns)
+    (tie.spec grow-links-requires slice-aggregate-sort-into slice-aggregate-sort-into-2 slice-aggregate-sort-into-3
+    slice-aggregate-sort-into-4 slice-aggregate-sort-into-5 sort-into-requires returns)

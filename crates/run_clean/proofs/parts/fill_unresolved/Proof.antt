@@ -14,5 +14,4 @@ returns : tie.Need-returns
 returns c = (search unresolved-kept, search unresolved-fewer)
 
 pub fill-unresolved-spec : {M : Type 1} → statement M
-fill-unresolved-spec =
-    tie.close (tie.spec grow-unresolved-requires renew-unresolved-requires returns)
+fill-unresolved-spec = tie.close (tie.spec grow-unresolved-requires renew-unresolved-requires returns)

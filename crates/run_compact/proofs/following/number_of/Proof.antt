@@ -7,5 +7,4 @@ returns : tie.Need-returns
 returns c = cc
 
 pub number-of-spec : {M : Type 1} → statement M
-number-of-spec =
-    tie.close (tie.spec (λ c κs. search needs) (λ c κs. search needs) (λ c κs. search needs) (λ c κs. search needs) returns)
+number-of-spec = tie.close (tie.spec (λ c κs. search needs) (λ c κs. search needs) (λ c κs. search needs) (λ c κs. search needs) returns)

@@ -15,5 +15,4 @@ returns : tie.Need-returns
 returns c = search kept-built
 
 pub put-slots-spec : {M : Type 1} → statement M
-put-slots-spec =
-    tie.close (tie.spec (λ c. search needs) add-slots-requires same-length (λ c. search needs) returns)
+put-slots-spec = tie.close (tie.spec (λ c. search needs) add-slots-requires same-length (λ c. search needs) returns)

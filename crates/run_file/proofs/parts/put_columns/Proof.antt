@@ -68,25 +68,8 @@ returns c = (search columns-put, search cover-end)
 pub put-columns-spec : {M : Type 1} → statement M
 put-columns-spec =
     tie.close
-    (tie.spec
-    array-share-prefix-chains
-    slice-aggregate-record-cover
-    array-share-prefix-seqs
-    slice-aggregate-record-cover-2
-    array-share-prefix-ids
-    slice-aggregate-record-cover-3
-    array-share-prefix-minima
-    slice-aggregate-record-cover-4
-    array-share-prefix-maxima
-    slice-aggregate-record-cover-5
-    array-share-prefix-a
-    slice-aggregate-record-cover-6
-    array-share-prefix-b
-    slice-aggregate-record-cover-7
-    array-share-prefix-c
-    slice-aggregate-record-cover-8
-    array-share-prefix-d
-    slice-aggregate-record-cover-9
-    record-cover-requires
-    (λ c. search needs)
-    returns)
+    (tie.spec array-share-prefix-chains slice-aggregate-record-cover array-share-prefix-seqs slice-aggregate-record-cover-2
+    array-share-prefix-ids slice-aggregate-record-cover-3 array-share-prefix-minima slice-aggregate-record-cover-4 array-share-prefix-maxima
+    slice-aggregate-record-cover-5 array-share-prefix-a slice-aggregate-record-cover-6 array-share-prefix-b slice-aggregate-record-cover-7
+    array-share-prefix-c slice-aggregate-record-cover-8 array-share-prefix-d slice-aggregate-record-cover-9 record-cover-requires
+    (λ c. search needs) returns)

@@ -14,10 +14,4 @@ returns-2 : tie.Need-returns-2
 returns-2 c = (search bare-put, search bare-end)
 
 pub put-cover-spec : {M : Type 1} → statement M
-put-cover-spec =
-    tie.close
-    (tie.spec
-    put-columns-requires
-    (λ c. search needs)
-    returns
-    returns-2)
+put-cover-spec = tie.close (tie.spec put-columns-requires (λ c. search needs) returns returns-2)

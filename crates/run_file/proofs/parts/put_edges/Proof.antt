@@ -31,15 +31,6 @@ returns c = (search edges-put, search edges-end)
 pub put-edges-spec : {M : Type 1} → statement M
 put-edges-spec =
     tie.close
-    (tie.spec
-    (λ c. search needs)
-    (λ c. search needs)
-    slice-aggregate-record-edges
-    slice-aggregate-record-edges-2
-    slice-aggregate-record-edges-3
-    slice-aggregate-record-edges-4
-    slice-aggregate-record-edges-5
-    slice-aggregate-record-edges-6
-    record-edges-requires
-    (λ c. search needs)
-    returns)
+    (tie.spec (λ c. search needs) (λ c. search needs) slice-aggregate-record-edges slice-aggregate-record-edges-2
+    slice-aggregate-record-edges-3 slice-aggregate-record-edges-4 slice-aggregate-record-edges-5 slice-aggregate-record-edges-6
+    record-edges-requires (λ c. search needs) returns)

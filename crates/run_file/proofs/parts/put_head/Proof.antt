@@ -20,10 +20,4 @@ returns c = (search head-put, search head-end)
 pub put-head-spec : {M : Type 1} → statement M
 put-head-spec =
     tie.close
-    (tie.spec
-    (λ c. search needs)
-    array-share-prefix-s
-    slice-aggregate-record-head
-    record-head-requires
-    (λ c. search needs)
-    returns)
+    (tie.spec (λ c. search needs) array-share-prefix-s slice-aggregate-record-head record-head-requires (λ c. search needs) returns)

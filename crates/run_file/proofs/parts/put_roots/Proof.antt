@@ -16,13 +16,5 @@ returns c = (search roots-put, search roots-end)
 pub put-roots-spec : {M : Type 1} → statement M
 put-roots-spec =
     tie.close
-    (tie.spec
-    (λ c. search needs)
-    slice-aggregate-record-roots
-    (λ c. search needs)
-    (λ c. search needs)
-    (λ c. search needs)
-    (λ c. search needs)
-    record-roots-requires
-    (λ c. search needs)
-    returns)
+    (tie.spec (λ c. search needs) slice-aggregate-record-roots (λ c. search needs) (λ c. search needs) (λ c. search needs)
+    (λ c. search needs) record-roots-requires (λ c. search needs) returns)

@@ -19,15 +19,5 @@ returns c = (search rows-put, search rows-end)
 pub put-rows-spec : {M : Type 1} → statement M
 put-rows-spec =
     tie.close
-    (tie.spec
-    (λ c κs. search needs)
-    (λ c. search needs)
-    array-share-prefix-flags
-    slice-aggregate-record-rows
-    (λ c. search needs)
-    (λ c. search needs)
-    (λ c. search needs)
-    (λ c. search needs)
-    record-rows-requires
-    (λ c. search needs)
-    returns)
+    (tie.spec (λ c κs. search needs) (λ c. search needs) array-share-prefix-flags slice-aggregate-record-rows (λ c. search needs)
+    (λ c. search needs) (λ c. search needs) (λ c. search needs) record-rows-requires (λ c. search needs) returns)

@@ -25,13 +25,5 @@ returns c = (search (needs, ranges-read), search (needs, ranges-few))
 pub label-ranges-spec : {M : Type 1} → statement M
 label-ranges-spec =
     tie.close
-    (tie.spec
-    array-share-prefix-chains
-    slice-aggregate-ranges-of
-    array-share-prefix-seqs
-    slice-aggregate-ranges-of-2
-    (λ c. search needs)
-    (λ c. search needs)
-    (λ c. search needs)
-    ranges-of-requires
-    returns)
+    (tie.spec array-share-prefix-chains slice-aggregate-ranges-of array-share-prefix-seqs slice-aggregate-ranges-of-2 (λ c. search needs)
+    (λ c. search needs) (λ c. search needs) ranges-of-requires returns)

@@ -11,6 +11,4 @@ returns-2 : tie.Need-returns-2
 returns-2 c = (search (needs, covers-some), search needs)
 
 pub part-cover-spec : {M : Type 1} → statement M
-part-cover-spec =
-    tie.close
-    (tie.spec (λ c. search needs) (λ c κs. search needs) returns (λ c κs. search needs) returns-2)
+part-cover-spec = tie.close (tie.spec (λ c. search needs) (λ c κs. search needs) returns (λ c κs. search needs) returns-2)

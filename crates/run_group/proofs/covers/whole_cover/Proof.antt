@@ -8,5 +8,4 @@ returns : tie.Need-returns
 returns c = (search (needs, covers), search needs)
 
 pub whole-cover-spec : {M : Type 1} → statement M
-whole-cover-spec =
-    tie.close (tie.spec (λ c κs. search needs) (λ c κs. search needs) (λ c κs. search needs) returns)
+whole-cover-spec = tie.close (tie.spec (λ c κs. search needs) (λ c κs. search needs) (λ c κs. search needs) returns)

@@ -16,9 +16,4 @@ returns c = (search (needs, unresolved-between), search (needs, unresolved-few))
 pub part-unresolved-spec : {M : Type 1} → statement M
 part-unresolved-spec =
     tie.close
-    (tie.spec
-    (λ c κs. search needs)
-    (λ c κs. search needs)
-    sub-unresolved-from
-    unresolved-from-requires
-    returns)
+    (tie.spec (λ c κs. search needs) (λ c κs. search needs) sub-unresolved-from unresolved-from-requires returns)

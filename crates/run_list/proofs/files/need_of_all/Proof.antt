@@ -38,18 +38,5 @@ returns-2 c = search (needs, need-known)
 pub need-of-all-spec : {M : Type 1} → statement M
 need-of-all-spec =
     tie.close
-    (tie.spec
-    Inv-loop
-    μ-loop
-    (λ c κs. search needs)
-    loop-holds
-    (λ c κs. search needs)
-    (λ c. search needs)
-    returns
-    (λ c. search needs)
-    need-of-requires
-    (λ c. search needs)
-    (λ c. search needs)
-    (λ c. search needs)
-    loop-again
-    returns-2)
+    (tie.spec Inv-loop μ-loop (λ c κs. search needs) loop-holds (λ c κs. search needs) (λ c. search needs) returns (λ c. search needs)
+    need-of-requires (λ c. search needs) (λ c. search needs) (λ c. search needs) loop-again returns-2)

@@ -40,15 +40,5 @@ returns c = search (needs, lines-done)
 pub put-files-spec : {M : Type 1} → statement M
 put-files-spec =
     tie.close
-    (tie.spec
-    Inv-loop
-    μ-loop
-    (λ c κs. search needs)
-    loop-holds
-    (λ c κs. search needs)
-    put-file-requires
-    (λ c. search needs)
-    (λ c. search needs)
-    loop-again
-    (λ c. search needs)
-    returns)
+    (tie.spec Inv-loop μ-loop (λ c κs. search needs) loop-holds (λ c κs. search needs) put-file-requires (λ c. search needs)
+    (λ c. search needs) loop-again (λ c. search needs) returns)

@@ -20,12 +20,5 @@ returns c = search (needs, file-shown)
 pub shown-of-spec : {M : Type 1} → statement M
 shown-of-spec =
     tie.close
-    (tie.spec
-    (λ c κs. search needs)
-    (λ c κs. search needs)
-    sub-n
-    add-first
-    (λ c κs. search needs)
-    group-sets-requires
-    (λ c κs. search needs)
-    returns)
+    (tie.spec (λ c κs. search needs) (λ c κs. search needs) sub-n add-first (λ c κs. search needs) group-sets-requires
+    (λ c κs. search needs) returns)

@@ -14,11 +14,4 @@ returns : tie.Need-returns
 returns c = search (needs, spans)
 
 pub span-of-spec : {M : Type 1} → statement M
-span-of-spec =
-    tie.close
-    (tie.spec
-    (λ c κs. search needs)
-    group-place-requires
-    (λ c. search needs)
-    group-place-requires-2
-    returns)
+span-of-spec = tie.close (tie.spec (λ c κs. search needs) group-place-requires (λ c. search needs) group-place-requires-2 returns)

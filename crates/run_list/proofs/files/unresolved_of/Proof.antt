@@ -17,5 +17,4 @@ returns : tie.Need-returns
 returns c = search (needs, unresolved-made)
 
 pub unresolved-of-spec : {M : Type 1} → statement M
-unresolved-of-spec =
-    tie.close (tie.spec (λ c κs. search needs) add-low add-high part-unresolved-requires returns)
+unresolved-of-spec = tie.close (tie.spec (λ c κs. search needs) add-low add-high part-unresolved-requires returns)

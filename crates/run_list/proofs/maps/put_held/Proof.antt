@@ -30,14 +30,5 @@ returns c = search maps-written
 pub put-held-spec : {M : Type 1} → statement M
 put-held-spec =
     tie.close
-    (tie.spec
-    (λ c κs. search needs)
-    array-share-prefix-f
-    slice-aggregate-new-numbers
-    new-numbers-requires
-    array-share-prefix-f-2
-    slice-aggregate-put-rows
-    (λ c. search needs)
-    put-rows-requires
-    (λ c. search needs)
-    returns)
+    (tie.spec (λ c κs. search needs) array-share-prefix-f slice-aggregate-new-numbers new-numbers-requires array-share-prefix-f-2
+    slice-aggregate-put-rows (λ c. search needs) put-rows-requires (λ c. search needs) returns)

@@ -26,12 +26,5 @@ returns-3 c = search mapped-row
 pub new-number-spec : {M : Type 1} → statement M
 new-number-spec =
     tie.close
-    (tie.spec
-    (λ c κs. search needs)
-    returns
-    (λ c κs. search needs)
-    returns-2
-    array-share-prefix-f
-    slice-aggregate-row-number
-    row-number-requires
-    returns-3)
+    (tie.spec (λ c κs. search needs) returns (λ c κs. search needs) returns-2 array-share-prefix-f slice-aggregate-row-number
+    row-number-requires returns-3)

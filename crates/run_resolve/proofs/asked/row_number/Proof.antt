@@ -11,6 +11,4 @@ returns-2 : tie.Need-returns-2
 returns-2 c = search row-kept
 
 pub row-number-spec : {M : Type 1} → statement M
-row-number-spec =
-    tie.close
-    (tie.spec (λ c. search needs) returns (λ c κs. search needs) (λ c. search needs) (λ c. search needs) returns-2)
+row-number-spec = tie.close (tie.spec (λ c. search needs) returns (λ c κs. search needs) (λ c. search needs) (λ c. search needs) returns-2)

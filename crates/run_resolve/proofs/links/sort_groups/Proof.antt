@@ -9,11 +9,5 @@ sort-into-requires c κs = ((search needs, (search needs, search needs)), (searc
 pub sort-groups-spec : {M : Type 1} → statement M
 sort-groups-spec =
     tie.close
-    (tie.spec
-    (λ c. search needs)
-    (λ c. search needs)
-    (λ c. search needs)
-    (λ c. search needs)
-    (λ c. search needs)
-    sort-into-requires
+    (tie.spec (λ c. search needs) (λ c. search needs) (λ c. search needs) (λ c. search needs) (λ c. search needs) sort-into-requires
     (λ c. search needs))

@@ -36,14 +36,5 @@ returns c = (search needs, search left-done)
 pub sort-into-spec : {M : Type 1} → statement M
 sort-into-spec =
     tie.close
-    (tie.spec
-    Inv-loop
-    μ-loop
-    loop-holds
-    (λ c κs. search needs)
-    end-of-requires
-    (λ c κs. search needs)
-    (λ c. search needs)
-    (λ c. search needs)
-    loop-again
-    returns)
+    (tie.spec Inv-loop μ-loop loop-holds (λ c κs. search needs) end-of-requires (λ c κs. search needs) (λ c. search needs)
+    (λ c. search needs) loop-again returns)

@@ -30,11 +30,5 @@ returns c =
 pub keep-all-spec : {M : Type 1} → statement M
 keep-all-spec =
     tie.close
-    (tie.spec
-    (λ c. search needs)
-    (λ c. search needs)
-    slice-aggregate-put-slots
-    slice-aggregate-put-slots-2
-    slice-aggregate-put-slots-3
-    put-slots-requires
-    returns)
+    (tie.spec (λ c. search needs) (λ c. search needs) slice-aggregate-put-slots slice-aggregate-put-slots-2 slice-aggregate-put-slots-3
+    put-slots-requires returns)

@@ -31,14 +31,5 @@ returns c = (search lists-counted, search needs)
 pub put-all-spec : {M : Type 1} → statement M
 put-all-spec =
     tie.close
-    (tie.spec
-    (λ c. search needs)
-    (λ c. search needs)
-    slice-aggregate-new-numbers
-    new-numbers-requires
-    slice-aggregate-put-lists
-    (λ c. search needs)
-    slice-aggregate-put-lists-3
-    slice-aggregate-put-lists-4
-    put-lists-requires
-    returns)
+    (tie.spec (λ c. search needs) (λ c. search needs) slice-aggregate-new-numbers new-numbers-requires slice-aggregate-put-lists
+    (λ c. search needs) slice-aggregate-put-lists-3 slice-aggregate-put-lists-4 put-lists-requires returns)

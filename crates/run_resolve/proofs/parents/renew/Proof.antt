@@ -17,6 +17,4 @@ returns-2 : tie.Need-returns-2
 returns-2 c = search edges-over
 
 pub renew-spec : {M : Type 1} → statement M
-renew-spec =
-    tie.close
-    (tie.spec put-all-requires (λ c. search needs) keep-all-requires (λ c. search needs) returns returns-2)
+renew-spec = tie.close (tie.spec put-all-requires (λ c. search needs) keep-all-requires (λ c. search needs) returns returns-2)

@@ -16,11 +16,4 @@ returns-2 c = (search roots-new, search roots-few)
 pub renew-roots-spec : {M : Type 1} → statement M
 renew-roots-spec =
     tie.close
-    (tie.spec
-    returns
-    (λ c κs. search needs)
-    (λ c κs. search needs)
-    (λ c κs. search needs)
-    (λ c. search needs)
-    move-rows-requires
-    returns-2)
+    (tie.spec returns (λ c κs. search needs) (λ c κs. search needs) (λ c κs. search needs) (λ c. search needs) move-rows-requires returns-2)

@@ -16,11 +16,4 @@ returns-2 c = (search children-new, search children-few)
 pub renew-unresolved-spec : {M : Type 1} → statement M
 renew-unresolved-spec =
     tie.close
-    (tie.spec
-    returns
-    (λ c κs. search needs)
-    (λ c κs. search needs)
-    (λ c κs. search needs)
-    (λ c. search needs)
-    move-rows-requires
-    returns-2)
+    (tie.spec returns (λ c κs. search needs) (λ c κs. search needs) (λ c κs. search needs) (λ c. search needs) move-rows-requires returns-2)

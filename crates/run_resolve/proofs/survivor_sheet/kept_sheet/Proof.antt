@@ -34,10 +34,4 @@ returns c = record {
 pub kept-sheet-spec : {M : Type 1} → statement M
 kept-sheet-spec =
     tie.close
-    (tie.spec
-    (λ c κs. search needs)
-    kept-rows-requires
-    new-unresolved-requires
-    new-roots-requires
-    sort-groups-requires
-    returns)
+    (tie.spec (λ c κs. search needs) kept-rows-requires new-unresolved-requires new-roots-requires sort-groups-requires returns)

@@ -14,11 +14,4 @@ returns-3 : tie.Need-returns-3
 returns-3 c = search limits-kept
 
 pub limit-rules-spec : {M : Type 1} → statement M
-limit-rules-spec =
-    tie.close
-    (tie.spec
-    (λ c κs. search needs)
-    returns
-    (λ c κs. search needs)
-    returns-2
-    returns-3)
+limit-rules-spec = tie.close (tie.spec (λ c κs. search needs) returns (λ c κs. search needs) returns-2 returns-3)

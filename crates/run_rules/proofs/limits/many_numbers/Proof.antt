@@ -14,6 +14,4 @@ returns-3 : tie.Need-returns-3
 returns-3 c = search only-inbound
 
 pub many-numbers-spec : {M : Type 1} → statement M
-many-numbers-spec =
-    tie.close
-    (tie.spec (λ c κs. search needs) returns (λ c κs. search needs) returns-2 (λ c κs. search needs) returns-3)
+many-numbers-spec = tie.close (tie.spec (λ c κs. search needs) returns (λ c κs. search needs) returns-2 (λ c κs. search needs) returns-3)

@@ -19,22 +19,7 @@ slice-aggregate-encode-lent-4 c = search (needs, prefix-count)
 pub build-columns-spec : {M : Type 1} → statement M
 build-columns-spec =
     tie.close
-    (tie.spec
-    (λ c. search needs)
-    (λ c. search needs)
-    slice-aggregate-encode-lent
-    (λ c. search needs)
-    (λ c. search needs)
-    (λ c. search needs)
-    (λ c. search needs)
-    slice-aggregate-encode-lent-2
-    slice-aggregate-encode-lent-3
-    slice-aggregate-encode-lent-4
-    (λ c κs. search needs)
-    (λ c. search needs)
-    (λ c. search needs)
-    (λ c. search needs)
-    (λ c. search needs)
-    (λ c. search needs)
-    (λ c. search needs)
-    (λ c. search needs))
+    (tie.spec (λ c. search needs) (λ c. search needs) slice-aggregate-encode-lent (λ c. search needs) (λ c. search needs)
+    (λ c. search needs) (λ c. search needs) slice-aggregate-encode-lent-2 slice-aggregate-encode-lent-3 slice-aggregate-encode-lent-4
+    (λ c κs. search needs) (λ c. search needs) (λ c. search needs) (λ c. search needs) (λ c. search needs) (λ c. search needs)
+    (λ c. search needs) (λ c. search needs))

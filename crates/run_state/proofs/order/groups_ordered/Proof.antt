@@ -11,5 +11,4 @@ returns-2 : tie.Need-returns-2
 returns-2 c = search (needs, groups-rest)
 
 pub groups-ordered-spec : {M : Type 1} → statement M
-groups-ordered-spec =
-    tie.close (tie.spec (λ c κs. search needs) returns (λ c κs. search needs) returns-2)
+groups-ordered-spec = tie.close (tie.spec (λ c κs. search needs) returns (λ c κs. search needs) returns-2)

@@ -11,6 +11,4 @@ returns : tie.Need-returns
 returns c = search filled-is
 
 pub is-filled-spec : {M : Type 1} → statement M
-is-filled-spec =
-    tie.close
-    (tie.spec (λ c κs. search needs) (λ c. search needs) reaches-all-requires returns)
+is-filled-spec = tie.close (tie.spec (λ c κs. search needs) (λ c. search needs) reaches-all-requires returns)

@@ -13,12 +13,5 @@ returns c = search ordered-by
 pub is-ordered-spec : {M : Type 1} → statement M
 is-ordered-spec =
     tie.close
-    (tie.spec
-    (λ c κs. search needs)
-    (λ c κs. search needs)
-    (λ c. search needs)
-    (λ c. search needs)
-    (λ c. search needs)
-    (λ c. search needs)
-    columns-ordered-requires
-    returns)
+    (tie.spec (λ c κs. search needs) (λ c κs. search needs) (λ c. search needs) (λ c. search needs) (λ c. search needs) (λ c. search needs)
+    columns-ordered-requires returns)

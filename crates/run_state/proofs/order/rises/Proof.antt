@@ -11,5 +11,4 @@ returns-2 : tie.Need-returns-2
 returns-2 c = search (needs, rise-all)
 
 pub rises-spec : {M : Type 1} → statement M
-rises-spec =
-    tie.close (tie.spec returns (λ c. search needs) (λ c κs. search needs) returns-2)
+rises-spec = tie.close (tie.spec returns (λ c. search needs) (λ c κs. search needs) returns-2)

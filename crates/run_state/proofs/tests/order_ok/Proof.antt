@@ -16,10 +16,5 @@ are-earlier-requires c κs = (search needs, search form-cut)
 pub order-ok-spec : {M : Type 1} → statement M
 order-ok-spec =
     tie.close
-    (tie.spec
-    (λ c. search needs)
-    (λ c. search needs)
-    slice-aggregate-are-earlier
-    slice-aggregate-are-earlier-2
-    are-earlier-requires
+    (tie.spec (λ c. search needs) (λ c. search needs) slice-aggregate-are-earlier slice-aggregate-are-earlier-2 are-earlier-requires
     (λ c. search needs))

@@ -20,14 +20,5 @@ returns c = search (needs, slot-told)
 pub slot-earlier-spec : {M : Type 1} → statement M
 slot-earlier-spec =
     tie.close
-    (tie.spec
-    (λ c. search needs)
-    shared-slice-read-index
-    (λ c κs. search needs)
-    (λ c. search needs)
-    (λ c. search needs)
-    shared-slice-read-index-2
-    (λ c κs. search needs)
-    (λ c. search needs)
-    are-below-requires
-    returns)
+    (tie.spec (λ c. search needs) shared-slice-read-index (λ c κs. search needs) (λ c. search needs) (λ c. search needs)
+    shared-slice-read-index-2 (λ c κs. search needs) (λ c. search needs) are-below-requires returns)

@@ -22,12 +22,4 @@ returns-4 c = search parents-test
 pub columns-ok-spec : {M : Type 1} → statement M
 columns-ok-spec =
     tie.close
-    (tie.spec
-    (λ c κs. search needs)
-    returns
-    (λ c κs. search needs)
-    returns-2
-    (λ c κs. search needs)
-    returns-3
-    order-ok-requires
-    returns-4)
+    (tie.spec (λ c κs. search needs) returns (λ c κs. search needs) returns-2 (λ c κs. search needs) returns-3 order-ok-requires returns-4)

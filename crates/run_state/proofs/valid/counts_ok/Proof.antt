@@ -26,6 +26,4 @@ returns-7 : tie.Need-returns-7
 returns-7 c = search counts-last
 
 pub counts-ok-spec : {M : Type 1} → statement M
-counts-ok-spec =
-    tie.close
-    (tie.spec returns returns-2 returns-3 returns-4 returns-5 returns-6 (λ c. search needs) returns-7)
+counts-ok-spec = tie.close (tie.spec returns returns-2 returns-3 returns-4 returns-5 returns-6 (λ c. search needs) returns-7)

@@ -28,24 +28,6 @@ returns-4 c = search inbound-test
 pub ok-spec : {M : Type 1} → statement M
 ok-spec =
     tie.close
-    (tie.spec
-    (λ c κs. search needs)
-    returns
-    (λ c κs. search needs)
-    (λ c κs. search needs)
-    (λ c κs. search needs)
-    (λ c κs. search needs)
-    (λ c. search needs)
-    (λ c. search needs)
-    (λ c. search needs)
-    (λ c. search needs)
-    columns-ok-requires
-    returns-2
-    (λ c κs. search needs)
-    (λ c. search needs)
-    edges-ok-requires
-    returns-3
-    (λ c κs. search needs)
-    (λ c. search needs)
-    edges-ok-requires-2
-    returns-4)
+    (tie.spec (λ c κs. search needs) returns (λ c κs. search needs) (λ c κs. search needs) (λ c κs. search needs) (λ c κs. search needs)
+    (λ c. search needs) (λ c. search needs) (λ c. search needs) (λ c. search needs) columns-ok-requires returns-2 (λ c κs. search needs)
+    (λ c. search needs) edges-ok-requires returns-3 (λ c κs. search needs) (λ c. search needs) edges-ok-requires-2 returns-4)

@@ -35,16 +35,5 @@ returns c = search all-put
 pub put-flags-spec : {M : Type 1} → statement M
 put-flags-spec =
     tie.close
-    (tie.spec
-    Inv-loop
-    μ-loop
-    loop-holds
-    shared-slice-read-flag
-    (λ c κs. search needs)
-    (λ c. search needs)
-    (λ c. search needs)
-    (λ c. search needs)
-    add-p
-    (λ c. search needs)
-    loop-again
-    returns)
+    (tie.spec Inv-loop μ-loop loop-holds shared-slice-read-flag (λ c κs. search needs) (λ c. search needs) (λ c. search needs)
+    (λ c. search needs) add-p (λ c. search needs) loop-again returns)

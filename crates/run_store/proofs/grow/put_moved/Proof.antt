@@ -40,18 +40,5 @@ returns c = search all-put
 pub put-moved-spec : {M : Type 1} → statement M
 put-moved-spec =
     tie.close
-    (tie.spec
-    Inv-loop
-    μ-loop
-    loop-holds
-    add-load-u64
-    load-u64-requires
-    add-out
-    (λ c. search needs)
-    (λ c. search needs)
-    (λ c. search needs)
-    (λ c. search needs)
-    add-p
-    (λ c. search needs)
-    loop-again
-    returns)
+    (tie.spec Inv-loop μ-loop loop-holds add-load-u64 load-u64-requires add-out (λ c. search needs) (λ c. search needs) (λ c. search needs)
+    (λ c. search needs) add-p (λ c. search needs) loop-again returns)

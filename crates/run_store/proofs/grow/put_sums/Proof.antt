@@ -41,18 +41,5 @@ returns c = search all-summed
 pub put-sums-spec : {M : Type 1} → statement M
 put-sums-spec =
     tie.close
-    (tie.spec
-    Inv-loop
-    μ-loop
-    loop-holds
-    load-u32-requires
-    add-sum
-    cast-out
-    (λ c. search needs)
-    (λ c. search needs)
-    (λ c. search needs)
-    (λ c. search needs)
-    add-p
-    (λ c. search needs)
-    loop-again
-    returns)
+    (tie.spec Inv-loop μ-loop loop-holds load-u32-requires add-sum cast-out (λ c. search needs) (λ c. search needs) (λ c. search needs)
+    (λ c. search needs) add-p (λ c. search needs) loop-again returns)

@@ -37,17 +37,5 @@ returns c = search all-put
 pub put-u64s-spec : {M : Type 1} → statement M
 put-u64s-spec =
     tie.close
-    (tie.spec
-    Inv-loop
-    μ-loop
-    loop-holds
-    add-load-u64
-    load-u64-requires
-    (λ c. search needs)
-    (λ c. search needs)
-    (λ c. search needs)
-    (λ c. search needs)
-    add-p
-    (λ c. search needs)
-    loop-again
-    returns)
+    (tie.spec Inv-loop μ-loop loop-holds add-load-u64 load-u64-requires (λ c. search needs) (λ c. search needs) (λ c. search needs)
+    (λ c. search needs) add-p (λ c. search needs) loop-again returns)

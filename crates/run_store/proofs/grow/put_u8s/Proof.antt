@@ -37,16 +37,5 @@ returns c = search all-put
 pub put-u8s-spec : {M : Type 1} → statement M
 put-u8s-spec =
     tie.close
-    (tie.spec
-    Inv-loop
-    μ-loop
-    loop-holds
-    add-out
-    shared-slice-read-out
-    (λ c. search needs)
-    (λ c. search needs)
-    (λ c. search needs)
-    add-p
-    (λ c. search needs)
-    loop-again
-    returns)
+    (tie.spec Inv-loop μ-loop loop-holds add-out shared-slice-read-out (λ c. search needs) (λ c. search needs) (λ c. search needs) add-p
+    (λ c. search needs) loop-again returns)

@@ -8,5 +8,4 @@ returns : tie.Need-returns
 returns c = search names-added
 
 pub add-names-spec : {M : Type 1} → statement M
-add-names-spec =
-    tie.close (tie.spec (λ c κs. search needs) (λ c κs. search needs) (λ c κs. search needs) (λ c. search needs) returns)
+add-names-spec = tie.close (tie.spec (λ c κs. search needs) (λ c κs. search needs) (λ c κs. search needs) (λ c. search needs) returns)

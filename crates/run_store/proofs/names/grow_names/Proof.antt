@@ -39,16 +39,5 @@ returns-2 c = search names-none
 pub grow-names-spec : {M : Type 1} → statement M
 grow-names-spec =
     tie.close
-    (tie.spec
-    Inv-loop
-    μ-loop
-    loop-holds
-    (λ c κs. search needs)
-    (λ c. search needs)
-    (λ c. search needs)
-    add-names-requires
-    next-requires
-    loop-less
-    loop-again
-    returns
-    returns-2)
+    (tie.spec Inv-loop μ-loop loop-holds (λ c κs. search needs) (λ c. search needs) (λ c. search needs) add-names-requires next-requires
+    loop-less loop-again returns returns-2)

@@ -8,5 +8,4 @@ returns : tie.Need-returns
 returns c = search unresolved-added
 
 pub put-unresolved-spec : {M : Type 1} → statement M
-put-unresolved-spec =
-    tie.close (tie.spec (λ c κs. search needs) (λ c κs. search needs) (λ c κs. search needs) returns)
+put-unresolved-spec = tie.close (tie.spec (λ c κs. search needs) (λ c κs. search needs) (λ c κs. search needs) returns)

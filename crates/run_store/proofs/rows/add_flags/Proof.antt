@@ -8,6 +8,4 @@ returns : tie.Need-returns
 returns c = search flags-added
 
 pub add-flags-spec : {M : Type 1} → statement M
-add-flags-spec =
-    tie.close
-    (tie.spec (λ c. search needs) (λ c. search needs) (λ c. search needs) (λ c κs. search needs) returns)
+add-flags-spec = tie.close (tie.spec (λ c. search needs) (λ c. search needs) (λ c. search needs) (λ c κs. search needs) returns)

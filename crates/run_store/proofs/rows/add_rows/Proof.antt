@@ -8,5 +8,4 @@ returns : tie.Need-returns
 returns c = search rows-added
 
 pub add-rows-spec : {M : Type 1} → statement M
-add-rows-spec =
-    tie.close (tie.spec (λ c. search needs) (λ c κs. search needs) (λ c κs. search needs) (λ c κs. search needs) returns)
+add-rows-spec = tie.close (tie.spec (λ c. search needs) (λ c κs. search needs) (λ c κs. search needs) (λ c κs. search needs) returns)

@@ -8,6 +8,4 @@ returns : tie.Need-returns
 returns c = search tags-added
 
 pub add-tags-spec : {M : Type 1} → statement M
-add-tags-spec =
-    tie.close
-    (tie.spec (λ c. search needs) (λ c. search needs) (λ c. search needs) (λ c κs. search needs) returns)
+add-tags-spec = tie.close (tie.spec (λ c. search needs) (λ c. search needs) (λ c. search needs) (λ c κs. search needs) returns)

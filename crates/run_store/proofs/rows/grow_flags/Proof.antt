@@ -41,18 +41,5 @@ returns-2 c = search flags-none
 pub grow-flags-spec : {M : Type 1} → statement M
 grow-flags-spec =
     tie.close
-    (tie.spec
-    Inv-loop
-    μ-loop
-    loop-holds
-    (λ c κs. search needs)
-    (λ c. search needs)
-    (λ c. search needs)
-    (λ c. search needs)
-    add-flags-requires
-    add-c
-    next-requires
-    loop-less
-    loop-again
-    returns
-    returns-2)
+    (tie.spec Inv-loop μ-loop loop-holds (λ c κs. search needs) (λ c. search needs) (λ c. search needs) (λ c. search needs)
+    add-flags-requires add-c next-requires loop-less loop-again returns returns-2)

@@ -42,18 +42,5 @@ returns-2 c = search rows-none
 pub grow-rows-spec : {M : Type 1} → statement M
 grow-rows-spec =
     tie.close
-    (tie.spec
-    Inv-loop
-    μ-loop
-    loop-holds
-    (λ c κs. search needs)
-    (λ c. search needs)
-    (λ c. search needs)
-    add-rows-requires
-    (λ c. search needs)
-    add-c
-    next-requires
-    loop-less
-    loop-again
-    returns
-    returns-2)
+    (tie.spec Inv-loop μ-loop loop-holds (λ c κs. search needs) (λ c. search needs) (λ c. search needs) add-rows-requires
+    (λ c. search needs) add-c next-requires loop-less loop-again returns returns-2)

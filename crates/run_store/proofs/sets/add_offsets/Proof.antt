@@ -13,4 +13,5 @@ put-offsets-requires c κs = (search table-room, (search needs, search needs))
 pub add-offsets-spec : {M : Type 1} → statement M
 add-offsets-spec =
     tie.close
-    (tie.spec (λ c. search needs) (λ c. search needs) (λ c. search needs) slice-aggregate-put-offsets put-offsets-requires (λ c. search needs))
+    (tie.spec (λ c. search needs) (λ c. search needs) (λ c. search needs) slice-aggregate-put-offsets put-offsets-requires
+    (λ c. search needs))

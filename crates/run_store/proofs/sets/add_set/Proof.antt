@@ -14,6 +14,4 @@ returns : tie.Need-returns
 returns c = search set-added
 
 pub add-set-spec : {M : Type 1} → statement M
-add-set-spec =
-    tie.close
-    (tie.spec (λ c. search needs) (λ c κs. search needs) add-offsets-requires add-targets-requires returns)
+add-set-spec = tie.close (tie.spec (λ c. search needs) (λ c κs. search needs) add-offsets-requires add-targets-requires returns)

@@ -13,10 +13,5 @@ slice-aggregate-put-targets-2 c = search numbers-front
 pub add-targets-spec : {M : Type 1} → statement M
 add-targets-spec =
     tie.close
-    (tie.spec
-    (λ c. search needs)
-    (λ c. search needs)
-    slice-aggregate-put-targets
-    slice-aggregate-put-targets-2
-    (λ c κs. search needs)
+    (tie.spec (λ c. search needs) (λ c. search needs) slice-aggregate-put-targets slice-aggregate-put-targets-2 (λ c κs. search needs)
     (λ c. search needs))

@@ -45,20 +45,5 @@ returns-2 c = search side-none
 pub grow-set-spec : {M : Type 1} → statement M
 grow-set-spec =
     tie.close
-    (tie.spec
-    Inv-loop
-    μ-loop
-    loop-holds
-    (λ c κs. search needs)
-    (λ c. search needs)
-    (λ c. search needs)
-    (λ c κs. search needs)
-    add-set-requires
-    add-c
-    (λ c. search needs)
-    add-n
-    next-requires
-    loop-less
-    loop-again
-    returns
-    returns-2)
+    (tie.spec Inv-loop μ-loop loop-holds (λ c κs. search needs) (λ c. search needs) (λ c. search needs) (λ c κs. search needs)
+    add-set-requires add-c (λ c. search needs) add-n next-requires loop-less loop-again returns returns-2)

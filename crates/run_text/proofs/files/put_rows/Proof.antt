@@ -25,13 +25,5 @@ returns c = search (needs, rows-written)
 pub put-rows-spec : {M : Type 1} → statement M
 put-rows-spec =
     tie.close
-    (tie.spec
-    (λ c. search needs)
-    (λ c. search needs)
-    array-share-prefix-offsets
-    slice-aggregate-put-set
-    array-share-prefix-deltas
-    slice-aggregate-put-set-2
-    put-set-requires
-    (λ c. search needs)
-    returns)
+    (tie.spec (λ c. search needs) (λ c. search needs) array-share-prefix-offsets slice-aggregate-put-set array-share-prefix-deltas
+    slice-aggregate-put-set-2 put-set-requires (λ c. search needs) returns)

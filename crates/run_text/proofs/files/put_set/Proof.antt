@@ -8,5 +8,4 @@ returns : tie.Need-returns
 returns c = search (needs, set-written)
 
 pub put-set-spec : {M : Type 1} → statement M
-put-set-spec =
-    tie.close (tie.spec (λ c κs. search needs) (λ c κs. search needs) (λ c. search needs) returns)
+put-set-spec = tie.close (tie.spec (λ c κs. search needs) (λ c κs. search needs) (λ c. search needs) returns)

@@ -8,5 +8,4 @@ returns : tie.Need-returns
 returns c = search (needs, reparented-written)
 
 pub put-reparented-spec : {M : Type 1} → statement M
-put-reparented-spec =
-    tie.close (tie.spec (λ c. search needs) (λ c κs. search needs) (λ c. search needs) returns)
+put-reparented-spec = tie.close (tie.spec (λ c. search needs) (λ c κs. search needs) (λ c. search needs) returns)

@@ -20,5 +20,4 @@ returns-5 : tie.Need-returns-5
 returns-5 c = search labels-kept
 
 pub labels-rules-spec : {M : Type 1} → statement M
-labels-rules-spec =
-    tie.close (tie.spec returns returns-2 returns-3 (λ c κs. search needs) returns-4 returns-5)
+labels-rules-spec = tie.close (tie.spec returns returns-2 returns-3 (λ c κs. search needs) returns-4 returns-5)

@@ -11,6 +11,4 @@ returns-2 : tie.Need-returns-2
 returns-2 c = search no-part
 
 pub in-file-at-spec : {M : Type 1} → statement M
-in-file-at-spec =
-    tie.close
-    (tie.spec (λ c. search needs) (λ c. search needs) (λ c κs. search needs) returns returns-2)
+in-file-at-spec = tie.close (tie.spec (λ c. search needs) (λ c. search needs) (λ c κs. search needs) returns returns-2)

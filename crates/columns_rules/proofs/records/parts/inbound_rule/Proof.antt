@@ -19,11 +19,4 @@ returns-4 c = search edge-kept
 pub inbound-rule-spec : {M : Type 1} → statement M
 inbound-rule-spec =
     tie.close
-    (tie.spec
-    (λ c κs. search needs)
-    returns
-    (λ c κs. search needs)
-    returns-2
-    (λ c κs. search needs)
-    returns-3
-    returns-4)
+    (tie.spec (λ c κs. search needs) returns (λ c κs. search needs) returns-2 (λ c κs. search needs) returns-3 returns-4)

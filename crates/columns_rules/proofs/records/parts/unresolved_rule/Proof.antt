@@ -19,11 +19,4 @@ returns-4 c = search record-kept
 pub unresolved-rule-spec : {M : Type 1} → statement M
 unresolved-rule-spec =
     tie.close
-    (tie.spec
-    (λ c κs. search needs)
-    returns
-    (λ c κs. search needs)
-    returns-2
-    (λ c κs. search needs)
-    returns-3
-    returns-4)
+    (tie.spec (λ c κs. search needs) returns (λ c κs. search needs) returns-2 (λ c κs. search needs) returns-3 returns-4)

@@ -26,13 +26,4 @@ returns-5 : tie.Need-returns-5
 returns-5 c = search spans-kept
 
 pub span-rules-spec : {M : Type 1} → statement M
-span-rules-spec =
-    tie.close
-    (tie.spec
-    returns
-    returns-2
-    slots-fit-requires
-    returns-3
-    slots-fit-requires-2
-    returns-4
-    returns-5)
+span-rules-spec = tie.close (tie.spec returns returns-2 slots-fit-requires returns-3 slots-fit-requires-2 returns-4 returns-5)

@@ -19,17 +19,5 @@ returns c = search (needs, gran-says)
 pub slot-fits-spec : {M : Type 1} → statement M
 slot-fits-spec =
     tie.close
-    (tie.spec
-    (λ c. search needs)
-    (λ c. search needs)
-    (λ c. search needs)
-    shared-slice-read-index
-    (λ c κs. search needs)
-    (λ c. search needs)
-    (λ c. search needs)
-    shared-slice-read-index-2
-    (λ c κs. search needs)
-    (λ c. search needs)
-    (λ c. search needs)
-    all-fit-requires
-    returns)
+    (tie.spec (λ c. search needs) (λ c. search needs) (λ c. search needs) shared-slice-read-index (λ c κs. search needs) (λ c. search needs)
+    (λ c. search needs) shared-slice-read-index-2 (λ c κs. search needs) (λ c. search needs) (λ c. search needs) all-fit-requires returns)

@@ -11,5 +11,4 @@ returns : tie.Need-returns
 returns c = (search others-few, search others-laid)
 
 pub edges-into-spec : {M : Type 1} → statement M
-edges-into-spec =
-    tie.close (tie.spec (λ c. search needs) (λ c. search needs) rows-edges-requires returns)
+edges-into-spec = tie.close (tie.spec (λ c. search needs) (λ c. search needs) rows-edges-requires returns)

@@ -25,22 +25,6 @@ returns c = (search high-ends, search row-laid)
 pub row-edges-spec : {M : Type 1} → statement M
 row-edges-spec =
     tie.close
-    (tie.spec
-    (λ c. search needs)
-    (λ c. search needs)
-    shared-slice-read-index
-    (λ c κs. search needs)
-    (λ c. search needs)
-    (λ c. search needs)
-    (λ c. search needs)
-    shared-slice-read-index-2
-    (λ c κs. search needs)
-    (λ c. search needs)
-    (λ c. search needs)
-    (λ c. search needs)
-    shared-slice-read-index-3
-    (λ c κs. search needs)
-    (λ c. search needs)
-    slot-edges-requires
-    slot-edges-requires-2
-    returns)
+    (tie.spec (λ c. search needs) (λ c. search needs) shared-slice-read-index (λ c κs. search needs) (λ c. search needs) (λ c. search needs)
+    (λ c. search needs) shared-slice-read-index-2 (λ c κs. search needs) (λ c. search needs) (λ c. search needs) (λ c. search needs)
+    shared-slice-read-index-3 (λ c κs. search needs) (λ c. search needs) slot-edges-requires slot-edges-requires-2 returns)

@@ -21,11 +21,5 @@ count-reparented-requires c κs = search form-here
 pub count-parts-spec : {M : Type 1} → statement M
 count-parts-spec =
     tie.close
-    (tie.spec
-    (λ c. search needs)
-    (λ c. search needs)
-    slice-aggregate-count-reparented
-    slice-aggregate-count-reparented-2
-    slice-aggregate-count-reparented-3
-    count-reparented-requires
-    (λ c. search needs))
+    (tie.spec (λ c. search needs) (λ c. search needs) slice-aggregate-count-reparented slice-aggregate-count-reparented-2
+    slice-aggregate-count-reparented-3 count-reparented-requires (λ c. search needs))

@@ -11,5 +11,4 @@ returns : tie.Need-returns
 returns c = search reparented-held
 
 pub reparented-spec : {M : Type 1} → statement M
-reparented-spec =
-    tie.close (tie.spec (λ c κs. search needs) (λ c. search needs) count-rows-requires returns)
+reparented-spec = tie.close (tie.spec (λ c κs. search needs) (λ c. search needs) count-rows-requires returns)

@@ -10,10 +10,4 @@ returns c = (record { count = search needs; children = search column-kept; kinds
 pub compact-unresolved-spec : {M : Type 1} → statement M
 compact-unresolved-spec =
     tie.close
-    (tie.spec
-    (λ c κs. search needs)
-    (λ c κs. search needs)
-    (λ c κs. search needs)
-    (λ c κs. search needs)
-    (λ c κs. search needs)
-    returns)
+    (tie.spec (λ c κs. search needs) (λ c κs. search needs) (λ c κs. search needs) (λ c κs. search needs) (λ c κs. search needs) returns)

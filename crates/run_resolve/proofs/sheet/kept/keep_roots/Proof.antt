@@ -16,9 +16,4 @@ returns c = (search roots-named, search needs)
 pub keep-roots-spec : {M : Type 1} → statement M
 keep-roots-spec =
     tie.close
-    (tie.spec
-    (λ c κs. search needs)
-    (λ c. search needs)
-    slice-aggregate-compact-roots
-    compact-roots-requires
-    returns)
+    (tie.spec (λ c κs. search needs) (λ c. search needs) slice-aggregate-compact-roots compact-roots-requires returns)

@@ -16,9 +16,4 @@ returns c = (search unresolved-named, search needs)
 pub keep-unresolved-spec : {M : Type 1} → statement M
 keep-unresolved-spec =
     tie.close
-    (tie.spec
-    (λ c κs. search needs)
-    (λ c. search needs)
-    slice-aggregate-compact-unresolved
-    compact-unresolved-requires
-    returns)
+    (tie.spec (λ c κs. search needs) (λ c. search needs) slice-aggregate-compact-unresolved compact-unresolved-requires returns)

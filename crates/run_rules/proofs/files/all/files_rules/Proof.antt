@@ -50,21 +50,5 @@ returns-3 c = search (first-look, files-done)
 pub files-rules-spec : {M : Type 1} → statement M
 files-rules-spec =
     tie.close
-    (tie.spec
-    Inv-loop
-    μ-loop
-    (λ c κs. search needs)
-    loop-holds
-    (λ c κs. search needs)
-    (λ c. search needs)
-    (λ c. search needs)
-    returns
-    next-rules-requires
-    (λ c. search needs)
-    returns-2
-    (λ c. search needs)
-    see-after-requires
-    next-requires
-    loop-less
-    loop-again
-    returns-3)
+    (tie.spec Inv-loop μ-loop (λ c κs. search needs) loop-holds (λ c κs. search needs) (λ c. search needs) (λ c. search needs) returns
+    next-rules-requires (λ c. search needs) returns-2 (λ c. search needs) see-after-requires next-requires loop-less loop-again returns-3)

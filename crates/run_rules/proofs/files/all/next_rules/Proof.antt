@@ -11,6 +11,4 @@ returns : tie.Need-returns
 returns c = search seen-rules
 
 pub next-rules-spec : {M : Type 1} → statement M
-next-rules-spec =
-    tie.close
-    (tie.spec (λ c. search needs) slice-aggregate-file-rules (λ c κs. search needs) returns)
+next-rules-spec = tie.close (tie.spec (λ c. search needs) slice-aggregate-file-rules (λ c κs. search needs) returns)

@@ -8,4 +8,6 @@ returns : tie.Need-returns
 returns c = (search seen-cut, search needs)
 
 pub see-in-spec : {M : Type 1} → statement M
-see-in-spec = tie.close (tie.spec (λ c. search needs) (λ c. search needs) (λ c. search needs) (λ c. search needs) (λ c κs. search needs) returns)
+see-in-spec =
+    tie.close
+    (tie.spec (λ c. search needs) (λ c. search needs) (λ c. search needs) (λ c. search needs) (λ c κs. search needs) returns)

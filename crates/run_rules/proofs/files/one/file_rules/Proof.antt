@@ -14,6 +14,4 @@ returns-2 : tie.Need-returns-2
 returns-2 c = search then-rest
 
 pub file-rules-spec : {M : Type 1} → statement M
-file-rules-spec =
-    tie.close
-    (tie.spec (λ c κs. search needs) (λ c. search needs) (λ c. search needs) rest-rules-requires returns returns-2)
+file-rules-spec = tie.close (tie.spec (λ c κs. search needs) (λ c. search needs) (λ c. search needs) rest-rules-requires returns returns-2)

@@ -19,16 +19,5 @@ returns c =
 pub ends-fit-spec : {M : Type 1} → statement M
 ends-fit-spec =
     tie.close
-    (tie.spec
-    (λ c. search needs)
-    (λ c κs. search needs)
-    (λ c. search needs)
-    (λ c. search needs)
-    (λ c. search needs)
-    (λ c κs. search needs)
-    (λ c. search needs)
-    slice-aggregate-links-fit
-    (λ c. search needs)
-    slice-aggregate-links-fit-2
-    (λ c κs. search needs)
-    returns)
+    (tie.spec (λ c. search needs) (λ c κs. search needs) (λ c. search needs) (λ c. search needs) (λ c. search needs) (λ c κs. search needs)
+    (λ c. search needs) slice-aggregate-links-fit (λ c. search needs) slice-aggregate-links-fit-2 (λ c κs. search needs) returns)

@@ -13,10 +13,5 @@ slice-aggregate-set-rules-2 c = search deltas-count
 pub loaded-rules-spec : {M : Type 1} → statement M
 loaded-rules-spec =
     tie.close
-    (tie.spec
-    (λ c. search needs)
-    (λ c. search needs)
-    slice-aggregate-set-rules
-    slice-aggregate-set-rules-2
-    (λ c κs. search needs)
+    (tie.spec (λ c. search needs) (λ c. search needs) slice-aggregate-set-rules slice-aggregate-set-rules-2 (λ c κs. search needs)
     (λ c. search needs))

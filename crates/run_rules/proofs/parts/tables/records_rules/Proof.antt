@@ -11,5 +11,4 @@ returns-2 : tie.Need-returns-2
 returns-2 c = search then-records
 
 pub records-rules-spec : {M : Type 1} → statement M
-records-rules-spec =
-    tie.close (tie.spec (λ c κs. search needs) returns (λ c κs. search needs) returns-2)
+records-rules-spec = tie.close (tie.spec (λ c κs. search needs) returns (λ c κs. search needs) returns-2)
