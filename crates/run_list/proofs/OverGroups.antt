@@ -1,5 +1,5 @@
 -- The files of the groups from one on: their lines and what those take. All are those from group 0 on; one turn of each loop goes from g to g + 1.
-use mathlib.Core.Path.{_≡_, refl, sym, ap, _∙_}
+use mathlib.Core.Path.{_≡_, refl, ap, _∙_}
 use mathlib.Core.List.{List, [], _∷_, _++_, map}
 use mathlib.Core.Option.{none}
 use Prim.Native.Nat.{ℕ, suc, _+_, _-_, _*_, _≤_, _<_}
@@ -16,12 +16,13 @@ use Rattle.cleaning.specs.Listing.{fileLines}
 use Rattle.cleaning.specs.Sheet as plain
 use Rattle.cleaning.specs.Sections.{sectionGraph, sectionFile, sectionRules}
 use Rattle.columns.specs.Building.{buildRules}
+use Rattle.columns.proofs.Told.{told-kept}
 use Rattle.run_state.specs.declared.Sheet.{Sheet}
 use Rattle.run_state.specs.View.{factsAt, sheetIn}
 use Rattle.run_state.specs.output.View.{fileIn}
 use Rattle.run_output.specs.by_value.Made.{Made}
 use Rattle.run_output.specs.declared.by_value.GroupFile.{GroupFile}
-use Rattle.run_write.proofs.Rest.{rulesFrom, kept-none, rules-end, rules-first}
+use Rattle.run_write.proofs.Rest.{rulesFrom, rules-end, rules-first}
 use Rattle.run_text.specs.numbers.Wrote.{Wrote}
 use Rattle.run_text.proofs.lines.Columns.{Going}
 use Rattle.run_list.specs.Need.{fileNeed, filesNeed}
@@ -88,7 +89,7 @@ module _ (s : Sheet) where
 module _ (s : plain.Sheet) (g n : ℕ) {r : GroupFile} (m : Made s g r) (h : g < n) where
   pub turn-need : r .ruling ≡ Kept → {l q : ℕ} (t : ℕ) → l ≡ t + needFrom s g n → q ≡ fileNeed (fileIn (r .file)) → l ≡ t + q + needFrom s (g + 1) n
   turn-need k t e f =
-      let z = m .file (kept-none (buildRules (sectionGraph s g)) (sym (m .rules) ∙ k)) in
+      let z = m .file (told-kept (buildRules (sectionGraph s g)) (m .rules) k) in
       omega (arith, need-next s g n h, ap fileNeed z)
 
   module _ (k : rulesFrom s g n ≡ none) where

@@ -12,6 +12,7 @@ use lib.Seq.{sets, length-sets, length-take-le}
 use borrow.Author.Tests.{lt-leb, leb-true, ltb-true}
 use Rattle.lists.specs.Lists.{sum}
 use Rattle.lists.proofs.Tests.{both}
+use Rattle.lists.proofs.Slices.{take-sets}
 use Rattle.columns.specs.Limits.{end64}
 use Rattle.columns.specs.Refusal.{firstOf}
 use Rattle.columns.specs.Building.{subjectOk, numbersOk}
@@ -21,7 +22,7 @@ use Rattle.columns.proofs.FirstBroken.{each-none, passed}
 use Rattle.columns.specs.Answers.{ruling}
 use Rattle.columns.specs.declared.refusal.Ruling.{Ruling}
 use Rattle.columns.specs.declared.refusal.Ruling.the-variants.{Kept, Broken}
-use Rattle.columns_rules.proofs.Told.{told-kept, stops-here, goes-on}
+use Rattle.columns.proofs.Told.{told-kept, stops-here, goes-on}
 use Rattle.archive.specs.Reader.{Parsed, broken, got, andThen, _>>=_}
 use Rattle.archive.specs.File.{CoverColumns, File}
 use Rattle.archive.specs.Parse.{file, files, parse}
@@ -37,7 +38,6 @@ use Rattle.cleaning.specs.Held.{ending}
 use Rattle.cleaning.specs.Taking.{fileRules, filesRules}
 use Rattle.run_rules.specs.parts.Back.{backOf}
 use Rattle.run_rules.specs.declared.parts.heads.Back.{Back}
-use Rattle.run_rules.proofs.parts.SetOrder.{take-sets}
 use Rattle.run_rules.specs.files.Parts.{subjectIn, Small}
 use Rattle.run_rules.specs.files.Archive.{rulesOf, Within, seenOf, endsWith}
 use Rattle.run_rules.specs.declared.files.all.Seen.{Seen}

@@ -8,12 +8,12 @@ use Prim.Native.Nat.{ℕ, suc, _+_, _-_, _≤_, _<_}
 use native.Mathlib.Omega.{arith}
 use native.Mathlib.Nat.{not-suc-le-zero, zero-add}
 use lib.Dec.{ltb}
-use lib.ListN.{length, getD, length-append}
+use lib.ListN.{length, getD}
 use borrow.Author.Tests.{ltb-true, ltb-false, le-leb}
-use Rattle.lists.specs.Lists.{isEmpty, upFrom, mem, add, Each}
+use Rattle.lists.specs.Lists.{isEmpty, upFrom, add, Each}
 use Rattle.lists.proofs.Tests.{tested, all-each}
 use Rattle.lists.proofs.Each.{each-imp}
-use Rattle.lists.proofs.Once.{add-there, add-new}
+use Rattle.lists.proofs.Once.{add-there, add-new, fold-grows}
 use Rattle.lists.proofs.Rising.{mem-upFrom}
 use Rattle.lists.proofs.Flat.{upFrom-snoc, length-upFrom}
 use Rattle.cleaning.specs.Source.{SourceCover, Source, isThere}
@@ -104,18 +104,8 @@ add-number n g l m = elim (tested (ltb g n)) [
       ∙ ap (λ k. upFrom 0 k ++ (g ∷ [])) b ∙ sym (upFrom-snoc 0 g ∙ ap (λ k. upFrom 0 g ++ (k ∷ [])) (zero-add g))
 ]
 
-more-added : (s : List ℕ) (x : ℕ) → length s ≤ length (add s x)
-more-added s x = elim (tested (mem x s)) [
-  | inl e ↦ rw (add-there s x e) (omega arith)
-  | inr e ↦ rw (add-new s x e, length-append s (x ∷ [])) (omega arith)
-]
-
-more-folded : (s xs : List ℕ) → length s ≤ length (foldl add s xs)
-more-folded s [] = omega arith
-more-folded s (x ∷ xs) = omega (arith, more-added s x, more-folded (add s x) xs)
-
 -- a group is below the limit that the groups of all files keep
 pub group-below : (n g m : ℕ) (gs : List ℕ) → g ≤ n → n ≤ suc g → length (foldl add (upFrom 0 n) (g ∷ gs)) ≤ m → g < m
 group-below n g m gs l k h =
     let z : foldl add (upFrom 0 n) (g ∷ gs) ≡ foldl add (upFrom 0 (suc g)) gs = ap (λ s. foldl add s gs) (add-number n g l k) in
-    omega (arith, more-folded (upFrom 0 (suc g)) gs, length-upFrom 0 (suc g), ap length z)
+    omega (arith, fold-grows (upFrom 0 (suc g)) gs, length-upFrom 0 (suc g), ap length z)
