@@ -1,11 +1,11 @@
 -- Numbers and other things one after the other in bytes.
 use mathlib.Core.Path.{_≡_, refl, _∙_, ap}
-use mathlib.Core.List.{List, [], _∷_, _++_}
+use mathlib.Core.List.{List, [], _∷_}
 use Prim.Native.Nat.{ℕ, zero, suc, _≤_, _<_, _+_, _-_}
-use native.Mathlib.Nat.{add-zero, add-suc, suc-add}
+use native.Mathlib.Nat.{add-zero}
 use native.Mathlib.Omega.{arith}
-use lib.ListN.{length, set, drop}
-use lib.Seq.{sets, drop-drop, getD-drop}
+use lib.ListN.{drop}
+use lib.Seq.{drop-drop, getD-drop}
 use Rattle.archive_bytes.specs.Bytes.{be, several}
 
 -- a number from place p on is the number at the front of what is left there
@@ -25,7 +25,3 @@ module _ {A : Type 0} (w : ℕ) (f : List ℕ → A) (n i : ℕ) (l : List ℕ) 
   pub several-cons : i < n → several w f (n - i) (drop p l) ≡ f (drop p l) ∷ several w f (n - (i + 1)) (drop (p + w) l)
   unfolding several
   several-cons h = let z : n - i ≡ suc (n - (i + 1)) = omega arith in rw (z, drop-drop w p l)
-
-pub sets-append : {A : Type 0} (l : List A) (p : ℕ) (xs ys : List A) → sets l p (xs ++ ys) ≡ sets (sets l p xs) (p + length xs) ys
-sets-append l p [] ys = rw add-zero
-sets-append l p (x ∷ xs) ys = sets-append (set l p x) (suc p) xs ys ∙ rw (suc-add, add-suc)

@@ -9,9 +9,9 @@ use lib.IntN.{ℤ}
 use lib.ListN.{length, take, length-append}
 use lib.Seq.{sets, take-length}
 use Rattle.lists.specs.Lists.{flat}
+use Rattle.lists.proofs.Slices.{sets-append}
 use Rattle.archive_bytes.specs.Bytes.{bytesOf, unsignedOf}
 use Rattle.archive_bytes.proofs.Numbers.{length-bytesOf}
-use Rattle.archive_bytes.proofs.Several.{sets-append}
 use Rattle.archive.specs.Encode.{recordBytes, columnBytes, depthBytes, setBytes, setsBytes, flagOf, rowBytes, unresolvedBytes, rootBytes, rangeBytes, linksBytes, countedBytes}
 use Rattle.archive.proofs.Lengths.{length-column, length-set}
 use Rattle.archive_store.specs.Lent.{startBytes, depthFrom, headFrom, setFrom, setSize, rowFrom, unresolvedFrom, rootFrom, rangeFrom, linksFrom}

@@ -7,9 +7,9 @@ use native.Mathlib.Omega.{arith}
 use lib.ListN.{length, getD, drop, drop-of-length-le, length-append}
 use lib.Seq.{sets, drop-cons}
 use Rattle.lists.specs.Lists.{flat}
+use Rattle.lists.proofs.Slices.{sets-append}
 use Rattle.archive_bytes.specs.Bytes.{bytesOf}
 use Rattle.cover.specs.Cover.{LinkColumns}
-use Rattle.archive_bytes.proofs.Several.{sets-append}
 use Rattle.archive.specs.Encode.{columnBytes, rowBytes, unresolvedBytes, rootBytes, rangeBytes, linksBytes, coverBytes, countedBytes}
 use Rattle.archive.proofs.Lengths.{length-column, length-counted, wide-row, wide-unresolved, wide-root, wide-range}
 use Rattle.archive_store.specs.Lent.{zip2, zip3, rowFrom, unresolvedFrom, rootFrom, rangeFrom, coverFrom}

@@ -12,9 +12,9 @@ use Rattle.columns.specs.Limits.{maxRecords, maxNumbers}
 use Rattle.columns.specs.Refusal.{refuse, firstOf, Lent, short, limits}
 use Rattle.columns.specs.declared.refusal.Refusal.{Refusal}
 use Rattle.columns.specs.declared.refusal.Refusal.the-variants.{SliceShort, OverRecords, OverNumbers}
-use Rattle.columns.proofs.FirstBroken.{each-none, not-refused, passed}
+use Rattle.columns.proofs.FirstBroken.{each-none, not-refused, passed, passes}
 use Rattle.cover_rows.proofs.limits.Anyone.{any-nil, few-first}
-use Rattle.cover_rows.proofs.limits.Verdicts.{limits-records, limits-numbers, limits-short, limits-none, refuse-not, refuse-none}
+use Rattle.cover_rows.proofs.limits.Verdicts.{limits-records, limits-numbers, limits-short, limits-none, refuse-not}
 use Rattle.archive_store.specs.records.Sizes.{setsSize, coverBody}
 use Rattle.archive_write.specs.Writes.{writeRules, even3, evenCover, subjectFits, asked}
 use Rattle.archive_write.specs.declared.rules.Asked.{Asked}
@@ -115,7 +115,7 @@ module _ (records columns : List ℕ) (len at n : ℕ) (x : Refusal) (ok : Bool)
 
     all-fine : not u ≡ false → Fine ≡ asked (writeRules records columns len at n x ok)
     unfolding writeRules firstOf asked
-    all-fine f = rw (e, refuse-none x ok (sym k ∙ not-false u f))
+    all-fine f = rw (e, passes x ok (sym k ∙ not-false u f))
 
 -- columns of records
 module _ (records : List ℕ) (len at n : ℕ) (x : Refusal) (ok : Bool) {b : Bool} (d : b ≡ any (ltb maxRecords) records) where

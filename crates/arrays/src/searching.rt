@@ -1,8 +1,11 @@
-// Where a number stands in a column that doesn't fall: binary searches over columns of 32 and of 64 bits.
+// Whether a number stands in a part of a column, and where it stands in a column that doesn't fall: binary searches over columns of 32 and of
+// 64 bits.
 ghost use mathlib.Core.Path.{_≡_};
 ghost use mathlib.Core.Bool.{true};
 ghost use Prim.Native.Nat.{_≤_};
 ghost use lib.ListN.{length};
+ghost use lib.Seq.{slice};
+ghost use Rattle.lists.specs.Lists.{mem};
 ghost use Rattle.lists.specs.Order.{notFalling};
 ghost use Rattle.arrays.specs.searching.Place.{placeOf};
 
@@ -10,6 +13,21 @@ fn wide(x: u32) -> u64
     ensures { λ r. ⌜ r ≡ x ⌝ }
 {
     x as u64
+}
+
+// Whether x is one of list[from..to].
+pub fn among(list: &[u64], from: usize, to: usize, x: u64) -> bool
+    requires { ⌜ to ≤ length (now list) ⌝ }
+    ensures { λ r. ⌜ r ≡ mem x (slice from to (now (list .entry))) ⌝ }
+{
+    let mut i = from;
+    while i < to {
+        if list[i] == x {
+            return true;
+        }
+        i += 1;
+    }
+    false
 }
 
 // How many numbers of a column of 32 bits are below x.

@@ -8,7 +8,7 @@ use native.Mathlib.Nat.{add-zero}
 use lib.ListN.{length, getD, length-append}
 use lib.Seq.{append-snoc, getD-append-seam}
 use Rattle.lists.specs.Lists.{flat, sum, upFrom, Each}
-use Rattle.lists.proofs.Flat.{flat-ext, map-flat}
+use Rattle.lists.proofs.Flat.{flat-ext, map-flat, flat-map}
 use Rattle.cover.specs.Chains.{Link}
 use Rattle.cleaning.specs.Source.{Source, sourceOf}
 use Rattle.cleaning.specs.Archive.{Taken, Group, groupOf, linksIn, joinAt, addSource, groupsOf, startOf, subjectOf, eventsOf, eventsFrom, archiveOf}
@@ -28,10 +28,6 @@ again S = record { sources = map sourceOf (outputs S) }
 -- the source of the output file of a group
 abbrev pub sourceAt : Summary → ℕ → Source
 sourceAt S g = sourceOf (outputOf S g)
-
-flat-map : {A B C : Type 0} (f : B → List C) (h : A → B) (xs : List A) → flat f (map h xs) ≡ flat (λ x. f (h x)) xs
-flat-map f h [] = refl
-flat-map f h (x ∷ xs) = ap (λ ys. f (h x) ++ ys) (flat-map f h xs)
 
 pub sources-again : (S : Summary) → again S .sources ≡ map (sourceAt S) (groupNumbers S)
 unfolding outputs

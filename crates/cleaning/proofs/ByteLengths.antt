@@ -1,18 +1,16 @@
 -- How many bytes the records of a file have, so that a file within the limits has records of short length.
 use mathlib.Core.Path.{_≡_}
-use mathlib.Core.List.{List, [], _∷_, _++_, map}
+use mathlib.Core.List.{List}
 use Prim.Native.Nat.{ℕ, _+_, _*_, _≤_}
 use native.Mathlib.Omega.{arith}
-use lib.ListN.{length, length-append, length-map}
+use lib.ListN.{length, length-append}
 use Rattle.lists.specs.Lists.{flat}
 use Rattle.lists.proofs.Cut.{length-blocks}
 use Rattle.columns.specs.Limits.{kinds, maxRecords, maxNumbers}
 use Rattle.columns.specs.EdgeSet.{EdgeSet}
-use Rattle.cover.specs.Chains.{Range}
 use Rattle.cover.specs.Cover.{LinkColumns}
-use Rattle.archive.specs.Bytes.{bytesOf, unsignedOf}
 use Rattle.archive.specs.File.{Row, Unresolved, Root, CoverColumns, File}
-use Rattle.archive.specs.Encode.{columnBytes, setBytes, edgesBytes, rowBytes, unresolvedBytes, rootBytes, rangeBytes, linksBytes, coverBytes, countedBytes}
+use Rattle.archive.specs.Encode.{edgesBytes, rowBytes, unresolvedBytes, rootBytes, rangeBytes, linksBytes, coverBytes, countedBytes}
 use Rattle.archive.specs.Fits.{Short, LinksFit}
 use Rattle.archive.proofs.Numbers.{length-bytesOf}
 use Rattle.archive.proofs.Lengths.{length-column, length-counted, wide-row, wide-unresolved, wide-root, length-set, wide-range}

@@ -19,9 +19,10 @@ use Rattle.archive.specs.File.{Row, Unresolved}
 use Rattle.cleaning.specs.Source.{Source, endOf}
 use Rattle.cleaning.specs.Archive.{Taken, Event, Reference, referencesIn, bodyOf, eventsFrom, startOf}
 use Rattle.lists.proofs.Sums.{sum-ext, sum-le, sum-both, sum-flat}
+use Rattle.lists.proofs.Rising.{level-lower}
 use Rattle.cleaning.proofs.Taken.{FollowsLast, Followed}
 use Rattle.cleaning.proofs.Events.{eventsIn, length-eventsIn}
-use Rattle.cleaning.proofs.Kept.{groupNumber, level-lower}
+use Rattle.cleaning.proofs.Kept.{groupNumber}
 
 module _ (t : Taken) where
   -- ── how many events ──────────────────────────────────────────────────────────────────────────

@@ -16,6 +16,7 @@ use Rattle.columns.specs.Limits.{maxRecords, maxGroups, end32}
 use Rattle.columns.specs.Reading.{Label, labelsOf}
 use Rattle.cover.specs.Chains.{linksRise}
 use Rattle.cover.specs.Cover.{LinkColumns, linksOf, evenColumns, sums, sumsFit, storedLinks, linksOk, rangeRules, linkRules}
+use Rattle.cover.proofs.Stored.{length-sums}
 use Rattle.columns.specs.declared.refusal.Refusal.the-variants.{CoverForm}
 use Rattle.archive.specs.File.{CoverColumns, File}
 use Rattle.archive.specs.Fits.{Wide, DepthFits, UnresolvedFits, RootFits, LinksFit, CoverFitsIn, FileFits}
@@ -61,11 +62,6 @@ links-read (a ∷ as₁) (b ∷ bs) (c ∷ cs) [] p q r h i j k = absurd (omega 
 links-read (a ∷ as₁) (b ∷ bs) (c ∷ cs) (d ∷ ds) p q r h i j k =
     let n = links-read as₁ bs cs ds (omega arith) (omega arith) (omega arith) (h .1) (i .1) (j .1) (k .1) in
     (omega arith, ((h .0, i .0, j .0, k .0), n .1))
-
-length-sums : (before : ℕ) (ds : List ℕ) → length (sums before ds) ≡ length ds
-unfolding sums
-length-sums before [] = refl
-length-sums before (d ∷ ds) = rw (length-sums (before + d) ds)
 
 stored-read : (c : LinkColumns) → linksOk c ≡ true → LinksFit c → (length (storedLinks c) ≡ length (c .fromChains)) × Each LinkFits (storedLinks c)
 unfolding linksOk sumsFit storedLinks

@@ -14,7 +14,7 @@ use borrow.Author.Tests.{eqb-true, eqb-false, ne-eqb, ltb-true, ltb-false}
 use Rattle.lists.specs.Lists.{mem, add, once, Each}
 use Rattle.lists.proofs.Tests.{tested}
 use Rattle.lists.proofs.Each.{each-imp}
-use Rattle.lists.proofs.Once.{add-new, add-there, each-add}
+use Rattle.lists.proofs.Once.{add-new, each-add, add-grows}
 use Rattle.cover.specs.Chains.{Link}
 use Rattle.cleaning.specs.Source.{SourceCover, Source, isThere}
 use Rattle.cleaning.specs.Archive.{Group, linksIn, groupOf, joinLinks, joinGroup, joinAt, addSource, groupsOf}
@@ -145,12 +145,6 @@ unfolding mem
 others-not-mem n [] h = refl
 others-not-mem n (x ∷ xs) h = rw (ne-eqb n x (h .0)) (others-not-mem n xs (h .1))
 
-length-add : (xs : List ℕ) (x : ℕ) → length xs ≤ length (add xs x)
-length-add xs x = elim (tested (mem x xs)) [
-  | inl e ↦ rw (add-there xs x e) (omega arith)
-  | inr e ↦ rw (add-new xs x e, length-append xs (x ∷ [])) (omega arith)
-]
-
 fewer-groups : (before : Option Source) (gs : List Group) (ss : List Source) (ns : List ℕ) → GroupsUpTo before gs → Followed before ss
     → length gs ≤ length ns → Each (λ n. n < length gs) ns → length (foldl addSource gs ss) ≤ length (foldl add ns (map (λ s. s .group) ss))
 fewer-groups before gs [] ns g f l h = l
@@ -158,7 +152,7 @@ fewer-groups before gs (s ∷ ss) ns g f l h =
     let n = next before gs s g (f .1) in
     let m = grown gs s n in
     fewer-groups (some s) (addSource gs s) ss (add ns (s .group)) m (f .2) (elim (old-or-new gs s n) [
-      | inl o ↦ omega (arith, m .0, length-add ns (s .group))
+      | inl o ↦ omega (arith, m .0, add-grows ns (s .group))
       | inr e ↦ rw (
         add-new ns (s .group)
             (rw e (others-not-mem (length gs) ns (each-imp (λ x. x < length gs) (λ x. length gs ≡ x → ⊥) ns (λ x b c. omega arith) h))),

@@ -10,7 +10,7 @@ use lib.ListN.{length, getD, length-map, List·getD-map}
 use lib.Seq.{ext-getD}
 use Rattle.lists.specs.Lists.{joined, part, upFrom}
 use Rattle.lists.proofs.Each.{each-map, each-all}
-use Rattle.lists.proofs.Flat.{length-upFrom, length-map-upFrom, getD-map-upFrom, getD-upFrom}
+use Rattle.lists.proofs.Flat.{length-upFrom, length-map-upFrom, getD-map-upFrom, getD-upFrom, flat-map}
 use Rattle.lists.proofs.Filters.{each-below, map-places}
 use Rattle.lists.proofs.Cut.{length-blocks, getD-blocks}
 use Rattle.columns.specs.Limits.{kinds}
@@ -27,7 +27,7 @@ use Rattle.cleaning.specs.Held.{Held, eventAt, archiveHeld}
 use Rattle.cleaning.specs.Runs.{slotted}
 use Rattle.cleaning.proofs.Slots.{flagged, erasedOf, listsOf, slotList, Columns, numbers-new, survivors-new, new-lists, slot-new, entries-new, reparented-new}
 use Rattle.cleaning.proofs.SheetFacts.{Rows}
-use Rattle.cleaning.proofs.Parts.{length-part, block-at, parts-all, flat-map}
+use Rattle.cleaning.proofs.Parts.{length-part, block-at, parts-all}
 
 -- ── the events of what is held ───────────────────────────────────────────────────────────────
 

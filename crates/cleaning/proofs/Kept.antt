@@ -8,7 +8,7 @@ use native.Mathlib.Omega.{arith}
 use native.Mathlib.Nat.{zero-add}
 use lib.Dec.{leb, eqb}
 use lib.ListN.{length, getD}
-use borrow.Author.Tests.{leb-true, le-leb, eqb-true}
+use borrow.Author.Tests.{leb-true, eqb-true}
 use Rattle.lists.specs.Lists.{any, filter, sum, upFrom, Each}
 use Rattle.lists.specs.Order.{levelAbove, notFalling}
 use Rattle.lists.proofs.Tests.{tested, both, all-each}
@@ -20,6 +20,7 @@ use Rattle.cleaning.specs.Summary.{keptBy, summary}
 use Rattle.cleaning.specs.Resolving.{survivesIn, groupsSurvive}
 use Rattle.lists.proofs.Filters.{each-filter}
 use Rattle.lists.proofs.Sums.{sum-map, sum-filter}
+use Rattle.lists.proofs.Rising.{level-lower}
 use Rattle.cleaning.proofs.Survivors.{Survives, getD-past, survive-from}
 
 -- the events that are not erased
@@ -85,11 +86,6 @@ sum-rows A f =
 
 abbrev pub groupNumber : Event → ℕ
 groupNumber e = e .body .group
-
-pub level-lower : (low g : ℕ) (xs : List ℕ) → low ≤ g → levelAbove g xs ≡ true → levelAbove low xs ≡ true
-unfolding levelAbove
-level-lower low g [] l h = refl
-level-lower low g (x ∷ xs) l h = let p = both (leb g x) (levelAbove x xs) h in rw (le-leb low x (omega (arith, leb-true g x (p .0)))) (p .1)
 
 level-kept : (low : ℕ) (es : List Event) → levelAbove low (map groupNumber es) ≡ true → levelAbove low (map groupNumber (keptEvents es)) ≡ true
 unfolding levelAbove keptEvents filter

@@ -1,16 +1,16 @@
 -- The three sets of an output file: every target is on its set's side.
 use mathlib.Core.Path.{_≡_, sym, subst}
-use mathlib.Core.Bool.{Bool, true, _&&_, not, false≢true}
+use mathlib.Core.Bool.{Bool, true, _&&_, not}
 use mathlib.Core.Logic.{inl, inr}
 use mathlib.Core.List.{List, [], _∷_, map}
 use Prim.Native.Nat.{ℕ, suc, _+_, _-_, _*_, _≤_, _<_}
 use native.Mathlib.Omega.{arith}
 use native.Mathlib.Nat.{add-zero}
-use borrow.Author.Tests.{ltb-true, ltb-false, eqb-true, lt-ltb, le-leb}
+use borrow.Author.Tests.{ltb-true, ltb-false, lt-ltb, le-leb}
 use lib.Dec.{ltb, eqb}
 use lib.ListN.{length, getD}
 use Rattle.lists.specs.Lists.{filter, mem, upFrom, Each}
-use Rattle.lists.specs.Order.{insert, sort}
+use Rattle.lists.specs.Order.{sort}
 use Rattle.lists.proofs.Tests.{tested}
 use Rattle.lists.proofs.Each.{each-imp, each-all, each-both, each-map, each-append, each-flat}
 use Rattle.lists.proofs.Pairs.{each-upFrom}
@@ -24,6 +24,8 @@ use Rattle.cleaning.specs.Writing.{Numbered, numbered, groupIs, rowsIn, 
 use Rattle.cleaning.proofs.Good.{GoodLists, Good}
 use Rattle.lists.proofs.From.{EachFrom, from-eq}
 use Rattle.lists.proofs.Filters.{each-filter, filter-passes}
+use Rattle.lists.proofs.Once.{each-has}
+use Rattle.lists.proofs.Rising.{each-sort}
 use Rattle.cleaning.proofs.Numbers.{Counted, numbered-counted, length-numbered, counted-within}
 use Rattle.cleaning.proofs.Blocks.{rowsBefore, rows-first, before-next, before-within}
 use Rattle.cleaning.proofs.Inbound.{edge, Inbound, edges-inbound}
@@ -64,14 +66,6 @@ module _ (first : ℕ) (rs : List Numbered) (counted : Counted first rs) (fits :
 
 -- ── reverse lists ────────────────────────────────────────────────────────────────────────────
 
-mem-each : (P : ℕ → Type 0) (x : ℕ) (xs : List ℕ) → Each P xs → mem x xs ≡ true → P x
-unfolding mem
-mem-each P x [] h m = absurd (false≢true m)
-mem-each P x (y ∷ ys) h m = elim (tested (eqb x y)) [
-  | inl e ↦ subst P (sym (eqb-true x y e)) (h .0)
-  | inr e ↦ mem-each P x ys (h .1) (rw e at m)
-]
-
 module _ (first rows end : ℕ) (lists : List (List ℕ)) (side : AllowedFrom forward first end 0 lists) where
   -- the entries of an event's list are below the event
   list-below : (k e : ℕ) → k < kinds → Each (λ t. t < e) (listOf first lists k e)
@@ -91,7 +85,7 @@ module _ (first rows end : ℕ) (lists : List (List ℕ)) (side : AllowedFrom fo
       allowed-table reverse first end (naming first rows lists) rows (omega arith)
       (λ n k l h j. each-imp (λ e. ((first ≤ e) × (e < first + rows)) × (mem n (listOf first lists k e) ≡ true))
       (λ e. (allowed reverse end n e ≡ true) × (e < end64)) (naming first rows lists n k)
-      (λ e w. let after : n < e = mem-each (λ t. t < e) n (listOf first lists k e) (list-below k e j) (w .1) in
+      (λ e w. let after : n < e = each-has (λ t. t < e) n (listOf first lists k e) (list-below k e j) (w .1) in
       (rw (lt-ltb n e after) (lt-ltb e end (omega arith)), omega arith))
       (each-both _ _ (naming first rows lists n k)
       (each-filter (λ e. mem n (listOf first lists k e)) (λ e. (first ≤ e) × (e < first + rows)) (upFrom first rows) (each-upFrom first rows))
@@ -100,16 +94,6 @@ module _ (first rows end : ℕ) (lists : List (List ℕ)) (side : AllowedFrom fo
 -- ── inbound lists ────────────────────────────────────────────────────────────────────────────
 
 module _ (P : ℕ → Type 0) where
-  each-insert : (x : ℕ) (ys : List ℕ) → P x → Each P ys → Each P (insert x ys)
-  unfolding insert
-  each-insert x [] p h = (p, tt)
-  each-insert x (y ∷ ys) p h = elim (tested (ltb y x)) [ inl e ↦ rw e (h .0, each-insert x ys p (h .1)) | inr e ↦ rw e (p, h) ]
-
-  each-sort : (xs : List ℕ) → Each P xs → Each P (sort xs)
-  unfolding sort
-  each-sort [] h = tt
-  each-sort (x ∷ xs) h = each-insert x (sort xs) (h .0) (each-sort xs (h .1))
-
   each-children : (parent kind : ℕ) (cs ps ks : List ℕ) → Each P cs → Each P (childrenTo parent kind cs ps ks)
   unfolding childrenTo
   each-children parent kind [] ps ks h = tt

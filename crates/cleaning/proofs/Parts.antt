@@ -68,10 +68,6 @@ map-part xs d a (suc n) l = rw (drop-cons xs a d (omega arith)) (ap (λ ys. getD
 
 -- ── made lists ───────────────────────────────────────────────────────────────────────────────
 
-pub flat-map : {A B C : Type 0} (f : B → List C) (g : A → B) (xs : List A) → flat f (map g xs) ≡ flat (λ x. f (g x)) xs
-flat-map f g [] = refl
-flat-map f g (x ∷ xs) = rw (flat-map f g xs)
-
 pub filter-map : {A B : Type 0} (p : B → Bool) (g : A → B) (xs : List A) → filter p (map g xs) ≡ map g (filter (λ x. p (g x)) xs)
 unfolding filter
 filter-map p g [] = refl

@@ -8,9 +8,9 @@ use native.Mathlib.Omega.{arith}
 use lib.Dec.{leb, ltb, eqb}
 use lib.ListN.{length, take, drop}
 use lib.Seq.{take-add, drop-drop}
-use borrow.Author.Tests.{ltb-true, ltb-false, lt-ltb, le-ltb, leb-true, le-leb, eq-eqb, ne-eqb}
+use borrow.Author.Tests.{ltb-true, ltb-false, lt-ltb, le-ltb, leb-true, eq-eqb, ne-eqb}
 use Rattle.lists.specs.Lists.{flat, filter, part, upFrom}
-use Rattle.lists.specs.Order.{levelAbove, notFalling, risesAbove, rising}
+use Rattle.lists.specs.Order.{levelAbove, notFalling}
 use Rattle.lists.proofs.Tests.{tested, both}
 use Rattle.cleaning.specs.Sections.{place, between}
 
@@ -156,16 +156,3 @@ ranges-follow f start xs i (suc n) =
     rw (e, d, q, take-add (b - a) (c - b) (drop a xs), drop-drop (b - a) a xs, t) (ap (λ ys. take (b - a) (drop a xs) ++ ys) (ranges-follow f start xs (suc i) n))
 
 -- ── columns that rise ────────────────────────────────────────────────────────────────────────
-
--- a column that rises does not fall
-rises-level : (low : ℕ) (xs : List ℕ) → risesAbove low xs ≡ true → levelAbove low xs ≡ true
-unfolding risesAbove levelAbove
-rises-level low [] h = refl
-rises-level low (x ∷ xs) h =
-    let q = both (ltb low x) (risesAbove x xs) h in
-    rw (le-leb low x (omega (arith, ltb-true low x (q .0)))) (rises-level x xs (q .1))
-
-pub rising-level : (xs : List ℕ) → rising xs ≡ true → notFalling xs ≡ true
-unfolding rising notFalling levelAbove
-rising-level [] h = refl
-rising-level (x ∷ xs) h = rw (le-leb 0 x (omega arith)) (rises-level x xs h)

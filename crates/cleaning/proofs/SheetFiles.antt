@@ -11,7 +11,7 @@ use lib.ListN.{length}
 use borrow.Author.Tests.{eqb-true, eqb-false, lt-ltb, le-ltb, ltb-true, ltb-false}
 use Rattle.lists.specs.Lists.{flat, filter, joined, starts, mem, upFrom, Each}
 use Rattle.lists.proofs.Tests.{tested}
-use Rattle.lists.proofs.Flat.{map-ext}
+use Rattle.lists.proofs.Flat.{map-ext, flat-map}
 use Rattle.lists.proofs.Filters.{each-below}
 use Rattle.columns.specs.Refusal.{unless, firstIn}
 use Rattle.columns.specs.Building.{buildRules, builtOf}
@@ -21,7 +21,6 @@ use Rattle.archive.specs.Encode.{encode}
 use Rattle.cleaning.specs.Sheet.{Facts, GroupLink, Sheet, groupsFrom, groupsOfSheet, summaryOf}
 use Rattle.cleaning.specs.Writing.{Numbered, rowsIn, firstNumber, labelsIn, labelsOfGroup, edgesInto, edgesOf, inboundColumns, unresolvedColumns, graphOfRows, groupAt, graphOf, coverOfGroup, outputOf, groupNumbers, outputs, writeRules, bytesOf, written}
 use Rattle.cleaning.specs.Sections.{Tidy, Filled, factsOf, reaches, place, sectionStart, sectionRows, sectionFirst, sectionEnd, sectionLabels, sectionLinks, sectionEdges, rowEdges, otherRows, labelsWhere, coverWhere, unerasedRow, sectionGraph, sectionFile, sectionRules, sectionBytes}
-use Rattle.cleaning.proofs.Parts.{flat-map}
 use Rattle.cleaning.proofs.Places.{place-rises}
 use Rattle.cleaning.proofs.SheetRows.{rowAt, section-end, others-section, count-section, first-section, tags-section, labels-section, lists-section}
 use Rattle.cleaning.proofs.SheetRecords.{unresolved-section, roots-section, group-section}

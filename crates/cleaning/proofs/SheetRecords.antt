@@ -14,16 +14,15 @@ use Rattle.lists.specs.Lists.{flat, filter, upFrom}
 use Rattle.lists.specs.Order.{risesAbove, rising}
 use Rattle.lists.proofs.Tests.{tested, both}
 use Rattle.lists.proofs.Each.{each-all}
-use Rattle.lists.proofs.Flat.{flat-ext, map-flat}
+use Rattle.lists.proofs.Flat.{flat-ext, map-flat, flat-map}
+use Rattle.lists.proofs.Rising.{rises-rising, rising-level}
 use Rattle.archive.specs.File.{Unresolved, Root}
 use Rattle.cleaning.specs.Archive.{rootIn, referencesIn}
 use Rattle.cleaning.specs.Sheet.{Facts, GroupLink, Sheet, bodyAt, linksOf, groupsFrom, groupsOfSheet, summaryOf}
 use Rattle.cleaning.specs.Writing.{rowsIn, unresolvedOf, rootOf, rootsFrom, noGroup, groupAt}
 use Rattle.cleaning.specs.Held.{noFacts}
 use Rattle.cleaning.specs.Sections.{Tidy, factsOf, between, sectionStart, sectionRows, sectionFirst, sectionUnresolved, sectionRoots, sectionLinks}
-use Rattle.cleaning.proofs.Parts.{flat-map}
-use Rattle.cleaning.proofs.Places.{range-one, ranges-follow, rising-level}
-use Rattle.lists.proofs.Rising.{rises-rising}
+use Rattle.cleaning.proofs.Places.{range-one, ranges-follow}
 use Rattle.cleaning.proofs.SheetRows.{rowAt, rows-section, section-end}
 
 -- ── unresolved references ────────────────────────────────────────────────────────────────────

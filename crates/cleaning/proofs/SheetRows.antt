@@ -12,14 +12,14 @@ use borrow.Author.Tests.{eqb-true}
 use Rattle.lists.specs.Lists.{flat, joined, starts, filter, part, upFrom}
 use Rattle.lists.specs.Order.{notFalling}
 use Rattle.lists.proofs.Each.{each-getD}
-use Rattle.lists.proofs.Flat.{length-upFrom, length-map-upFrom, getD-upFrom}
+use Rattle.lists.proofs.Flat.{length-upFrom, length-map-upFrom, getD-upFrom, flat-map}
 use Rattle.lists.proofs.Filters.{filter-passes, map-places}
 use Rattle.columns.specs.Limits.{kinds}
 use Rattle.cleaning.specs.Summary.{Kept, kept}
 use Rattle.cleaning.specs.Sheet.{Sheet, rowCount, bodyAt, parentsAt, summaryOf}
 use Rattle.cleaning.specs.Writing.{Numbered, numberedFrom, numbered, groupIs, rowsIn, firstNumber, labelList, labelsIn, slotsOfRows}
 use Rattle.cleaning.specs.Sections.{Tidy, place, between, sectionStart, sectionRows, sectionFirst, sectionTags, sectionLists, sectionLabels, otherRows}
-use Rattle.cleaning.proofs.Parts.{parts-from, take-upFrom, drop-upFrom, part-upFrom, map-part, flat-map, filter-map}
+use Rattle.cleaning.proofs.Parts.{parts-from, take-upFrom, drop-upFrom, part-upFrom, map-part, filter-map}
 use Rattle.cleaning.proofs.Offsets.{starts-part, joined-part}
 use Rattle.cleaning.proofs.Places.{place-within, place-rises, range-one, outside-one}
 

@@ -1,5 +1,5 @@
 -- What 17 to 19 give of a set of edges as read: a list for each slot, and in a forward set every parent below its event.
-use mathlib.Core.Path.{_≡_, refl, ap}
+use mathlib.Core.Path.{_≡_, refl}
 use mathlib.Core.Bool.{Bool, true, false, _&&_, not, false≢true}
 use mathlib.Core.List.{List, [], _∷_}
 use mathlib.Core.Logic.{_⊎_, inl, inr}
@@ -9,7 +9,7 @@ use native.Mathlib.Omega.{arith}
 use lib.Dec.{ltb, leb, eqb}
 use lib.IntN.{ℤ, pos, _-ℤ_}
 use lib.ListN.{length}
-use borrow.Author.Tests.{ltb-true, ltb-false, leb-true, eqb-true, not-false}
+use borrow.Author.Tests.{ltb-true, ltb-false, eqb-true, not-false}
 use Rattle.lists.specs.Lists.{all, Each}
 use Rattle.lists.specs.Order.{climbsTo}
 use Rattle.lists.proofs.Tests.{both, all-each}
@@ -22,6 +22,8 @@ use Rattle.columns.specs.declared.refusal.Refusal.the-variants.{OffsetsForm, De
 use Rattle.cleaning.specs.Routes.{AllBelow}
 use Rattle.lists.proofs.From.{EachFrom}
 use Rattle.columns.proofs.FirstBroken.{each-none, not-refused, passed}
+use Rattle.columns.proofs.Offsets.{cutFrom-length, low-high}
+use Rattle.columns.proofs.Targets.{length-targets}
 
 -- every parent in a slot of a file that starts at `first` is below the slot's event
 abbrev pub SlotBelow : ℕ → ℕ → List ℕ → Type 0
@@ -29,23 +31,13 @@ SlotBelow first slot ps = AllBelow (eventOf first slot) ps
 
 -- ── a list for each slot ─────────────────────────────────────────────────────────────────────
 
-length-cutFrom : {A : Type 0} (a : ℕ) (bs : List ℕ) (column : List A) → length (cutFrom a bs column) ≡ length bs
-unfolding cutFrom
-length-cutFrom a [] column = refl
-length-cutFrom a (b ∷ bs) column = ap suc (length-cutFrom b bs column)
-
-length-targets : (first slot : ℕ) (lists : List (List ℤ)) → length (targetsFrom first slot lists) ≡ length lists
-unfolding targetsFrom
-length-targets first slot [] = refl
-length-targets first slot (ds ∷ lists) = ap suc (length-targets first (suc slot) lists)
-
 length-slots : (first rows count : ℕ) (offsets : List ℕ) (deltas : List ℤ) → offsetsForm rows count offsets ≡ true
     → length (targetsFrom first 0 (cut offsets deltas)) ≡ kinds * rows
 unfolding offsetsForm fromTo cut targetsFrom
 length-slots first rows count [] deltas e = absurd (omega (arith, eqb-true 0 (kinds * rows + 1) (both (eqb 0 (kinds * rows + 1)) false e .0)))
 length-slots first rows count (a ∷ bs) deltas e =
     let n = eqb-true (suc (length bs)) (kinds * rows + 1) (both (eqb (suc (length bs)) (kinds * rows + 1)) (eqb a 0 && climbsTo count a bs) e .0) in
-    omega (arith, length-targets first 0 (cutFrom a bs deltas), length-cutFrom a bs deltas)
+    omega (arith, length-targets first 0 (cutFrom a bs deltas), cutFrom-length a bs deltas)
 
 -- ── parents below ────────────────────────────────────────────────────────────────────────────
 
@@ -64,13 +56,6 @@ sound-below first end slot (ds ∷ lists) e =
       sound-below first end (suc slot) lists (p .1),
     )
 
-climbs-le : (high low : ℕ) (xs : List ℕ) → climbsTo high low xs ≡ true → low ≤ high
-unfolding climbsTo
-climbs-le high low [] e = omega (arith, eqb-true low high e)
-climbs-le high low (x ∷ xs) e =
-    let p = both (leb low x) (climbsTo high x xs) e in
-    omega (arith, leb-true low x (p .0), climbs-le high x xs (p .1))
-
 -- without edges every list is empty
 empty-below : (first slot : ℕ) (bs : List ℕ) (deltas : List ℤ) → climbsTo 0 0 bs ≡ true
     → EachFrom (SlotBelow first) slot (targetsFrom first slot (cutFrom 0 bs deltas))
@@ -78,7 +63,7 @@ unfolding climbsTo cutFrom targetsFrom
 empty-below first slot [] deltas e = tt
 empty-below first slot (b ∷ bs) deltas e =
     let p = both (leb 0 b) (climbsTo 0 b bs) e in
-    let z : b ≡ 0 = omega (arith, climbs-le 0 b bs (p .1)) in
+    let z : b ≡ 0 = omega (arith, low-high 0 b bs (p .1)) in
     rw z (tt, empty-below first (suc slot) bs deltas (rw z at (p .1)))
 
 cut-below : (first : ℕ) (offsets : List ℕ) (deltas : List ℤ) → fromTo 0 0 offsets ≡ true

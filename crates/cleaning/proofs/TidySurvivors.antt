@@ -15,6 +15,7 @@ use Rattle.lists.proofs.Tests.{tested, both, all-each, all-of}
 use Rattle.lists.proofs.Each.{each-imp, each-both, each-map, each-all, each-flat}
 use Rattle.lists.proofs.Filters.{each-filter, filter-passes, each-below}
 use Rattle.lists.proofs.Flat.{length-upFrom}
+use Rattle.lists.proofs.Rising.{rises-lower, rises-rising, level-lower}
 use Rattle.columns.specs.Limits.{kinds}
 use Rattle.columns.specs.Reading.{Label}
 use Rattle.columns.specs.Building.{inFile}
@@ -25,11 +26,9 @@ use Rattle.cleaning.specs.Sheet.{Facts, GroupLink, linksOf}
 use Rattle.cleaning.specs.Held.{Held, noFacts}
 use Rattle.cleaning.specs.Survivors.{keep, rankIn, keepSlots, keepUnresolved, keepRoots, sortGroups, survivorSheet}
 use Rattle.cleaning.specs.Sections.{labelsFit, Tidy}
-use Rattle.cleaning.proofs.Kept.{level-lower}
 use Rattle.cleaning.proofs.SheetFacts.{Rows}
 use Rattle.cleaning.proofs.GroupLinks.{inGroup}
 use Rattle.cleaning.proofs.Parts.{length-part, length-wide}
-use Rattle.lists.proofs.Rising.{rises-rising, rises-lower}
 use Rattle.cleaning.proofs.Ranks.{length-keep, each-keep, keep-slots, rank-level, rank-rises, rank-below}
 
 -- ── columns ──────────────────────────────────────────────────────────────────────────────────

@@ -5,12 +5,12 @@ use mathlib.Core.Logic.{inl, inr}
 use mathlib.Core.List.{List, [], _∷_, map}
 use Prim.Native.Nat.{ℕ, suc, _+_, _-_, _*_, _/_, _%_, _≤_}
 use native.Mathlib.Omega.{arith}
-use borrow.Author.Tests.{eqb-true, ne-eqb, le-ltb}
-use lib.Dec.{ltb, eqb}
+use borrow.Author.Tests.{le-ltb}
+use lib.Dec.{eqb}
 use lib.ListN.{length, getD, length-append, length-map}
 use lib.Seq.{ext-getD}
 use Rattle.lists.specs.Lists.{flat, filter, joined, mem, sum, upFrom}
-use Rattle.lists.specs.Order.{insert, sort}
+use Rattle.lists.specs.Order.{sort}
 use Rattle.lists.proofs.Tests.{tested}
 use Rattle.lists.proofs.Flat.{length-flat, sum-append}
 use Rattle.columns.specs.Limits.{kinds}
@@ -20,7 +20,8 @@ use Rattle.columns.proofs.Turned.{length-table, list-table}
 use Rattle.cleaning.specs.Summary.{Summary}
 use Rattle.cleaning.specs.Writing.{Numbered, numbered, groupIs, Edge, edgesInto, edgesOf, inboundColumns}
 use Rattle.lists.proofs.Sums.{sum-map, sum-flat, sum-filter}
-use Rattle.lists.proofs.Counting.{sum-below, sum-equal, sum-ones, sum-swap, sum-zero, bit, length-filter, at-most-one, members-counted}
+use Rattle.lists.proofs.Counting.{sum-below, sum-equal, sum-ones, sum-swap, sum-zero, bit, length-filter, members-counted, equal-once}
+use Rattle.lists.proofs.Rising.{length-sort}
 
 -- ── tables ───────────────────────────────────────────────────────────────────────────────────
 
@@ -82,16 +83,6 @@ reverse-entries first rows lists e =
 
 -- ── inbound lists ────────────────────────────────────────────────────────────────────────────
 
-length-insert : (x : ℕ) (ys : List ℕ) → length (insert x ys) ≡ suc (length ys)
-unfolding insert
-length-insert x [] = refl
-length-insert x (y ∷ ys) = elim (tested (ltb y x)) [ inl e ↦ rw e (ap suc (length-insert x ys)) | inr e ↦ rw e ]
-
-length-sort : (xs : List ℕ) → length (sort xs) ≡ length xs
-unfolding sort
-length-sort [] = refl
-length-sort (x ∷ xs) = length-insert x (sort xs) ∙ ap suc (length-sort xs)
-
 -- an edge to a parent by a kind
 abbrev isTo : ℕ → ℕ → Edge → Bool
 isTo n k e = eqb (e .parent) n && eqb (e .kind) k
@@ -105,20 +96,17 @@ length-children n k (e ∷ es) = elim (tested (isTo n k e)) [
   | inr q ↦ rw q (omega (arith, length-children n k es))
 ]
 
-one-equal : (x i m : ℕ) → sum (λ n. bit (eqb x n)) (upFrom i m) ≤ 1
-one-equal x i m = at-most-one (λ n. eqb x n) (λ j k e l. ne-eqb x k (λ d. omega (arith, eqb-true x j e))) i m
-
 -- an edge is in one list
 one-list : (e : Edge) (first rows : ℕ) → sum (λ n. sum (λ k. bit (isTo n k e)) (upFrom 0 kinds)) (upFrom first rows) ≤ 1
 one-list e first rows =
     omega (
       arith,
-      one-equal (e .parent) first rows,
+      equal-once (e .parent) first rows,
       sum-below (λ n. sum (λ k. bit (isTo n k e)) (upFrom 0 kinds)) (λ n. bit (eqb (e .parent) n)) (λ n. of-kind (eqb (e .parent) n)) (upFrom first rows),
     )
   where
     of-kind : (b : Bool) → sum (λ k. bit (b && eqb (e .kind) k)) (upFrom 0 kinds) ≤ bit b
-    of-kind true = one-equal (e .kind) 0 kinds
+    of-kind true = equal-once (e .kind) 0 kinds
     of-kind false = omega (arith, sum-zero (upFrom 0 kinds))
 
 pub inbound-entries : (first rows : ℕ) (es : List Edge) → sum length (inboundLists first rows (inboundColumns es)) ≤ length es

@@ -26,21 +26,9 @@ use Rattle.columns.specs.declared.refusal.Refusal.{Refusal}
 use Rattle.columns.specs.declared.refusal.Refusal.the-variants.{OffsetsForm, DeltaCount, TargetSide, OverRecords, OverNumbers, SliceShort}
 use Rattle.columns.proofs.FirstBroken.{each-none, not-refused, passed}
 use Rattle.columns.proofs.Offsets.{form-climbs}
+use Rattle.columns.proofs.Told.{last-rule, told-kept, told}
 
 -- ── rules in order ───────────────────────────────────────────────────────────────────────────
-
-pub is-kept : (k : Ruling) (o : Option Refusal) → k ≡ ruling o → k ≡ Kept → o ≡ none
-is-kept k none e h = refl
-is-kept k (some r) e h = let z : _≡_ {A = ℕ} 0 1 = cc in absurd (omega arith)
-
-pub is-broken : (k : Ruling) (o : Option Refusal) (why : Refusal) → k ≡ ruling o → k ≡ Broken why → o ≡ some why
-is-broken k none why e h = let z : _≡_ {A = ℕ} 0 1 = cc in absurd (omega arith)
-is-broken k (some r) why e h = cc
-
-pub first-alone : (o : Option Refusal) → firstOf (o ∷ []) ≡ o
-unfolding firstOf
-first-alone none = refl
-first-alone (some r) = refl
 
 -- rules in two parts, one after the other
 pub first-append : (xs ys : List (Option Refusal)) → firstOf (xs ++ ys) ≡ firstOf (firstOf xs ∷ ys)
@@ -57,11 +45,11 @@ any-kept p x xs e = or-is-false (p x) (any p xs) e
 module _ (k : Ruling) (o : Option Refusal) (os : List (Option Refusal)) (e : k ≡ ruling o) where
   pub then-rest : k ≡ Kept → (q : Ruling) → q ≡ ruling (firstOf os) → q ≡ ruling (firstOf (o ∷ os))
   unfolding firstOf
-  then-rest h q g = rw (is-kept k o e h) g
+  then-rest h q g = rw (told-kept o e h) g
 
   pub then-broken : (why : Refusal) → k ≡ Broken why → Broken why ≡ ruling (firstOf (o ∷ os))
   unfolding firstOf
-  then-broken why h = rw (is-broken k o why e h)
+  then-broken why h = rw (told o e h)
 
 -- ── limits ───────────────────────────────────────────────────────────────────────────────────
 
@@ -111,7 +99,7 @@ module _ (set first rows end count : ℕ) (offsets : List ℕ) (deltas : List �
     pub lent-kept : k ≡ Kept → (q : Ruling) → q ≡ ruling (setRules set first rows end (columnsOf count offsets deltas))
         → q ≡ ruling (lentRules set first rows end (columnsOf count offsets deltas) (room out))
     unfolding lentRules
-    lent-kept h q g = then-rest k _ _ (e ∙ ap ruling (sym limits-are)) h q (g ∙ ap ruling (sym (first-alone (setRules set first rows end (columnsOf count offsets deltas)))))
+    lent-kept h q g = then-rest k _ _ (e ∙ ap ruling (sym limits-are)) h q (g ∙ ap ruling (sym (last-rule (setRules set first rows end (columnsOf count offsets deltas)))))
 
     pub lent-broken : (why : Refusal) → k ≡ Broken why → Broken why ≡ ruling (lentRules set first rows end (columnsOf count offsets deltas) (room out))
     unfolding lentRules
@@ -122,7 +110,7 @@ module _ (first rows end rc : ℕ) (ro : List ℕ) (rd : List ℤ) (ic : ℕ) (i
   module _ (k : Ruling) (e : k ≡ ruling (setRules 1 first rows end (columnsOf rc ro rd))) where
     pub both-kept : k ≡ Kept → (q : Ruling) → q ≡ ruling (setRules 2 first rows end (columnsOf ic io id)) → q ≡ ruling (bothRules first rows end (columnsOf rc ro rd) (columnsOf ic io id))
     unfolding bothRules
-    both-kept h q g = then-rest k _ _ e h q (g ∙ ap ruling (sym (first-alone (setRules 2 first rows end (columnsOf ic io id)))))
+    both-kept h q g = then-rest k _ _ e h q (g ∙ ap ruling (sym (last-rule (setRules 2 first rows end (columnsOf ic io id)))))
 
     pub both-broken : (why : Refusal) → k ≡ Broken why → Broken why ≡ ruling (bothRules first rows end (columnsOf rc ro rd) (columnsOf ic io id))
     unfolding bothRules
@@ -179,7 +167,7 @@ module _ (set first rows end : ℕ) (s : EdgeSet) (lent : List Lent) (k : Ruling
   pub readable : k ≡ Kept → Readable first s
   unfolding lentRules
   readable h =
-      let p = each-none _ (is-kept k _ e h) in
+      let p = each-none _ (told-kept _ e h) in
       record {
         set = set;
         rows = rows;
@@ -194,19 +182,19 @@ module _ (set first rows end : ℕ) (s : EdgeSet) (lent : List Lent) (k : Ruling
 module _ (k : Ruling) (o : Option Refusal) (l old : List ℕ) (e : k ≡ ruling o) where
   pub list-counted : k ≡ Kept → (n : ℕ) → n ≡ length l → Entries n ≡ countedOf (unless o l)
   unfolding unless countedOf
-  list-counted h n f = rw (is-kept k o e h, f)
+  list-counted h n f = rw (told-kept o e h, f)
 
   pub list-written : k ≡ Kept → (out : List ℕ) → out ≡ sets old 0 l → out ≡ writtenOver old (unless o l)
   unfolding unless writtenOver
-  list-written h out f = rw (is-kept k o e h, f)
+  list-written h out f = rw (told-kept o e h, f)
 
   pub list-refused : (why : Refusal) → k ≡ Broken why → Refused why ≡ countedOf (unless o l)
   unfolding unless countedOf
-  list-refused why h = rw (is-broken k o why e h)
+  list-refused why h = rw (told o e h)
 
   pub list-as-was : (why : Refusal) → k ≡ Broken why → old ≡ writtenOver old (unless o l)
   unfolding unless writtenOver
-  list-as-was why h = rw (is-broken k o why e h)
+  list-as-was why h = rw (told o e h)
 
 in-one : (o : Option Refusal) (lists : List (List ℕ)) → inOne (unless o lists) ≡ unless o (joined lists)
 unfolding inOne unless

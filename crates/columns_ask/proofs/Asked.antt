@@ -22,9 +22,10 @@ use Rattle.columns.specs.declared.refusal.Ruling.{Ruling}
 use Rattle.columns.specs.declared.refusal.Ruling.the-variants.{Kept, Broken}
 use Rattle.columns.specs.declared.refusal.Counted.the-variants.{Entries, Refused}
 use Rattle.columns.specs.declared.refusal.Refusal.{Refusal}
-use Rattle.columns.proofs.Checks.{is-kept, list-counted, list-written, list-refused, list-as-was, then-rest, then-broken, first-append}
+use Rattle.columns.proofs.Checks.{list-counted, list-written, list-refused, list-as-was, then-rest, then-broken, first-append}
 use Rattle.columns.specs.declared.refusal.Refusal.the-variants.{OverNumbers}
 use Rattle.columns.proofs.FirstBroken.{each-none}
+use Rattle.columns.proofs.Told.{told-kept}
 use Rattle.columns_ask.proofs.Limited.{readable-reverse, readable-inbound}
 
 -- ── parents ──────────────────────────────────────────────────────────────────────────────────
@@ -95,7 +96,7 @@ module _ (first rows end : ℕ) (r i : EdgeSet) (kind : Kind) (slot number : ℕ
   module _ (h : k ≡ Kept) where
     kept-both : childrenRules first rows end r i (room (length old)) ≡ none
     unfolding askedRules
-    kept-both = each-none _ (is-kept k _ e h) .0
+    kept-both = each-none _ (told-kept _ e h) .0
 
     pub reverse-readable : Readable first r
     reverse-readable = readable-reverse first rows end r i (room (length old)) Kept (ap ruling (sym kept-both)) refl

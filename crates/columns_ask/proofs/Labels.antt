@@ -22,7 +22,7 @@ use Rattle.columns_ask.specs.declared.Labelled.{Labelled}
 use Rattle.columns_ask.specs.declared.Labelled.the-variants as labelled
 use Rattle.columns_ask.specs.declared.Labelled.the-variants.{At, Unlabelled}
 use Rattle.columns.specs.declared.refusal.Refusal.{Refusal}
-use Rattle.columns.proofs.Checks.{is-kept, is-broken}
+use Rattle.columns.proofs.Told.{told-kept, told}
 
 pub short-at : (l : List ℕ) (i : ℕ) → all short32 l ≡ true → i < length l → getD l i 0 < end32
 unfolding all
@@ -65,8 +65,8 @@ module _ (first : ℕ) (chains seqs : List ℕ) (number : ℕ) where
   module _ (rows : ℕ) (k : Ruling) (e : k ≡ ruling (lentLabelRules rows (labelColumns chains seqs))) where
     pub label-kept : k ≡ Kept → (r : Labelled) → r ≡ labelledOf (accepted (labelAt first (labelsOf chains seqs) number)) → r ≡ labelledOf (label first rows (labelColumns chains seqs) number)
     unfolding label lentLabelRules unless
-    label-kept h r f = rw (is-kept k (lentLabelRules rows (labelColumns chains seqs)) e h) f
+    label-kept h r f = rw (told-kept (lentLabelRules rows (labelColumns chains seqs)) e h) f
 
     pub label-refused : (why : Refusal) → k ≡ Broken why → labelled.Refused why ≡ labelledOf (label first rows (labelColumns chains seqs) number)
     unfolding label lentLabelRules unless
-    label-refused why h = rw (is-broken k (lentLabelRules rows (labelColumns chains seqs)) why e h)
+    label-refused why h = rw (told (lentLabelRules rows (labelColumns chains seqs)) e h)

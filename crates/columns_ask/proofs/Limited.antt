@@ -23,7 +23,8 @@ use Rattle.columns.specs.declared.refusal.Ruling.the-variants.{Kept, Broken}
 use Rattle.columns.specs.declared.refusal.Refusal.{Refusal}
 use Rattle.columns.specs.declared.refusal.Refusal.the-variants.{LabelColumns, LabelRange}
 use Rattle.columns.proofs.FirstBroken.{each-none, passed}
-use Rattle.columns.proofs.Checks.{is-kept, first-alone, then-rest, then-broken, few-numbers, few-deltas}
+use Rattle.columns.proofs.Checks.{then-rest, then-broken, few-numbers, few-deltas}
+use Rattle.columns.proofs.Told.{last-rule, told-kept}
 use Rattle.columns_ask.specs.Views.{childrenRules, lentLabelRules}
 
 -- ── limits ───────────────────────────────────────────────────────────────────────────────────
@@ -52,7 +53,7 @@ module _ (rows : ℕ) (chains seqs : List ℕ) (over : Bool) (k : Ruling) (f : o
 
   pub labels-in : k ≡ Kept → (q : Ruling) → q ≡ ruling (labelRules rows (labelColumns chains seqs)) → q ≡ ruling (lentLabelRules rows (labelColumns chains seqs))
   unfolding lentLabelRules
-  labels-in h q g = then-rest k _ _ (e ∙ ap ruling (sym label-limits)) h q (g ∙ ap ruling (sym (first-alone (labelRules rows (labelColumns chains seqs)))))
+  labels-in h q g = then-rest k _ _ (e ∙ ap ruling (sym label-limits)) h q (g ∙ ap ruling (sym (last-rule (labelRules rows (labelColumns chains seqs)))))
 
   pub labels-out : (why : Refusal) → k ≡ Broken why → Broken why ≡ ruling (lentLabelRules rows (labelColumns chains seqs))
   unfolding lentLabelRules
@@ -63,12 +64,12 @@ module _ (rows : ℕ) (chains seqs : List ℕ) (over : Bool) (k : Ruling) (f : o
 module _ (first rows end : ℕ) (r i : EdgeSet) (lent : List Lent) (k : Ruling) (e : k ≡ ruling (childrenRules first rows end r i lent)) (h : k ≡ Kept) where
   apart : (any (ltb maxNumbers) (setLengths r) ≡ false) × (any (ltb maxNumbers) (setLengths i) ≡ false)
   unfolding childrenRules
-  apart = or-is-false _ _ (sym (any-append (ltb maxNumbers) (setLengths r) (setLengths i)) ∙ few-numbers _ _ lent (each-none _ (is-kept k _ e h) .0))
+  apart = or-is-false _ _ (sym (any-append (ltb maxNumbers) (setLengths r) (setLengths i)) ∙ few-numbers _ _ lent (each-none _ (told-kept _ e h) .0))
 
   rules : (setRules reverse first rows end r ≡ none) × (setRules inbound first rows end i ≡ none)
   unfolding childrenRules
   rules =
-      let p = each-none _ (is-kept k _ e h) in
+      let p = each-none _ (told-kept _ e h) in
       (p .1 .0, p .1 .1 .0)
 
   pub readable-reverse : Readable first r
@@ -81,7 +82,7 @@ module _ (first rows end : ℕ) (r i : EdgeSet) (lent : List Lent) (k : Ruling) 
 module _ (rows : ℕ) (chains seqs : List ℕ) (k : Ruling) (e : k ≡ ruling (lentLabelRules rows (labelColumns chains seqs))) (h : k ≡ Kept) where
   lent-labels : labelRules rows (labelColumns chains seqs) ≡ none
   unfolding lentLabelRules
-  lent-labels = each-none _ (is-kept k _ e h) .1 .0
+  lent-labels = each-none _ (told-kept _ e h) .1 .0
 
   counts : (length chains ≡ rows) × (length seqs ≡ rows)
   unfolding labelRules

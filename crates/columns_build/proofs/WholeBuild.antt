@@ -22,7 +22,7 @@ use Rattle.columns.specs.Answers.{ruling}
 use Rattle.columns_rules.specs.Ruled.{fileRules}
 use Rattle.columns.specs.declared.refusal.Ruling.{Ruling}
 use Rattle.columns.specs.declared.refusal.Ruling.the-variants.{Kept, Broken}
-use Rattle.columns_rules.proofs.Told.{told, told-kept, last-rule}
+use Rattle.columns.proofs.Told.{told, told-kept, last-rule}
 use Rattle.columns_rules.specs.records.Recorded.{depthOf, labelsGiven, inboundOf}
 use Rattle.columns.specs.declared.depth.Depth as given
 use Rattle.columns_encode.specs.Grouped.{lateRules}

@@ -21,7 +21,7 @@ use Rattle.columns.proofs.ReadBack.{cut-joined, starts-form}
 use Rattle.columns.specs.Answers.{ruling}
 use Rattle.columns.specs.declared.refusal.Ruling.{Ruling}
 use Rattle.columns.specs.declared.refusal.Ruling.the-variants.{Kept, Broken}
-use Rattle.columns_rules.proofs.Told.{told, told-kept}
+use Rattle.columns.proofs.Told.{told, told-kept}
 use Rattle.columns_rules.specs.records.Recorded.{inboundOf}
 use Rattle.columns_rules.specs.spans.Spanned.{spanRules}
 use Rattle.columns_sets.proofs.transpose.ReadBack.{slots-once}

@@ -19,7 +19,7 @@ use Rattle.columns.specs.declared.refusal.Refusal.the-variants.{InboundTwice}
 use Rattle.columns.specs.Answers.{ruling}
 use Rattle.columns.specs.declared.refusal.Ruling.{Ruling}
 use Rattle.columns.specs.declared.refusal.Ruling.the-variants.{Kept, Broken}
-use Rattle.columns_rules.proofs.Told.{told-kept, last-rule, stops-here, goes-on}
+use Rattle.columns.proofs.Told.{told-kept, last-rule, stops-here, goes-on}
 use Rattle.columns_rules.specs.records.Recorded.{inboundOf, inboundFrom}
 use Rattle.columns_encode.proofs.KeptEdges.{edges-given}
 use Rattle.columns_sets.specs.counting.GivenEdges.{Edges}

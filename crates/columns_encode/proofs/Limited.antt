@@ -9,6 +9,7 @@ use lib.ListN.{length}
 use borrow.Author.Tests.{lt-ltb, le-ltb, ltb-false}
 use Rattle.lists.specs.Lists.{any}
 use Rattle.lists.proofs.Once.{or-is-false}
+use Rattle.lists.proofs.Tests.{any-append}
 use Rattle.columns.specs.Limits.{maxNumbers}
 use Rattle.columns.specs.Refusal.{firstOf, short}
 use Rattle.columns.specs.Reading.{Labels, labelLengths}
@@ -20,20 +21,11 @@ use Rattle.columns.specs.Answers.{ruling}
 use Rattle.columns_rules.specs.Ruled.{fileRules}
 use Rattle.columns.specs.declared.refusal.Ruling.{Ruling}
 use Rattle.columns.specs.declared.refusal.Ruling.the-variants.{Kept, Broken}
-use Rattle.columns_rules.proofs.Told.{told-kept, stops-here, goes-on}
+use Rattle.columns.proofs.Told.{told-kept, stops-here, goes-on}
 use Rattle.columns_rules.specs.records.Recorded.{labelsGiven, recordRules}
 use Rattle.columns_encode.specs.Encoded.{labelCounts, rooms, limitRules, inputRules, earlyRules}
 
 -- ── lengths ──────────────────────────────────────────────────────────────────────────────────
-
-any-append : {A : Type 0} (p : A → Bool) (xs ys : List A) → any p (xs ++ ys) ≡ any p xs || any p ys
-unfolding any
-any-append p [] ys = refl
-any-append p (x ∷ xs) ys = rw (any-append p xs ys) (assoc (p x) (any p xs) (any p ys))
-  where
-    assoc : (a b c : Bool) → a || (b || c) ≡ (a || b) || c
-    assoc true b c = refl
-    assoc false b c = refl
 
 module _ (o t c p k : ℕ) (labelled : Bool) (chains seqs : ℕ) (a : Bool) (e : a ≡ any (ltb maxNumbers) (o ∷ t ∷ c ∷ p ∷ [])) where
   split : any (ltb maxNumbers) (o ∷ t ∷ c ∷ p ∷ k ∷ labelCounts labelled chains seqs) ≡ a || (ltb maxNumbers k || any (ltb maxNumbers) (labelCounts labelled chains seqs))

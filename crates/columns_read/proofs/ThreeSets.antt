@@ -26,7 +26,8 @@ use Rattle.columns.specs.declared.refusal.Ruling.{Ruling}
 use Rattle.columns.specs.declared.refusal.Ruling.the-variants.{Kept, Broken}
 use Rattle.columns.specs.declared.refusal.Refusal.{Refusal}
 use Rattle.columns.proofs.FirstBroken.{each-none}
-use Rattle.columns.proofs.Checks.{is-kept, is-broken, first-alone, first-append, then-rest, then-broken, over-none, few-deltas}
+use Rattle.columns.proofs.Checks.{first-append, then-rest, then-broken, over-none, few-deltas}
+use Rattle.columns.proofs.Told.{last-rule, told-kept, told}
 
 -- ── limits ───────────────────────────────────────────────────────────────────────────────────
 
@@ -99,7 +100,7 @@ module _ (h : Head) (fo : List ℕ) (fd : List ℤ) (ro : List ℕ) (rd : List �
     module _ (k : Ruling) (e : k ≡ ruling (setsRules h fo fd ro rd io id)) where
       pub edges-kept : k ≡ Kept → (q : Ruling) → q ≡ ruling (coverRules (h .rows) (coverOf (h .cover) chains seqs))
           → q ≡ ruling (granuleRules (h .first) (h .rows) (h .end) (lentGranule h fo fd ro rd io id chains seqs))
-      edges-kept g q f = rw edges-are (then-rest k _ _ e g q (f ∙ ap ruling (sym (first-alone (coverRules (h .rows) (coverOf (h .cover) chains seqs))))))
+      edges-kept g q f = rw edges-are (then-rest k _ _ e g q (f ∙ ap ruling (sym (last-rule (coverRules (h .rows) (coverOf (h .cover) chains seqs))))))
 
       pub edges-broken : (why : Refusal) → k ≡ Broken why → Broken why ≡ ruling (granuleRules (h .first) (h .rows) (h .end) (lentGranule h fo fd ro rd io id chains seqs))
       edges-broken why g = rw edges-are (then-broken k _ _ e why g)
@@ -123,7 +124,7 @@ module _ (h : Head) (fo : List ℕ) (fd : List ℤ) (ro : List ℕ) (rd : List �
       pub granule-kept : k ≡ Kept → (q : Ruling) → q ≡ ruling (granuleRules (h .first) (h .rows) (h .end) (lentGranule h fo fd ro rd io id chains seqs))
           → q ≡ ruling (lentGranuleRules h fo fd ro rd io id chains seqs tight)
       unfolding lentGranuleRules
-      granule-kept g q p = then-rest k _ _ in-limits g q (p ∙ ap ruling (sym (first-alone (granuleRules (h .first) (h .rows) (h .end) (lentGranule h fo fd ro rd io id chains seqs)))))
+      granule-kept g q p = then-rest k _ _ in-limits g q (p ∙ ap ruling (sym (last-rule (granuleRules (h .first) (h .rows) (h .end) (lentGranule h fo fd ro rd io id chains seqs)))))
 
       pub granule-broken : (why : Refusal) → k ≡ Broken why → Broken why ≡ ruling (lentGranuleRules h fo fd ro rd io id chains seqs tight)
       unfolding lentGranuleRules
@@ -136,7 +137,7 @@ module _ (h : Head) (fo : List ℕ) (fd : List ℤ) (ro : List ℕ) (rd : List �
         parts : (limitsOf (h .rows) (any (ltb maxNumbers) (columnLengths (lentGranule h fo fd ro rd io id chains seqs))) tight ≡ none)
             × (granuleRules (h .first) (h .rows) (h .end) (lentGranule h fo fd ro rd io id chains seqs) ≡ none)
         unfolding lentGranuleRules
-        parts = let p = each-none _ (is-kept k _ e g) in (p .0, p .1 .0)
+        parts = let p = each-none _ (told-kept _ e g) in (p .0, p .1 .0)
 
         few : (any (ltb maxNumbers) (setLengths (columnsOf (h .forward) fo fd)) ≡ false)
             × (any (ltb maxNumbers) (setLengths (columnsOf (h .reverse) ro rd)) ≡ false)
@@ -180,7 +181,7 @@ module _ (h : Head) (fo : List ℕ) (fd : List ℤ) (ro : List ℕ) (rd : List �
           read-kept : readGranule (h .first) (h .rows) (h .end) (lentGranule h fo fd ro rd io id chains seqs) (rooms f r i)
               ≡ accepted (granuleOf (h .first) (lentGranule h fo fd ro rd io id chains seqs))
           unfolding unless
-          read-kept = lent-are ∙ rw (is-kept k (lentGranuleRules h fo fd ro rd io id chains seqs tight) e g)
+          read-kept = lent-are ∙ rw (told-kept (lentGranuleRules h fo fd ro rd io id chains seqs tight) e g)
 
           pub granule-counted : (n : Counts)
               → n ≡ countsOf (slotsOf (h .first) (columnsOf (h .forward) fo fd)) (slotsOf (h .first) (columnsOf (h .reverse) ro rd)) (slotsOf (h .first) (columnsOf (h .inbound) io id))
@@ -207,7 +208,7 @@ module _ (h : Head) (fo : List ℕ) (fd : List ℤ) (ro : List ℕ) (rd : List �
         module _ (why : Refusal) (g : k ≡ Broken why) where
           read-broken : readGranule (h .first) (h .rows) (h .end) (lentGranule h fo fd ro rd io id chains seqs) (rooms f r i) ≡ refused why
           unfolding unless
-          read-broken = lent-are ∙ rw (is-broken k (lentGranuleRules h fo fd ro rd io id chains seqs tight) why e g)
+          read-broken = lent-are ∙ rw (told (lentGranuleRules h fo fd ro rd io id chains seqs tight) e g)
 
           pub granule-refused : Refused why ≡ decodedOf (readGranule (h .first) (h .rows) (h .end) (lentGranule h fo fd ro rd io id chains seqs) (rooms f r i))
           unfolding decodedOf

@@ -39,7 +39,7 @@ fn climbs(high: u64, offsets: &[u64]) -> bool
 }
 
 // Whether there is an offset for each slot and one more, from 0 to the number of edges.
-fn is_form(rows: usize, count: u64, offsets: &[u64]) -> bool
+pub fn is_form(rows: usize, count: u64, offsets: &[u64]) -> bool
     ensures { λ r. ⌜ r ≡ offsetsForm rows count (now (offsets .entry)) ⌝ }
 {
     if offsets.len() % 2 != 1 {

@@ -6,7 +6,7 @@ use Rattle.columns.specs.Limits.{end64}
 use Rattle.columns.specs.Refusal.{firstOf}
 use Rattle.columns.specs.declared.refusal.Refusal.the-variants.{SubjectLength, EdgeEntries, NumberRange}
 use Rattle.lists.proofs.Tests.{tested}
-use Rattle.columns_rules.proofs.Told.{last-rule}
+use Rattle.columns.proofs.Told.{last-rule}
 use Rattle.columns.specs.Answers.{ruling}
 use Rattle.columns_rules.specs.Ruled.{fileRules}
 use Rattle.columns.specs.declared.refusal.Ruling.the-variants.{Broken}

@@ -1,4 +1,3 @@
-pub mod Told
 pub mod SlotTables
 pub mod ParentTurns
 pub mod FileOrder

@@ -1,15 +1,17 @@
 -- Parents in turn: one turn over the parents of a slot, and one over the slots.
 use mathlib.Core.Path.{_≡_, refl, sym, _∙_, ap}
-use mathlib.Core.Bool.{Bool, true, false, _||_}
+use mathlib.Core.Bool.{Bool, true, false, _||_, or-comm}
 use mathlib.Core.List.{List, [], _∷_, _++_}
 use Prim.Native.Nat.{ℕ, suc, _+_, _-_, _*_, _≤_, _<_}
 use native.Mathlib.Numerals.{add-one}
 use native.Mathlib.Omega.{arith}
 use lib.Dec.{eqb}
-use lib.ListN.{length, getD, take, drop, drop-of-length-le, length-take}
-use lib.Seq.{slice, slice-cons, drop-cons, take-suc, drop-append-le, length-take-le}
-use borrow.Author.Tests.{le-leb, lt-leb, eq-eqb, ne-eqb}
+use lib.ListN.{length, getD, drop, drop-of-length-le}
+use lib.Seq.{slice, slice-cons, drop-cons}
+use borrow.Author.Tests.{le-leb, lt-leb}
 use Rattle.lists.specs.Lists.{mem}
+use Rattle.lists.proofs.Slices.{slice-none, slice-snoc}
+use Rattle.lists.proofs.Once.{mem-last}
 use Rattle.columns.specs.Refusal.{firstOf}
 use Rattle.columns.specs.EdgeSet.{offsetsForm, cut, eventOf}
 use Rattle.columns.specs.Building.{parentRules, slotRules}
@@ -18,48 +20,20 @@ use Rattle.columns.specs.declared.refusal.Refusal.{Refusal}
 use Rattle.columns.specs.declared.refusal.Refusal.the-variants.{ParentNotEarlier, ParentTwice}
 use Rattle.columns.specs.declared.refusal.Ruling.{Ruling}
 use Rattle.columns.specs.declared.refusal.Ruling.the-variants.{Kept, Broken}
-use Rattle.columns_rules.proofs.Told.{told, told-kept, last-rule}
+use Rattle.columns.proofs.Told.{told, told-kept, last-rule}
 use Rattle.columns_rules.proofs.SlotTables.{table-of, length-cut, getD-cut}
-
-pub slice-none : {A : Type 0} (i to : ℕ) (l : List A) → to ≤ i → slice i to l ≡ []
-slice-none i to l h = drop-of-length-le (take to l) {i = i} (simp length-take (omega arith))
-
--- ── one of a part of a column ────────────────────────────────────────────────────────────────
-
-module _ {t : Bool} (x i to : ℕ) (l : List ℕ) (e : t ≡ mem x (slice i to l)) where
-  pub not-among : to ≤ i → false ≡ t
-  unfolding mem
-  not-among h = rw (e, slice-none i to l h)
-
-  module _ (h : i < to) (k : to ≤ length l) where
-    pub found-among : getD l i 0 ≡ x → true ≡ t
-    unfolding mem
-    found-among f = rw (e, slice-cons i to l 0, eq-eqb x (getD l i 0) (sym f))
-
-    pub among-on : (getD l i 0 ≡ x → ⊥) → t ≡ mem x (slice (i + 1) to l)
-    unfolding mem
-    among-on f = rw (e, slice-cons i to l 0, ne-eqb x (getD l i 0) (λ d. f (sym d)), add-one)
 
 -- ── the parents of a slot ────────────────────────────────────────────────────────────────────
 
 mem-snoc : (x : ℕ) (l : List ℕ) (y : ℕ) → mem x (l ++ (y ∷ [])) ≡ mem x (y ∷ l)
 unfolding mem
-mem-snoc x [] y = refl
-mem-snoc x (z ∷ l) y = rw (mem-snoc x l y) (swap (eqb x z) (eqb x y) (mem x l))
-  where
-    swap : (a b c : Bool) → (a || (b || c)) ≡ (b || (a || c))
-    swap true true c = refl
-    swap true false c = refl
-    swap false b c = refl
+mem-snoc x l y = mem-last x y l ∙ or-comm (mem x l) (eqb x y)
 
 -- only what was seen counts, not in which order
 parents-seen : (event : ℕ) (s t ps : List ℕ) → ((x : ℕ) → mem x s ≡ mem x t) → parentRules event s ps ≡ parentRules event t ps
 unfolding parentRules mem
 parents-seen event s t [] h = refl
 parents-seen event s t (p ∷ ps) h = rw (h p, parents-seen event (p ∷ s) (p ∷ t) ps (λ x. ap (λ b. eqb x p || b) (h x)))
-
-slice-snoc : (from j : ℕ) (l : List ℕ) → from ≤ j → j < length l → slice from (suc j) l ≡ slice from j l ++ (getD l j 0 ∷ [])
-slice-snoc from j l h k = rw (take-suc l j 0 k) (drop-append-le from (take j l) (getD l j 0 ∷ []) (omega (arith, length-take-le j l (omega arith))))
 
 module _ {t : Ruling} (event from to j : ℕ) (l : List ℕ) (e : t ≡ ruling (parentRules event (slice from j l) (slice j to l))) where
   pub parents-done : to ≤ j → Kept ≡ t
@@ -80,7 +54,7 @@ module _ {t : Ruling} (event from to j : ℕ) (l : List ℕ) (e : t ≡ ruling (
       unfolding parentRules firstOf
       parents-on i q =
           let z : parentRules event (getD l j 0 ∷ slice from j l) (slice (suc j) to l) ≡ parentRules event (slice from (suc j) l) (slice (suc j) to l)
-          = parents-seen event (getD l j 0 ∷ slice from j l) (slice from (suc j) l) (slice (suc j) to l) (λ x. sym (ap (mem x) (slice-snoc from j l i (omega arith)) ∙ mem-snoc x (slice from j l) (getD l j 0))) in
+          = parents-seen event (getD l j 0 ∷ slice from j l) (slice from (suc j) l) (slice (suc j) to l) (λ x. sym (ap (mem x) (slice-snoc from j l 0 i (omega arith)) ∙ mem-snoc x (slice from j l) (getD l j 0))) in
           rw (e, slice-cons j to l 0, lt-leb event (getD l j 0) f, ← g, q, add-one, ← z) (ap ruling (last-rule (parentRules event (getD l j 0 ∷ slice from j l) (slice (suc j) to l))))
 
 pub none-yet : (event from to : ℕ) (l : List ℕ) → ruling (parentRules event [] (slice from to l)) ≡ ruling (parentRules event (slice from from l) (slice from to l))

@@ -1,56 +1,19 @@
 -- Slot offsets in the right form: where each slot starts and ends, and which list they cut out of a column.
-use mathlib.Core.Path.{_≡_, refl, _∙_}
-use mathlib.Core.Bool.{Bool, true, false, _&&_}
+use mathlib.Core.Path.{_≡_}
+use mathlib.Core.Bool.{true}
 use mathlib.Core.List.{List, [], _∷_}
 use Prim.Native.Nat.{ℕ, zero, suc, _+_, _*_, _≤_, _<_}
 use native.Mathlib.Numerals.{add-one}
 use native.Mathlib.Nat.{not-suc-le-zero, le-of-suc-le-suc}
 use native.Mathlib.Omega.{arith}
 use lib.Dec.{leb, eqb}
-use lib.ListN.{length, getD, drop, drop-of-length-le}
-use lib.Seq.{slice, drop-cons}
-use borrow.Author.Tests.{leb-true, eqb-true, eq-eqb, ne-eqb, le-leb, lt-leb}
+use lib.ListN.{length, getD}
+use lib.Seq.{slice}
+use borrow.Author.Tests.{leb-true, eqb-true}
 use Rattle.lists.specs.Order.{climbsTo}
 use Rattle.lists.proofs.Tests.{both}
-use Rattle.columns.specs.EdgeSet.{fromTo, offsetsForm, cutFrom, cut}
-
--- ── one turn of the test ─────────────────────────────────────────────────────────────────────
-
-module _ {t : Bool} (high low i : ℕ) (l : List ℕ) (e : t ≡ climbsTo high low (drop i l)) where
-  pub climb-end : length l ≤ i → eqb low high ≡ t
-  unfolding climbsTo
-  climb-end h = rw (e, drop-of-length-le l {i = i} h)
-
-  module _ (h : i < length l) where
-    pub climb-falls : getD l i 0 < low → false ≡ t
-    unfolding climbsTo
-    climb-falls k = rw (e, drop-cons l i 0, lt-leb low (getD l i 0) k)
-
-    pub climb-on : low ≤ getD l i 0 → t ≡ climbsTo high (getD l i 0) (drop (i + 1) l)
-    unfolding climbsTo
-    climb-on k = rw (e, drop-cons l i 0, le-leb low (getD l i 0) k, add-one)
-
-module _ (rows count : ℕ) (l : List ℕ) where
-  pub form-length : (length l ≡ 2 * rows + 1 → ⊥) → false ≡ offsetsForm rows count l
-  unfolding offsetsForm
-  form-length h = rw (ne-eqb (length l) (2 * rows + 1) h)
-
-  module _ (h : length l ≡ 2 * rows + 1) where
-    starts-there : fromTo 0 count l ≡ (eqb (getD l 0 0) 0 && climbsTo count (getD l 0 0) (drop 1 l))
-    unfolding fromTo
-    starts-there = go l h
-      where
-        go : (l : List ℕ) → length l ≡ 2 * rows + 1 → fromTo 0 count l ≡ (eqb (getD l 0 0) 0 && climbsTo count (getD l 0 0) (drop 1 l))
-        go [] k = absurd (omega arith)
-        go (x ∷ xs) k = refl
-
-    pub form-start : (getD l 0 0 ≡ 0 → ⊥) → false ≡ offsetsForm rows count l
-    unfolding offsetsForm
-    form-start k = rw (eq-eqb (length l) (2 * rows + 1) h, starts-there, ne-eqb (getD l 0 0) 0 k)
-
-    pub form-rest : getD l 0 0 ≡ 0 → {r : Bool} → r ≡ climbsTo count (getD l 0 0) (drop 1 l) → r ≡ offsetsForm rows count l
-    unfolding offsetsForm
-    form-rest k e = rw (eq-eqb (length l) (2 * rows + 1) h, starts-there, eq-eqb (getD l 0 0) 0 k) e
+use Rattle.columns.specs.EdgeSet.{fromTo, offsetsForm, cut}
+use Rattle.columns.proofs.Offsets.{cut-length, cut-at}
 
 -- ── what the form says ───────────────────────────────────────────────────────────────────────
 
@@ -102,24 +65,9 @@ table-of rows count (x ∷ xs) e =
 -- ── the lists cut out ────────────────────────────────────────────────────────────────────────
 
 module _ {A : Type 0} where
-  length-cutFrom : (a : ℕ) (bs : List ℕ) (col : List A) → length (cutFrom a bs col) ≡ length bs
-  unfolding cutFrom
-  length-cutFrom a [] col = refl
-  length-cutFrom a (b ∷ bs) col = rw (length-cutFrom b bs col)
-
-  getD-cutFrom : (a : ℕ) (bs : List ℕ) (col : List A) (s : ℕ) → s < length bs → getD (cutFrom a bs col) s [] ≡ slice (getD (a ∷ bs) s 0) (getD (a ∷ bs) (suc s) 0) col
-  unfolding cutFrom
-  getD-cutFrom a [] col s h = absurd (not-suc-le-zero h)
-  getD-cutFrom a (b ∷ bs) col zero h = refl
-  getD-cutFrom a (b ∷ bs) col (suc s) h = getD-cutFrom b bs col s (le-of-suc-le-suc h)
-
   pub length-cut : (slots count : ℕ) (offsets : List ℕ) (col : List A) → length offsets ≡ slots + 1 → length (cut offsets col) ≡ slots
-  unfolding cut
-  length-cut slots count [] col h = absurd (omega arith)
-  length-cut slots count (a ∷ bs) col h = length-cutFrom a bs col ∙ omega arith
+  length-cut slots count offsets col h = rw (cut-length offsets col) (omega arith)
 
   pub getD-cut : (slots : ℕ) (offsets : List ℕ) (col : List A) → length offsets ≡ slots + 1 → (s : ℕ) → s < slots
       → getD (cut offsets col) s [] ≡ slice (getD offsets s 0) (getD offsets (s + 1) 0) col
-  unfolding cut
-  getD-cut slots [] col h s k = absurd (omega arith)
-  getD-cut slots (a ∷ bs) col h s k = rw add-one (getD-cutFrom a bs col s (omega arith))
+  getD-cut slots offsets col h s k = cut-at offsets col s (omega arith)

@@ -1,8 +1,8 @@
 // The rules of a file: its subject, its slot offsets, its numbers and its parents (1 to 5), in order.
-use crate::slots::entries_form;
 use crate::slots::slot_rules;
 use columns::refusal::Refusal;
 use columns::refusal::Ruling;
+use columns_read::sets::is_form;
 ghost use mathlib.Core.Path.{_≡_};
 ghost use Prim.Native.Nat.{_≤_};
 ghost use Rattle.columns.specs.Building.{subjectOk, numbersOk};
@@ -39,7 +39,7 @@ pub fn file_rules(
     if !subject_fits(subject) {
         return Ruling::Broken(Refusal::SubjectLength);
     }
-    if !entries_form(rows, targets.len(), offsets) {
+    if !is_form(rows, targets.len() as u64, offsets) {
         return Ruling::Broken(Refusal::EdgeEntries);
     }
     if !numbers_fit(first, rows) {

@@ -1,66 +1,18 @@
-// Building's rules on a file's parents: the form of the slot offsets (2), and each parent in turn (4, 5).
+// Building's rules on a file's parents, each in turn (4, 5).
 use arrays::index;
+use arrays::searching::among;
 use columns::refusal::Refusal;
 use columns::refusal::Ruling;
 ghost use mathlib.Core.Path.{_≡_};
 ghost use mathlib.Core.Bool.{true};
 ghost use mathlib.Core.List.{[]};
 ghost use Prim.Native.Nat.{_+_, _*_, _≤_, _<_};
-ghost use lib.ListN.{length, getD, drop};
+ghost use lib.ListN.{length, getD};
 ghost use lib.Seq.{slice};
-ghost use Rattle.lists.specs.Lists.{mem};
-ghost use Rattle.lists.specs.Order.{climbsTo};
 ghost use Rattle.columns.specs.Limits.{end64};
 ghost use Rattle.columns.specs.EdgeSet.{offsetsForm, cut, eventOf};
 ghost use Rattle.columns.specs.Building.{parentRules, slotRules};
 ghost use Rattle.columns.specs.Answers.{ruling};
-
-// Whether the numbers after the first never fall and end at `high`.
-fn climbs_to(high: usize, offsets: &[u64]) -> bool
-    requires { ⌜ 0 < length (now offsets) ⌝ }
-    ensures { λ r. ⌜ r ≡ climbsTo high (getD (now (offsets .entry)) 0 0) (drop 1 (now (offsets .entry))) ⌝ }
-{
-    let mut low = offsets[0];
-    let mut i = 1;
-    while i < offsets.len() {
-        let x = offsets[i];
-        if x < low {
-            return false;
-        }
-        low = x;
-        i += 1;
-    }
-    low == high as u64
-}
-
-// Whether there is an offset for each slot and one more, rising or level from 0 to the number of targets.
-pub fn entries_form(rows: usize, count: usize, offsets: &[u64]) -> bool
-    requires { ⌜ rows ≤ 1024 ⌝ }
-    ensures { λ r. ⌜ r ≡ offsetsForm rows count (now (offsets .entry)) ⌝ }
-{
-    if offsets.len() != 2 * rows + 1 {
-        return false;
-    }
-    if offsets[0] != 0 {
-        return false;
-    }
-    climbs_to(count, offsets)
-}
-
-// Whether x is one of list[from..to].
-pub fn among(list: &[u64], from: usize, to: usize, x: u64) -> bool
-    requires { ⌜ to ≤ length (now list) ⌝ }
-    ensures { λ r. ⌜ r ≡ mem x (slice from to (now (list .entry))) ⌝ }
-{
-    let mut i = from;
-    while i < to {
-        if list[i] == x {
-            return true;
-        }
-        i += 1;
-    }
-    false
-}
 
 // Each parent of one slot in turn: below its event, and not one of those before it.
 fn parent_rules(event: u64, targets: &[u64], from: usize, to: usize) -> Ruling

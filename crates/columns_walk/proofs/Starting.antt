@@ -1,39 +1,31 @@
 -- A walk at its start and at its end: the start is the only key, and what was laid out is handed out.
 use mathlib.Core.Path.{_≡_, refl, sym, _∙_, ap}
-use mathlib.Core.Bool.{true, or-true}
 use mathlib.Core.List.{List, [], _∷_, _++_}
 use Prim.Native.Nat.{ℕ, suc, _≤_, _<_, _+_, _-_}
 use native.Mathlib.Omega.{arith}
-use lib.Dec.{eqb}
 use lib.ListN.{length, take, drop, set, length-take, take-append-drop}
 use lib.Seq.{slice, sets, sets-eq, length-take-le, length-slice, take-suc-set}
 use borrow.Author.Tests.{eq-eqb, lt-leb}
 use Rattle.lists.specs.Lists.{mem, joined, sum}
 use Rattle.lists.proofs.Flat.{length-joined}
+use Rattle.lists.proofs.Slices.{take-none}
+use Rattle.lists.proofs.Once.{mem-later}
 use Rattle.columns.specs.Walk.{levels, levelsFrom}
 use Rattle.arrays.specs.table.Table.{Table, addCap}
 use Rattle.columns_levels.specs.frontier.Frontier.{hitsIn, copied, Seen}
 use Rattle.columns_levels.specs.rounds.Rounds.{endsFrom, Ran}
 use Rattle.columns_walk.specs.declared.Handed.the-variants.{Levels}
 
-none-taken : (l : List ℕ) → take 0 l ≡ []
-none-taken [] = refl
-none-taken (x ∷ xs) = refl
-
 -- ── fill ─────────────────────────────────────────────────────────────────────────────────────
 
 only-key : (start n : ℕ) (keys keys′ : List ℕ) → take n keys′ ≡ addCap (length keys) (take 0 keys) start → 0 < length keys → take n keys′ ≡ start ∷ []
 unfolding addCap mem
-only-key start n keys keys′ e h = e ∙ rw (none-taken keys, lt-leb (length keys) 0 h)
+only-key start n keys keys′ e h = e ∙ rw (take-none keys, lt-leb (length keys) 0 h)
 
 pub one-key : (start n c : ℕ) (keys keys′ links heads : List ℕ) → Table keys′ links heads n → take n keys′ ≡ addCap (length keys) (take 0 keys) start → length keys ≡ c → 0 < c → 1 ≤ n
 one-key start n c keys keys′ links heads t e k h =
     let z : length (take n keys′) ≡ 1 = ap length (only-key start n keys keys′ e (omega arith)) in
     omega (arith, length-take n keys′, z)
-
-in-front : (x start : ℕ) (l : List ℕ) → mem x l ≡ true → mem x (start ∷ l) ≡ true
-unfolding mem
-in-front x start l e = rw e (or-true (eqb x start))
 
 one-hit : (start : ℕ) (l : List ℕ) → length (start ∷ []) ≤ hitsIn (start ∷ []) (start ∷ l)
 unfolding hitsIn mem
@@ -46,7 +38,7 @@ seen-first limit start n c d targets buf keys keys′ e f k j i h =
     record {
       bound = start ∷ targets;
       fits = omega arith;
-      every = λ x q. in-front x start targets q;
+      every = λ x q. mem-later x start targets q;
       same = λ q x. ap (λ (l : List ℕ). mem x l) (o ∙ sym f);
       within = λ q. rw o (one-hit start targets);
     }
@@ -64,7 +56,7 @@ length-ends at [] = refl
 length-ends at (l ∷ ls) = ap suc (length-ends (at + length l) ls)
 
 pub start-set : (start : ℕ) (l : List ℕ) → 0 < length l → take 1 (set l 0 start) ≡ start ∷ []
-start-set start l h = take-suc-set l 0 start h ∙ ap (λ (m : List ℕ). m ++ (start ∷ [])) (none-taken l)
+start-set start l h = take-suc-set l 0 start h ∙ ap (λ (m : List ℕ). m ++ (start ∷ [])) (take-none l)
 
 module _ (ls : List (List ℕ)) (ends₀ buf ends : List ℕ) (m k : ℕ) (r : Ran ls ends₀ buf ends m k) where
   pub counted : Levels k (m - 1) ≡ Levels (length ls) (sum length ls)
@@ -84,7 +76,7 @@ module _ (ls : List (List ℕ)) (ends₀ buf ends : List ℕ) (m k : ℕ) (r : R
       let f = r .fits in
       let z : 0 + length (endsFrom 0 ls) ≡ k = omega (arith, n) in
       sym (sets-eq (endsFrom 0 ls) ends₀ 0 (omega (arith, z, f, q)) ∙ ap (λ (j : ℕ). (take 0 ends₀ ++ endsFrom 0 ls) ++ drop j ends₀) z
-      ∙ ap (λ (j : List ℕ). (j ++ endsFrom 0 ls) ++ drop k ends₀) (none-taken ends₀) ∙ ap (λ (j : List ℕ). j ++ drop k ends₀) s ∙ ap (λ (j : List ℕ). take k ends ++ j) (sym (r .past)) ∙ take-append-drop k ends)
+      ∙ ap (λ (j : List ℕ). (j ++ endsFrom 0 ls) ++ drop k ends₀) (take-none ends₀) ∙ ap (λ (j : List ℕ). j ++ drop k ends₀) s ∙ ap (λ (j : List ℕ). take k ends ++ j) (sym (r .past)) ∙ take-append-drop k ends)
 
   pub in-out : (c : ℕ) → length buf ≡ 4097 → 4096 ≤ c → 0 + (m - 1) ≤ c
   in-out c e h = let u = r .upto in omega arith

@@ -31,7 +31,12 @@ sums-differences before (x ∷ xs) a h =
     let p = both (leb before x) (levelAbove x xs) a in
     rw (difference-back x before (leb-true before x (p .0)) (h .0), sums-differences x xs (p .1) (h .1))
 
-length-differences : (before : ℕ) (xs : List ℕ) → length (differences before xs) ≡ length xs
+pub length-sums : (before : ℕ) (ds : List ℕ) → length (sums before ds) ≡ length ds
+unfolding sums
+length-sums before [] = refl
+length-sums before (d ∷ ds) = rw (length-sums (before + d) ds)
+
+pub length-differences : (before : ℕ) (xs : List ℕ) → length (differences before xs) ≡ length xs
 unfolding differences
 length-differences before [] = refl
 length-differences before (x ∷ xs) = rw (length-differences x xs)

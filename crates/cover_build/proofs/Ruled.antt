@@ -17,7 +17,7 @@ use Rattle.columns.specs.declared.refusal.Ruling.{Ruling}
 use Rattle.columns.specs.declared.refusal.Ruling.the-variants.{Kept, Broken}
 use Rattle.columns.specs.declared.refusal.Refusal.the-variants.{OverRecords, SliceShort, CoverForm}
 use Rattle.columns.proofs.FirstBroken.{each-none, not-refused, passed}
-use Rattle.columns.proofs.Checks.{is-kept}
+use Rattle.columns.proofs.Told.{told-kept}
 use Rattle.cover.specs.Cover.{evenColumns}
 use Rattle.cover.specs.Answers.{linkColumns, forRecords}
 use Rattle.cover_rows.proofs.limits.Anyone.{any-nil, few-first, long-first}
@@ -57,7 +57,7 @@ module _ (chains seqs s b c d : List ℕ) (lent : List Lent) where
   module _ (k : Ruling) (e : k ≡ ruling (buildRules (labelColumns chains seqs) (linkColumns s b c d) lent)) (h : k ≡ Kept) where
     none-broken : (limits lengths [] lent ≡ none) × (refuse CoverForm (not (evenColumns (linkColumns s b c d))) ≡ none)
     unfolding buildRules
-    none-broken = let o = each-none (limits lengths [] lent ∷ refuse CoverForm (not (evenColumns (linkColumns s b c d))) ∷ []) (is-kept k _ e h) in (o .0, o .1 .0)
+    none-broken = let o = each-none (limits lengths [] lent ∷ refuse CoverForm (not (evenColumns (linkColumns s b c d))) ∷ []) (told-kept _ e h) in (o .0, o .1 .0)
 
     no-limit : (any (ltb maxRecords) lengths ≡ false) × (any short lent ≡ false)
     unfolding limits

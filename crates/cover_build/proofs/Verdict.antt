@@ -10,7 +10,7 @@ use Rattle.columns.specs.Answers.{labelColumns, ruling}
 use Rattle.columns.specs.declared.refusal.Ruling.{Ruling}
 use Rattle.columns.specs.declared.refusal.Ruling.the-variants.{Kept, Broken}
 use Rattle.columns.specs.declared.refusal.Refusal.{Refusal}
-use Rattle.columns.proofs.Checks.{is-kept, is-broken}
+use Rattle.columns.proofs.Told.{told-kept, told}
 use Rattle.cover.specs.Chains.{rangesOf, sortLinks}
 use Rattle.cover.specs.Cover.{LinkColumns, Cover, linksOf, coverOf, buildCover}
 use Rattle.cover.specs.Answers.{RangeColumns, linkColumns, linksOver, linksAfter}
@@ -50,7 +50,7 @@ module _ (chains seqs s b c d : List ℕ) (lent : List Lent) (k : Ruling) (e : k
   module _ (why : Refusal) (h : k ≡ Broken why) where
     refusing : buildCover (labelColumns chains seqs) (linkColumns s b c d) lent ≡ refused why
     unfolding unless
-    refusing = by-rules ∙ ap (λ o. unless o cover) (is-broken k rules why e h)
+    refusing = by-rules ∙ ap (λ o. unless o cover) (told rules e h)
 
     pub refused-told : Refused why ≡ builtOf (buildCover (labelColumns chains seqs) (linkColumns s b c d) lent)
     refused-told = answer-refused _ refusing
@@ -64,7 +64,7 @@ module _ (chains seqs s b c d : List ℕ) (lent : List Lent) (k : Ruling) (e : k
   module _ (h : k ≡ Kept) where
     accepting : buildCover (labelColumns chains seqs) (linkColumns s b c d) lent ≡ accepted cover
     unfolding unless
-    accepting = by-rules ∙ ap (λ o. unless o cover) (is-kept k rules e h)
+    accepting = by-rules ∙ ap (λ o. unless o cover) (told-kept rules e h)
 
     pub built-told : (m n : ℕ) → m ≡ length (rangesOf (labelsOf chains seqs)) → n ≡ length (sortLinks (linksOf s b c d))
         → Done m n ≡ builtOf (buildCover (labelColumns chains seqs) (linkColumns s b c d) lent)

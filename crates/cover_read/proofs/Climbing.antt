@@ -12,6 +12,7 @@ use lib.Seq.{drop-cons}
 use borrow.Author.Tests.{lt-ltb, le-ltb, ltb-true}
 use Rattle.lists.specs.Order.{risesAbove, rising}
 use Rattle.lists.proofs.Tests.{both}
+use Rattle.lists.proofs.Rising.{rises-rising}
 
 -- ── the test ─────────────────────────────────────────────────────────────────────────────────
 
@@ -49,18 +50,6 @@ rises-get low (x ∷ xs) (suc i) a h =
     let p = both (ltb low x) (risesAbove x xs) a in
     let q = rises-get x xs i (p .1) (le-of-suc-le-suc h) in
     omega (arith, ltb-true low x (p .0))
-
-pub rises-rising : (low : ℕ) (l : List ℕ) → risesAbove low l ≡ true → rising l ≡ true
-unfolding risesAbove rising
-rises-rising low [] a = refl
-rises-rising low (x ∷ xs) a = both (ltb low x) (risesAbove x xs) a .1
-
-pub rises-lower : (low x : ℕ) (l : List ℕ) → low ≤ x → risesAbove x l ≡ true → risesAbove low l ≡ true
-unfolding risesAbove
-rises-lower low x [] h a = refl
-rises-lower low x (y ∷ ys) h a =
-    let p = both (ltb x y) (risesAbove y ys) a in
-    rw (lt-ltb low y (omega (arith, ltb-true x y (p .0)))) (p .1)
 
 -- what follows an element rises above it
 pub rises-past : (l : List ℕ) (i : ℕ) → rising l ≡ true → i < length l → risesAbove (getD l i 0) (drop (suc i) l) ≡ true

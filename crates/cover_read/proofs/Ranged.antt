@@ -1,6 +1,6 @@
 -- Range columns place by place: the tests of their form, and the range that a window meets.
 use mathlib.Core.Path.{_≡_, refl, ap}
-use mathlib.Core.Bool.{Bool, true, false, not, _&&_, _||_}
+use mathlib.Core.Bool.{Bool, true, false, not, _&&_, or-false}
 use mathlib.Core.Logic.{inl, inr}
 use mathlib.Core.List.{List, [], _∷_, map}
 use Prim.Native.Nat.{ℕ, suc, _+_, _≤_, _<_}
@@ -13,14 +13,14 @@ use borrow.Author.Tests.{le-leb, lt-leb, eq-eqb, ne-eqb, ltb-true, eqb-true, not
 use Rattle.lists.specs.Lists.{all, any}
 use Rattle.lists.specs.Order.{risesAbove, rising, notFalling}
 use Rattle.lists.proofs.Tests.{tested, both}
-use Rattle.lists.proofs.Rising.{rising-level}
+use Rattle.lists.proofs.Rising.{rising-level, rises-lower}
 use Rattle.cover.specs.Chains.{Range}
 use Rattle.cover.specs.Cover.{rangesOk}
 use Rattle.cover.specs.Questions.{meets}
 use Rattle.arrays.specs.searching.Place.{placeOf}
 use Rattle.arrays.proofs.searching.Halving.{place-stands}
 use Rattle.cover.specs.Answers.{range, rangesIn, rangeColumns, evenRanges, rangesFit}
-use Rattle.cover_read.proofs.Climbing.{rises-lower, rises-past}
+use Rattle.cover_read.proofs.Climbing.{rises-past}
 
 pub ranges-cons : (i : ℕ) (a b c : List ℕ) → i < length a → length b ≡ length a → length c ≡ length a
     → rangesIn (drop i a) (drop i b) (drop i c) ≡ range (getD a i 0) (getD b i 0) (getD c i 0) ∷ rangesIn (drop (suc i) a) (drop (suc i) b) (drop (suc i) c)
@@ -133,10 +133,6 @@ module _ (chain low high : ℕ) where
         | inl e ↦ let l = ltb-true x chain e in rw (e, ne-eqb x chain (λ q. omega arith)) (skip xs ys zs (omega arith) (omega arith))
         | inr e ↦ rw e
       ]
-
-  or-false : (b : Bool) → (b || false) ≡ b
-  or-false true = refl
-  or-false false = refl
 
   module _ (a b c : List ℕ) (fit : rangesFit (rangeColumns a b c) ≡ true) (p : ℕ) (at-place : p ≡ placeOf chain a) where
     from-place : any (meets chain low high) (rangesIn a b c) ≡ any (meets chain low high) (rangesIn (drop p a) (drop p b) (drop p c))

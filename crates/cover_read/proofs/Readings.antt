@@ -12,13 +12,14 @@ use Rattle.lists.specs.Lists.{any}
 use Rattle.columns.specs.Limits.{maxRecords}
 use Rattle.columns.specs.Refusal.{Verdict, refused, accepted, short, limits}
 use Rattle.columns.specs.declared.refusal.Refusal.the-variants.{OverRecords, SliceShort, CoverForm}
+use Rattle.columns.proofs.FirstBroken.{passes}
 use Rattle.cover.specs.Chains.{Link}
 use Rattle.cover.specs.Cover.{LinkColumns, Cover, linksOk, linkRules, storedLinks}
 use Rattle.cover.specs.Answers.{RangeColumns, rangeLengths, linkLengths, lentRanges, rangesFit, columnRules, forRecords, readLent, counted, linksOver, linksAfter, linkColumns}
 use Rattle.cover.specs.declared.answer.Answer.the-variants.{Refused, Done}
 use Rattle.cover_rows.proofs.limits.Anyone.{any-nil, few-first, long-first}
 use Rattle.cover_rows.proofs.Fitting.{ok-count}
-use Rattle.cover_rows.proofs.limits.Verdicts.{counted-refused, columns-kept, counted-done, columns-written, limits-records, limits-short, limits-none, first-refuses, next-rule, no-rule, refuse-not, refuse-none}
+use Rattle.cover_rows.proofs.limits.Verdicts.{counted-refused, columns-kept, counted-done, columns-written, limits-records, limits-short, limits-none, first-refuses, next-rule, no-rule, refuse-not}
 
 module _ (r : RangeColumns) (l : LinkColumns) (ns : List ℕ) where
   abbrev cover : Cover
@@ -64,7 +65,7 @@ module _ (r : RangeColumns) (l : LinkColumns) (ns : List ℕ) where
           read-links : not w ≡ true → readLent r l (forRecords ns) ≡ refused CoverForm
           unfolding readLent columnRules linkRules
           read-links p =
-              next-rule cover (refused CoverForm) _ _ within (next-rule cover (refused CoverForm) _ _ (refuse-none CoverForm (rangesFit r) (sym g ∙ not-false v m))
+              next-rule cover (refused CoverForm) _ _ within (next-rule cover (refused CoverForm) _ _ (passes CoverForm (rangesFit r) (sym g ∙ not-false v m))
               (first-refuses cover CoverForm _ _ (refuse-not CoverForm (linksOk l) (sym o ∙ not-true w p))))
 
           pub read-links-told : not w ≡ true → Refused CoverForm ≡ counted (λ x. x .links) (readLent r l (forRecords ns))
@@ -76,8 +77,8 @@ module _ (r : RangeColumns) (l : LinkColumns) (ns : List ℕ) where
           read-all : not w ≡ false → readLent r l (forRecords ns) ≡ accepted cover
           unfolding readLent columnRules linkRules
           read-all p =
-              next-rule cover (accepted cover) _ _ within (next-rule cover (accepted cover) _ _ (refuse-none CoverForm (rangesFit r) (sym g ∙ not-false v m))
-              (next-rule cover (accepted cover) _ _ (refuse-none CoverForm (linksOk l) (sym o ∙ not-false w p)) (no-rule cover)))
+              next-rule cover (accepted cover) _ _ within (next-rule cover (accepted cover) _ _ (passes CoverForm (rangesFit r) (sym g ∙ not-false v m))
+              (next-rule cover (accepted cover) _ _ (passes CoverForm (linksOk l) (sym o ∙ not-false w p)) (no-rule cover)))
 
           pub read-all-told : not w ≡ false → Done (length (l .fromChains)) ≡ counted (λ x. x .links) (readLent r l (forRecords ns))
           read-all-told p = counted-done _ _ cover (read-all p) (ok-count (l .fromChains) (l .fromSeqs) (l .toChains) (l .toSeqs) (sym o ∙ not-false w p))

@@ -10,12 +10,13 @@ use Rattle.lists.specs.Lists.{any}
 use Rattle.columns.specs.Limits.{maxRecords}
 use Rattle.columns.specs.Refusal.{Verdict, refused, accepted, short}
 use Rattle.columns.specs.declared.refusal.Refusal.the-variants.{OverRecords, CoverForm}
+use Rattle.columns.proofs.FirstBroken.{passes}
 use Rattle.cover.specs.Questions.{meets}
 use Rattle.cover.specs.Answers.{rangesIn, rangeColumns, rangeLengths, rangesFit, columnRules, mayHoldLent, windowAnswer}
 use Rattle.cover.specs.declared.answer.Window.{Window}
 use Rattle.cover.specs.declared.answer.Window.the-variants.{Refused, Holds}
 use Rattle.cover_rows.proofs.limits.Anyone.{any-nil}
-use Rattle.cover_rows.proofs.limits.Verdicts.{limits-records, limits-none, first-refuses, next-rule, no-rule, refuse-not, refuse-none}
+use Rattle.cover_rows.proofs.limits.Verdicts.{limits-records, limits-none, first-refuses, next-rule, no-rule, refuse-not}
 
 module _ (a b c : List ℕ) (chain low high : ℕ) {t : Bool} (e : t ≡ any (ltb maxRecords) (length a ∷ length b ∷ length c ∷ [])) where
   pub window-over : t ≡ true → Refused OverRecords ≡ windowAnswer (mayHoldLent (rangeColumns a b c) chain low high)
@@ -37,7 +38,7 @@ module _ (a b c : List ℕ) (chain low high : ℕ) {t : Bool} (e : t ≡ any (lt
     window-told q r g =
         rw (
           next-rule (any (meets chain low high) (rangesIn a b c)) (accepted (any (meets chain low high) (rangesIn a b c))) _ _ (limits-none (rangeLengths (rangeColumns a b c)) [] [] (sym e ∙ h) (any-nil _) (any-nil _))
-              (next-rule (any (meets chain low high) (rangesIn a b c)) (accepted (any (meets chain low high) (rangesIn a b c))) _ [] (refuse-none CoverForm (rangesFit (rangeColumns a b c)) (sym f ∙ not-false s q))
+              (next-rule (any (meets chain low high) (rangesIn a b c)) (accepted (any (meets chain low high) (rangesIn a b c))) _ [] (passes CoverForm (rangesFit (rangeColumns a b c)) (sym f ∙ not-false s q))
               (no-rule (any (meets chain low high) (rangesIn a b c)))),
           g,
         )

@@ -1,8 +1,8 @@
 -- Columns that are written from their start on, and the sums of a difference column.
 use mathlib.Core.Path.{_≡_, refl, sym, _∙_, ap}
-use mathlib.Core.Bool.{Bool, true, false, _&&_}
-use mathlib.Core.List.{List, [], _∷_, _++_, map}
-use Prim.Native.Nat.{ℕ, zero, suc, _+_, _-_, _≤_, _<_}
+use mathlib.Core.Bool.{Bool, true, false}
+use mathlib.Core.List.{List, _∷_, _++_}
+use Prim.Native.Nat.{ℕ, suc, _+_, _-_, _≤_, _<_}
 use native.Mathlib.Numerals.{add-one}
 use native.Mathlib.Omega.{arith}
 use lib.Dec.{ltb}
@@ -16,6 +16,7 @@ use Rattle.lists.proofs.Tests.{both}
 use Rattle.columns.specs.Limits.{end32}
 use Rattle.cover.specs.Cover.{sums, sumsFit}
 use Rattle.cover.specs.Answers.{over}
+use Rattle.cover.proofs.Stored.{length-sums}
 
 -- ── stores from the start on ─────────────────────────────────────────────────────────────────
 
@@ -37,11 +38,6 @@ module _ {t : List ℕ} (i : ℕ) (vs out : List ℕ) (e : t ≡ sets out i (dro
   copies h = rw (e, drop-cons vs i 0 h, add-one)
 
 -- ── sums ─────────────────────────────────────────────────────────────────────────────────────
-
-pub length-sums : (before : ℕ) (ds : List ℕ) → length (sums before ds) ≡ length ds
-unfolding sums
-length-sums before [] = refl
-length-sums before (d ∷ ds) = ap suc (length-sums (before + d) ds)
 
 abbrev pub allFit : List ℕ → Bool
 allFit ss = all (λ s. ltb s end32) ss

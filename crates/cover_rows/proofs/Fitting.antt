@@ -11,7 +11,8 @@ use Rattle.lists.proofs.Tests.{both}
 use Rattle.cover.specs.Chains.{Link, linksRise}
 use Rattle.cover.specs.Cover.{LinkColumns, linksOf, evenColumns, sums, sumsFit, differences, columnsOf, linksOk, storedLinks}
 use Rattle.cover.specs.Answers.{linkColumns, over, linksOver}
-use Rattle.cover_rows.proofs.Columned.{length-sums, take-over}
+use Rattle.cover.proofs.Stored.{length-sums}
+use Rattle.cover_rows.proofs.Columned.{take-over}
 
 -- ── the columns of links ─────────────────────────────────────────────────────────────────────
 

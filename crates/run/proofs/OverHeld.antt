@@ -1,5 +1,5 @@
 -- The steps of a run, out of what is handed back for the columns that it holds: taking, resolving and writing.
-use mathlib.Core.Path.{_≡_, refl, sym, ap, _∙_}
+use mathlib.Core.Path.{_≡_, refl, sym, ap}
 use mathlib.Core.Bool.{true}
 use mathlib.Core.List.{List}
 use Prim.Native.Nat.{ℕ}
@@ -15,6 +15,7 @@ use Rattle.cleaning.specs.Held.{holdMore}
 use Rattle.cleaning.specs.Sheet as sheets
 use Rattle.archive.specs.Parse.{parse}
 use Rattle.columns.specs.declared.refusal.Ruling.the-variants.{Kept, Broken}
+use Rattle.columns.proofs.Told.{told, told-kept}
 use Rattle.run_state.specs.declared.Held.{Held}
 use Rattle.run_state.specs.View.{sheetIn, heldIn}
 use Rattle.run_state.specs.Valid.{heldOk}
@@ -23,7 +24,6 @@ use Rattle.run_take.specs.Took.{TookBy}
 use Rattle.run_take.specs.declared.Taken.{Taken}
 use Rattle.run_resolve.specs.Outcome.{rulesIn, newIn, ResolvedBy}
 use Rattle.run_resolve.specs.declared.Resolution.{Resolution}
-use Rattle.run_state.proofs.Rulings.{kept-none, broken-some}
 use Rattle.run_write.specs.Answers.{answerOf, Wrote}
 use Rattle.run_state.specs.declared.Writing.{Writing}
 
@@ -65,11 +65,11 @@ module _ (h : Held) (bytes : List ℕ) (t : Taken) (m : TookBy (holdMore (heldIn
 module _ (h : Held) (q : Resolution) (m : ResolvedBy h q) where
   pub resolving-refused : (x : Refusal) → q .ruling ≡ Broken x → runStep (taking (heldIn h)) resolves ≡ runOutcome (taking (heldIn h)) (refused x)
   unfolding runStep resolveHeld rulesIn
-  resolving-refused x d = rw (broken-some (rulesIn h) x (sym (m .ruled) ∙ d))
+  resolving-refused x d = rw (told (rulesIn h) (m .ruled) d)
 
   pub resolving-done : q .ruling ≡ Kept → runStep (taking (heldIn h)) resolves ≡ runOutcome (resolved (heldIn h) (sheetIn (q .sheet))) done
   unfolding runStep resolveHeld rulesIn newIn
-  resolving-done d = rw (kept-none (rulesIn h) (sym (m .ruled) ∙ d)) (ap (λ s. runOutcome (resolved (heldIn h) s) done) (sym (m .view d)))
+  resolving-done d = rw (told-kept (rulesIn h) (m .ruled) d) (ap (λ s. runOutcome (resolved (heldIn h) s) done) (sym (m .view d)))
 
 -- ── writing ──────────────────────────────────────────────────────────────────────────────────
 

@@ -1,18 +1,13 @@
 -- One turn of the loops over the records of rows: the flag of a row looked up, a row's number put in its place.
-use mathlib.Core.Path.{_≡_, sym}
-use mathlib.Core.List.{List, [], _++_, append-nil, append-assoc}
+use mathlib.Core.Path.{_≡_}
+use mathlib.Core.List.{List, _++_, append-nil, append-assoc}
 use Prim.Native.Nat.{ℕ, suc, _+_, _-_, _≤_, _<_}
 use native.Mathlib.Numerals.{add-one}
 use native.Mathlib.Omega.{arith}
-use lib.ListN.{length, getD, set, take, drop-of-length-le, length-take, List·getD-eq-default}
+use lib.ListN.{length, getD, set, take}
 use lib.Seq.{slice, slice-cons, take-suc-set, take-set-lt, drop-set-lt}
+use Rattle.lists.proofs.Slices.{slice-none}
 use Rattle.run_compact.specs.Columns.{flagsOf, newRows}
-
-pub past-end : (l : List ℕ) (i : ℕ) → length l ≤ i → 0 ≡ getD l i 0
-past-end l i h = sym (List·getD-eq-default l 0 {n = i} h)
-
-slice-none : (i n : ℕ) (xs : List ℕ) → n ≤ i → slice i n xs ≡ []
-slice-none i n xs h = drop-of-length-le (take n xs) {i = i} (simp length-take (omega arith))
 
 module _ {t : List ℕ} (out fs xs : List ℕ) (base i n : ℕ) (e : t ≡ take i out ++ flagsOf base fs (slice i n xs)) where
   pub flags-put : n ≤ i → i ≤ n → take n out ≡ t

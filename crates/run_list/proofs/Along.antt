@@ -4,7 +4,7 @@ use mathlib.Core.List.{List, [], _++_}
 use Prim.Native.Nat.{ℕ, _+_, _≤_}
 use native.Mathlib.Omega.{arith}
 use lib.ListN.{length-append}
-use Rattle.archive_bytes.proofs.Several.{sets-append}
+use Rattle.lists.proofs.Slices.{sets-append}
 use Rattle.run_text.specs.numbers.Wrote.{Wrote}
 use Rattle.run_text.proofs.lines.Columns.{Going}
 

@@ -17,6 +17,7 @@ use Rattle.columns.specs.Refusal.{accepted, unless, refuse, firstOf}
 use Rattle.columns.specs.declared.refusal.Refusal.{Refusal}
 use Rattle.columns.specs.declared.refusal.Refusal.the-variants.{SliceShort}
 use Rattle.columns.specs.declared.refusal.Ruling.the-variants.{Kept, Broken}
+use Rattle.columns.proofs.Told.{told, told-kept}
 use Rattle.cleaning.specs.Sections.{Tidy, Filled, sectionFile, sectionRules}
 use Rattle.cleaning.specs.Writing.{outputOf, outputs, groupNumbers}
 use Rattle.cleaning.specs.Listing.{listingText}
@@ -28,7 +29,6 @@ use Rattle.run_state.specs.declared.Held.{Held}
 use Rattle.run_state.specs.View.{sheetIn, heldIn}
 use Rattle.run_state.specs.order.Long.{LongSheet, LongHeld}
 use Rattle.run_state.proofs.order.TidySheets.{tidy-sheet, filled-sheet}
-use Rattle.run_state.proofs.Rulings.{kept-none, broken-some}
 use Rattle.run_resolve.proofs.sheet.Asking.{few-held}
 use Rattle.run_resolve.specs.Outcome.{archiveIn}
 use Rattle.run_state.specs.declared.Writing.the-variants.{Length, Refused}
@@ -69,14 +69,14 @@ module _ (h : Held) (s : Sheet) (ready : Ready h s) (hl : LongHeld h) (l : LongS
   pub list-refused : (was : List ℕ) (x : Refusal) → m .ruling ≡ Broken x → Lists (heldIn h) (sheetIn s) was was (Refused x)
   unfolding unless firstOf
   list-refused was x e = record {
-    answer = sym (by-sections (length was) ∙ rw (broken-some (sectionRules (sheetIn s)) x (sym (d .rules) ∙ e)));
+    answer = sym (by-sections (length was) ∙ rw (told (sectionRules (sheetIn s)) (d .rules) e));
     rest = refl;
     within = omega arith;
   }
 
   module _ (e : m .ruling ≡ Kept) where
     pub rules-kept : sectionRules (sheetIn s) ≡ none
-    rules-kept = kept-none (sectionRules (sheetIn s)) (sym (d .rules) ∙ e)
+    rules-kept = told-kept (sectionRules (sheetIn s)) (d .rules) e
 
     need-told : listingNeed (archiveIn h) (sectionFiles (sheetIn s)) ≡ 46 * h .sheet .rows .count + (m .bytes + 32)
     need-told = omega (arith, need-parts h (ready .heldValid) (ready .heldOrder) hl (sectionFiles (sheetIn s)), d .bytes-are rules-kept)

@@ -1,8 +1,8 @@
 -- What is printed over what a run holds is the listing by its definition, where the room is that of any listing.
-use mathlib.Core.Path.{_≡_, refl, sym, ap, ap₂, subst, _∙_}
-use mathlib.Core.Bool.{Bool, true, false, not}
+use mathlib.Core.Path.{_≡_, refl, ap, ap₂, subst, _∙_}
+use mathlib.Core.Bool.{not}
 use mathlib.Core.List.{List, [], _∷_, map}
-use mathlib.Core.Option.{Option, none, some, Option·none-ne-some}
+use mathlib.Core.Option.{Option, none, some}
 use Prim.Native.Nat.{ℕ, _≤_}
 use native.Mathlib.Omega.{arith}
 use lib.Dec.{ltb}
@@ -13,7 +13,7 @@ use Rattle.columns.specs.Limits.{maxNumbers}
 use Rattle.columns.specs.Refusal.{unless, refuse, firstOf}
 use Rattle.columns.specs.declared.refusal.Refusal.{Refusal}
 use Rattle.columns.specs.declared.refusal.Refusal.the-variants.{OverRecords, OverNumbers, GroupOrder, NoSurvivor}
-use Rattle.columns.proofs.FirstBroken.{each-none}
+use Rattle.columns.proofs.FirstBroken.{each-none, not-refused}
 use Rattle.archive.specs.File.{File}
 use Rattle.archive.specs.Fits.{FileFits}
 use Rattle.archive.specs.Reader.{Parsed, broken, got}
@@ -46,10 +46,6 @@ use Rattle.run_list.specs.Listed.{listed}
 use Rattle.run.specs.Listed.{listedIn}
 use Rattle.run_print.specs.Prints.{said, listedText, resolvedText}
 use Rattle.run_print.proofs.Room.{room-enough}
-
-not-refused : (x : Refusal) (b : Bool) → refuse x b ≡ none → b ≡ false
-not-refused x true e = absurd (Option·none-ne-some x (sym e))
-not-refused x false e = refl
 
 -- what a write of a resolved run is made into
 abbrev pub lines : Archive → List File → List ℕ → List ℕ

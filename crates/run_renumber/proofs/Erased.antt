@@ -10,10 +10,10 @@ use lib.ListN.{length, getD}
 use lib.Seq.{slice, slice-cons}
 use borrow.Author.Tests.{lt-ltb, le-ltb, eq-eqb, ne-eqb}
 use Rattle.lists.specs.Lists.{any, filter, joined, part, upFrom}
+use Rattle.lists.proofs.Slices.{slice-none}
 use Rattle.columns.specs.Limits.{kinds}
 use Rattle.columns.specs.EdgeSet.{fromTo, offsetsForm, cut}
 use Rattle.run_renumber.specs.Reparented.{isErased, isReparented, reparented}
-use Rattle.run_renumber.proofs.Growing.{slice-none}
 use Rattle.run_renumber.proofs.Tables.{table-rises, table-within, joined-slots, form-length, form-table}
 
 -- ── a parent ─────────────────────────────────────────────────────────────────────────────────

@@ -1,37 +1,19 @@
--- A list that grows in place at the end of a column: looked through, one number more, each of a part more. Lists only grow.
+-- A list that grows in place at the end of a column: one number more, each of a part more.
 use mathlib.Core.Path.{_≡_, refl, sym, _∙_, ap}
-use mathlib.Core.Bool.{Bool, true, false, cond}
-use mathlib.Core.List.{List, [], _∷_, _++_, foldl}
+use mathlib.Core.Bool.{Bool, true, false}
+use mathlib.Core.List.{List, [], _∷_, foldl}
 use Prim.Native.Nat.{ℕ, suc, _≤_, _<_, _+_, _-_}
-use native.Mathlib.Nat.{le-refl, le-trans}
+use native.Mathlib.Nat.{le-trans}
 use native.Mathlib.Numerals.{add-one}
 use native.Mathlib.Omega.{arith}
-use lib.ListN.{length, take, getD, set, length-set, length-take, length-append, drop-of-length-le}
+use lib.ListN.{length, take, getD, set, length-set, length-take, length-append}
 use lib.Seq.{slice, slice-cons, length-slice, take-suc-set, drop-append-le, take-set-le, getD-take}
-use borrow.Author.Tests.{eq-eqb, ne-eqb}
 use Rattle.lists.specs.Lists.{mem, add}
+use Rattle.lists.proofs.Slices.{slice-none}
+use Rattle.lists.proofs.Once.{fold-grows}
 use Rattle.run_renumber.specs.declared.Grown.{Grown}
 use Rattle.run_renumber.specs.declared.Grown.the-variants.{Upto, Full}
 use Rattle.run_renumber.specs.Answers.{Grew, Exact}
-
-pub slice-none : {A : Type 0} (i to : ℕ) (l : List A) → to ≤ i → slice i to l ≡ []
-slice-none i to l h = drop-of-length-le (take to l) {i = i} (simp length-take (omega arith))
-
--- ── looking for a number ─────────────────────────────────────────────────────────────────────
-
-module _ {t : Bool} (x i to : ℕ) (l : List ℕ) (e : t ≡ mem x (slice i to l)) where
-  pub not-found : to ≤ i → false ≡ t
-  unfolding mem
-  not-found h = rw (e, slice-none i to l h)
-
-  module _ (h : i < to) (k : to ≤ length l) where
-    pub found : getD l i 0 ≡ x → true ≡ t
-    unfolding mem
-    found f = rw (e, slice-cons i to l 0, eq-eqb x (getD l i 0) (sym f))
-
-    pub look-on : (getD l i 0 ≡ x → ⊥) → t ≡ mem x (slice (i + 1) to l)
-    unfolding mem
-    look-on f = rw (e, slice-cons i to l 0, ne-eqb x (getD l i 0) (λ q. f (sym q)), add-one)
 
 -- ── one number more ──────────────────────────────────────────────────────────────────────────
 
@@ -52,20 +34,6 @@ module _ {b : Bool} (x base end : ℕ) (l : List ℕ) (o : base ≤ end) (h : en
   pub no-room : b ≡ false → length l ≤ end → length l < base + length (add (slice base end l) x)
   unfolding add
   no-room f i = rw (← e, f) (omega (arith, length-append (slice base end l) (x ∷ []), length-slice base end l h))
-
--- ── lists grow ───────────────────────────────────────────────────────────────────────────────
-
-pub add-grows : (s : List ℕ) (x : ℕ) → length s ≤ length (add s x)
-unfolding add
-add-grows s x = go (mem x s)
-  where
-    go : (b : Bool) → length s ≤ length (cond b s (s ++ (x ∷ [])))
-    go true = le-refl _
-    go false = omega (arith, length-append s (x ∷ []))
-
-pub fold-grows : (s xs : List ℕ) → length s ≤ length (foldl add s xs)
-fold-grows s [] = le-refl _
-fold-grows s (x ∷ xs) = le-trans (add-grows s x) (fold-grows (add s x) xs)
 
 -- ── what a call left ─────────────────────────────────────────────────────────────────────────
 

@@ -15,14 +15,17 @@ use mir.Val.{Fits}
 use borrow.Author.Tests.{lt-ltb, le-ltb, eq-eqb, ne-eqb, ltb-true, ltb-false}
 use Rattle.lists.specs.Lists.{add}
 use Rattle.lists.proofs.Tests.{tested}
+use Rattle.lists.proofs.Slices.{slice-none}
+use Rattle.lists.proofs.Once.{fold-grows, add-grows}
 use Rattle.columns.specs.Limits.{kinds}
 use Rattle.columns.specs.EdgeSet.{fromTo, cut}
+use Rattle.columns.proofs.Offsets.{cut-length, cut-at}
 use Rattle.run_renumber.specs.declared.Grown.{Grown}
 use Rattle.run_renumber.specs.declared.Grown.the-variants.{Upto, Full}
 use Rattle.run_renumber.specs.NewLists.{addParent, newList}
 use Rattle.run_renumber.specs.Answers.{Grew, Exact}
-use Rattle.run_renumber.proofs.Growing.{slice-none, add-grows, fold-grows, grew, too-long}
-use Rattle.run_renumber.proofs.Tables.{table-rises, table-within, cut-at, cut-length}
+use Rattle.run_renumber.proofs.Growing.{grew, too-long}
+use Rattle.run_renumber.proofs.Tables.{table-rises, table-within}
 
 -- ── an erased parent's own list ──────────────────────────────────────────────────────────────
 

@@ -16,13 +16,14 @@ use Rattle.lists.proofs.Cut.{starts-climb}
 use Rattle.columns.specs.Limits.{kinds}
 use Rattle.columns.specs.EdgeSet.{fromTo, offsetsForm, cut}
 use Rattle.columns.proofs.ReadBack.{cut-joined}
+use Rattle.columns.proofs.Offsets.{cut-length, cut-at}
 use Rattle.run_renumber.specs.declared.Grown.{Grown}
 use Rattle.run_renumber.specs.declared.Grown.the-variants.{Upto, Full}
 use Rattle.run_renumber.specs.Numbers.{numbersFrom}
 use Rattle.run_renumber.specs.NewLists.{newList, newListsFrom, newLists}
 use Rattle.run_renumber.specs.Answers.{Grew, Exact, Built, Result}
 use Rattle.run_renumber.proofs.Growing.{grew, too-long}
-use Rattle.run_renumber.proofs.Tables.{table-rises, table-within, cut-at, cut-length, form-length, form-table}
+use Rattle.run_renumber.proofs.Tables.{table-rises, table-within, form-length, form-table}
 
 -- ── the slots that are read ──────────────────────────────────────────────────────────────────
 
@@ -205,9 +206,6 @@ begins (x ∷ xs) all n h = record { count = refl; room = omega arith; filled = 
 -- a length after a store
 pub same-after : (x y : List ℕ) (i v : ℕ) → length x ≡ length (set y i v) → length x ≡ length y
 same-after x y i v e = e ∙ simp length-set
-
-pub prefix-count : (k : ℕ) (l : List ℕ) → k ≤ length l → k ≡ length (take k l)
-prefix-count k l h = sym (length-take-le k l h)
 
 pub lists-named : (r : Grown) (offs all : List ℕ) (s start : ℕ) (flags numbers : List ℕ) (slots : List (List ℕ))
     → Result r offs all s (newListsFrom start flags numbers [] slots) → numbers ≡ numbersFrom start flags → Result r offs all s (newLists start flags slots)

@@ -1,5 +1,5 @@
 -- A table of offsets that climbs from 0 to a count: its slots lie one after the other in the column, and what they cut out joins to a part of it.
-use mathlib.Core.Path.{_≡_, refl, sym, ap}
+use mathlib.Core.Path.{_≡_, sym}
 use mathlib.Core.Bool.{true}
 use mathlib.Core.List.{List, [], _∷_}
 use Prim.Native.Nat.{ℕ, zero, suc, _≤_, _<_, _+_, _-_, _*_}
@@ -15,14 +15,10 @@ use Rattle.lists.specs.Order.{climbsTo}
 use Rattle.lists.proofs.Tests.{both}
 use Rattle.lists.proofs.Slices.{slice-join}
 use Rattle.columns.specs.Limits.{kinds}
-use Rattle.columns.specs.EdgeSet.{fromTo, offsetsForm, cutFrom, cut}
+use Rattle.columns.specs.EdgeSet.{fromTo, offsetsForm, cut}
+use Rattle.columns.proofs.Offsets.{cut-length, cut-at, low-high}
 
 -- ── climbing ─────────────────────────────────────────────────────────────────────────────────
-
-low-high : (high low : ℕ) (xs : List ℕ) → climbsTo high low xs ≡ true → low ≤ high
-unfolding climbsTo
-low-high high low [] e = omega (arith, eqb-true low high e)
-low-high high low (x ∷ xs) e = let p = both (leb low x) (climbsTo high x xs) e in le-trans (leb-true low x (p .0)) (low-high high x xs (p .1))
 
 -- any place of a climb is at or above each one before it and not above the top
 climb : (high low : ℕ) (xs : List ℕ) → climbsTo high low xs ≡ true → (i j : ℕ) → i ≤ j → j < length (low ∷ xs) → getD (low ∷ xs) i 0 ≤ getD (low ∷ xs) j 0
@@ -53,27 +49,6 @@ table-within count [] e j h = absurd (omega arith)
 table-within count (o ∷ os) e j h = climb-top count o os (both (eqb o 0) (climbsTo count o os) e .1) j h
 
 -- ── what a table cuts out ────────────────────────────────────────────────────────────────────
-
-cutFrom-at : (a : ℕ) (bs all : List ℕ) (q : ℕ) → q < length bs → getD (cutFrom a bs all) q [] ≡ slice (getD (a ∷ bs) q 0) (getD bs q 0) all
-unfolding cutFrom
-cutFrom-at a [] all q h = absurd (omega arith)
-cutFrom-at a (b ∷ bs) all zero h = refl
-cutFrom-at a (b ∷ bs) all (suc q) h = cutFrom-at b bs all q (omega arith)
-
-pub cut-at : (os all : List ℕ) (q : ℕ) → q + 1 < length os → getD (cut os all) q [] ≡ slice (getD os q 0) (getD os (q + 1) 0) all
-unfolding cut
-cut-at [] all q h = absurd (omega arith)
-cut-at (a ∷ bs) all q h = rw add-one (cutFrom-at a bs all q (omega arith))
-
-cutFrom-length : (a : ℕ) (bs all : List ℕ) → length (cutFrom a bs all) ≡ length bs
-unfolding cutFrom
-cutFrom-length a [] all = refl
-cutFrom-length a (b ∷ bs) all = ap suc (cutFrom-length b bs all)
-
-pub cut-length : (os all : List ℕ) → length (cut os all) ≡ length os - 1
-unfolding cut
-cut-length [] all = refl
-cut-length (a ∷ bs) all = rw (cutFrom-length a bs all) (omega arith)
 
 -- the lists of n slots, joined, are what lies between the first one's start and the last one's end
 pub joined-slots : (count : ℕ) (os all : List ℕ) → fromTo 0 count os ≡ true → count ≤ length all → (n s : ℕ) → s + n < length os

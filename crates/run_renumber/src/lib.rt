@@ -1,12 +1,13 @@
 // The inner loops of resolving, over flat columns: new numbers, new lists slot by slot, the count of reparented survivors. specs/ says what each is.
 use arrays::index;
+use arrays::searching::among;
 ghost use mathlib.Core.Path.{_≡_};
 ghost use mathlib.Core.Bool.{true};
 ghost use mathlib.Core.List.{[], _∷_, _++_, foldl};
 ghost use Prim.Native.Nat.{_+_, _-_, _*_, _%_, _^_, _≤_, _<_};
 ghost use lib.ListN.{length, take, getD};
 ghost use lib.Seq.{slice, sets};
-ghost use Rattle.lists.specs.Lists.{mem, add, any};
+ghost use Rattle.lists.specs.Lists.{add, any};
 ghost use Rattle.columns.specs.Limits.{kinds};
 ghost use Rattle.columns.specs.EdgeSet.{fromTo, offsetsForm, cut};
 ghost use Rattle.run_renumber.specs.Numbers.{takes, numbersFrom, survivors};
@@ -55,21 +56,6 @@ pub fn put_numbers(numbers: &mut [u64], flags: &[u8], start: u64) -> usize
         i += 1;
     }
     n
-}
-
-// Whether x stands in all[from..to].
-fn among(all: &[u64], from: usize, to: usize, x: u64) -> bool
-    requires { ⌜ (from ≤ to) × (to ≤ length (now all)) ⌝ }
-    ensures { λ r. ⌜ r ≡ mem x (slice from to (now (all .entry))) ⌝ }
-{
-    let mut i = from;
-    while i < to {
-        if all[i] == x {
-            return true;
-        }
-        i += 1;
-    }
-    false
 }
 
 // x after all[base..end], unless it stands there. It is looked for before room is, so that a full column still takes a repeat.

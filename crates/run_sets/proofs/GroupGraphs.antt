@@ -14,7 +14,7 @@ use Rattle.lists.specs.Lists.{flat, joined, starts, part, upFrom}
 use Rattle.lists.proofs.Tests.{both}
 use Rattle.lists.proofs.Each.{each-imp}
 use Rattle.lists.proofs.Pairs.{each-upFrom}
-use Rattle.lists.proofs.Flat.{flat-ext, length-map-upFrom, getD-map-upFrom}
+use Rattle.lists.proofs.Flat.{flat-ext, length-map-upFrom, getD-map-upFrom, flat-map}
 use Rattle.columns.specs.Limits.{maxRecords, maxGroups, maxSubject, end64}
 use Rattle.columns.specs.Reading.{Label}
 use Rattle.columns_rules.specs.records.Recorded.{labelsGiven}
@@ -23,7 +23,7 @@ use Rattle.cleaning.specs.Writing.{labelList, labelColumns, inboundColumns, unr
 use Rattle.cleaning.specs.Sheet.{rowCount, parentsAt}
 use Rattle.cleaning.specs.Held.{noFacts}
 use Rattle.cleaning.specs.Sections.{Tidy, factsOf, labelsWhere, sectionStart, sectionRows, sectionEdges, sectionLabels, sectionUnresolved, sectionGraph, rowEdges, otherRows}
-use Rattle.cleaning.proofs.Parts.{map-part, flat-map}
+use Rattle.cleaning.proofs.Parts.{map-part}
 use Rattle.cleaning.proofs.SheetRows.{section-end, section-within, group-row}
 use Rattle.run_state.specs.declared.Rows.{Rows}
 use Rattle.run_state.specs.declared.Sheet.{Sheet}

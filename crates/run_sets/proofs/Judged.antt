@@ -1,5 +1,5 @@
 -- The sets by value that building's verdict gives: what their ruling says of the rules, and what the sets are where none is broken.
-use mathlib.Core.Path.{_≡_, refl, sym, _∙_}
+use mathlib.Core.Path.{_≡_, refl}
 use mathlib.Core.Option.{Option, none, some}
 use Prim.Native.Nat.{ℕ}
 use Rattle.columns.specs.Refusal.{unless}
@@ -7,7 +7,7 @@ use Rattle.columns.specs.Building.{Graph, buildRules, builtOf}
 use Rattle.columns.specs.Answers.{ruling}
 use Rattle.columns.specs.declared.refusal.Refusal.{Refusal}
 use Rattle.columns.specs.declared.refusal.Ruling.the-variants.{Kept}
-use Rattle.run_state.proofs.Rulings.{kept-none}
+use Rattle.columns.proofs.Told.{told-kept}
 use Rattle.run_sets.specs.declared.GroupSets.{GroupSets}
 use Rattle.run_sets.specs.section.Parted.{judged}
 use Rattle.run_sets.specs.ByVerdict.{Holds, SetsBy}
@@ -30,4 +30,4 @@ module _ (g : Graph) (n : ℕ) (q : GroupSets) (m : SetsBy (judged g) n q) where
   held-sets e = by-rules none e
 
   pub kept-sets : q .ruling ≡ Kept → Holds n (builtOf g) q
-  kept-sets k = held-sets (kept-none (buildRules g) (sym rules-are ∙ k))
+  kept-sets k = held-sets (told-kept (buildRules g) rules-are k)

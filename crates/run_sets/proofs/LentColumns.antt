@@ -12,6 +12,7 @@ use borrow.Author.Tests.{eq-eqb, ne-eqb}
 use Rattle.lists.specs.Lists.{part, upFrom}
 use Rattle.lists.proofs.Each.{each-all}
 use Rattle.lists.proofs.Flat.{map-ext, length-map-upFrom}
+use Rattle.lists.proofs.Slices.{prefix-short}
 use Rattle.columns.specs.EdgeSet.{offsetsForm, cut}
 use Rattle.columns.specs.Building.{UnresolvedColumns}
 use Rattle.columns_rules.specs.records.Recorded.{depthOf, labelsGiven}
@@ -40,14 +41,8 @@ use Rattle.run_sets.proofs.SetSizes.{sets-lent}
 
 -- ── parts of columns ─────────────────────────────────────────────────────────────────────────
 
-pub prefix-count : {A : Type 0} (k m : ℕ) (l : List A) → k ≤ m → length l ≡ m → k ≡ length (take k l)
-prefix-count k m l h e = sym (length-take-le k l (omega arith))
-
-pub prefix-few : {A : Type 0} (k m : ℕ) (l : List A) → k ≤ m → length (take k l) ≤ m
-prefix-few k m l h = simp length-take (omega arith)
-
-pub front-count : {A : Type 0} (k : ℕ) (l : List A) → k ≤ length l → k ≡ length (take k l)
-front-count k l h = sym (length-take-le k l h)
+pub whole-count : {A : Type 0} (k m : ℕ) (l : List A) → k ≤ m → length l ≡ m → k ≡ length (take k l)
+whole-count k m l h e = sym (length-take-le k l (omega arith))
 
 pub records-few : {A : Type 0} (p m : ℕ) (l : List A) → m ≤ 1024 → length (take (p + m - p) (drop p l)) ≤ 1024
 records-few p m l h = simp (length-take, length-drop) (omega arith)
@@ -134,7 +129,7 @@ rows-lent bytes size start total offsets targets count children kinds flags p m 
     rw (z, y) at
     (sets-lent r long (take size bytes) start total (take (2 * total + 1) offsets) (take count targets)
     (record { children = take (p + m - p) (drop p children); kindsGiven = take (p + m - p) (drop p kinds); flags = take m flags }) (depthOf depth)
-    (labelsGiven labelled (take (a + n - a) (drop a chains)) (take (a + n - a) (drop a seqs))) a n h k (prefix-few count 4096 targets f) (form-cut total count (take (2 * total + 1) offsets) targets f d form) q)
+    (labelsGiven labelled (take (a + n - a) (drop a chains)) (take (a + n - a) (drop a seqs))) a n h k (prefix-short count 4096 targets f) (form-cut total count (take (2 * total + 1) offsets) targets f d form) q)
 
 -- what is lent of a sheet
 module _ (s : Sheet) {bytes : List ℕ} {size start total : ℕ} {offsets targets : List ℕ} {count : ℕ} {chains seqs : List ℕ} {groups : Groups}

@@ -9,10 +9,11 @@ use lib.ListN.{length, getD, take, drop, drop-of-length-le}
 use lib.Seq.{slice, slice-cons, drop-cons, length-take-le}
 use borrow.Author.Tests.{lt-ltb, le-ltb, not-true, not-false}
 use Rattle.lists.specs.Lists.{all}
+use Rattle.lists.proofs.Slices.{slice-none}
 use Rattle.columns.specs.EdgeSet.{offsetsForm, cut, eventOf}
 use Rattle.columns.specs.Building.{inFile}
 use Rattle.columns_rules.proofs.SlotTables.{table-of, length-cut}
-use Rattle.columns_rules.proofs.ParentTurns.{slice-none, slot-list}
+use Rattle.columns_rules.proofs.ParentTurns.{slot-list}
 use Rattle.run_state.specs.Valid.{below, earlier}
 
 -- ── columns cut to what is held ──────────────────────────────────────────────────────────────

@@ -1,3 +1,2 @@
 pub mod ColumnTurns
 pub mod Verdicts
-pub mod Rulings

@@ -1,7 +1,7 @@
 // Tests of one or two columns: the form of offsets, numbers below their event, records of rows that are there.
 use arrays::index;
+use columns_read::sets::is_form;
 use columns_rules::records::parts::is_in_file;
-use columns_rules::slots::entries_form;
 ghost use mathlib.Core.Path.{_≡_};
 ghost use mathlib.Core.Bool.{true};
 ghost use mathlib.Core.List.{[]};
@@ -20,7 +20,7 @@ pub fn table_ok(n: usize, count: usize, offsets: &[u64]) -> bool
     ensures { λ r. ⌜ r ≡ offsetsForm n count (take (2 * n + 1) (now (offsets .entry))) ⌝ }
 {
     let k = 2 * n + 1;
-    entries_form(n, count, &offsets[..k])
+    is_form(n, count as u64, &offsets[..k])
 }
 
 // Whether each of targets[from..to] is below the event.

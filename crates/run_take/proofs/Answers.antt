@@ -14,7 +14,7 @@ use Rattle.columns.specs.declared.refusal.Refusal.the-variants.{RecordBroken}
 use Rattle.columns.specs.Answers.{ruling}
 use Rattle.columns.specs.declared.refusal.Ruling.{Ruling}
 use Rattle.columns.specs.declared.refusal.Ruling.the-variants.{Kept, Broken}
-use Rattle.columns_rules.proofs.Told.{told, told-kept}
+use Rattle.columns.proofs.Told.{told, told-kept}
 use Rattle.archive.specs.File.{File}
 use Rattle.archive.specs.Fits.{FileFits}
 use Rattle.archive.specs.Reader.{Parsed, broken, got}

@@ -19,7 +19,7 @@ use Rattle.columns.proofs.FirstBroken.{each-none, not-refused}
 use Rattle.columns.specs.Answers.{ruling}
 use Rattle.columns.specs.declared.refusal.Ruling.{Ruling}
 use Rattle.columns.specs.declared.refusal.Ruling.the-variants.{Kept, Broken}
-use Rattle.columns_rules.proofs.Told.{told-kept, stops-here, goes-on}
+use Rattle.columns.proofs.Told.{told-kept, stops-here, goes-on}
 use Rattle.archive.specs.File.{File}
 use Rattle.archive.specs.Reader.{Parsed, broken, got}
 use Rattle.archive_read.specs.declared.files.Totals.{Totals}

@@ -8,10 +8,10 @@ use native.Mathlib.Omega.{arith}
 use lib.ListN.{length, length-append}
 use lib.Seq.{sets}
 use Rattle.lists.specs.Lists.{upFrom}
+use Rattle.lists.proofs.Slices.{sets-append}
 use Rattle.columns.specs.Refusal.{firstOf, firstIn}
 use Rattle.columns.specs.Building.{buildRules}
 use Rattle.columns.specs.declared.refusal.Refusal.{Refusal}
-use Rattle.archive_bytes.proofs.Several.{sets-append}
 use Rattle.archive.specs.Encode.{fileBytes, encode}
 use Rattle.archive_write.specs.sizes.FileSize.{maxFileSize}
 use Rattle.cleaning.specs.Sheet.{Sheet}
@@ -19,7 +19,7 @@ use Rattle.cleaning.specs.Sections.{sectionGraph, sectionFile}
 use Rattle.columns.specs.Answers.{ruling}
 use Rattle.columns.specs.declared.refusal.Ruling.{Ruling}
 use Rattle.columns.specs.declared.refusal.Ruling.the-variants.{Kept, Broken}
-use Rattle.run_state.proofs.Rulings.{kept-none, broken-some}
+use Rattle.columns.proofs.Told.{last-rule, told, told-kept}
 use Rattle.run_file.specs.Stored.{Stored}
 use Rattle.run_output.specs.PutBy.{PutBy}
 use Rattle.run_output.specs.declared.Put.{Put}
@@ -52,11 +52,7 @@ module _ (s : Sheet) (g n : ℕ) where
 
   pub rules-next : g < n → buildRules (sectionGraph s g) ≡ none → rulesFrom s g n ≡ rulesFrom s (suc g) n
   unfolding rulesFrom firstIn firstOf
-  rules-next h e = rw (more h, e) (only (firstIn (λ k. buildRules (sectionGraph s k)) (upFrom (suc g) (n - suc g))))
-    where
-      only : (r : Option Refusal) → firstOf (r ∷ []) ≡ r
-      only none = refl
-      only (some x) = refl
+  rules-next h e = rw (more h, e) (last-rule (firstIn (λ k. buildRules (sectionGraph s k)) (upFrom (suc g) (n - suc g))))
 
   pub rules-broken : g < n → (x : Refusal) → buildRules (sectionGraph s g) ≡ some x → rulesFrom s g n ≡ some x
   unfolding rulesFrom firstIn firstOf
@@ -80,14 +76,14 @@ module _ (s : Sheet) (g n : ℕ) (h : g < n) {q : Ruling} (m : q ≡ ruling (bui
   -- a group that keeps the rules leaves the others'
   module _ (k : q ≡ Kept) where
     pub kept-rules : buildRules (sectionGraph s g) ≡ none
-    kept-rules = kept-none (buildRules (sectionGraph s g)) (sym m ∙ k)
+    kept-rules = told-kept (buildRules (sectionGraph s g)) m k
 
     pub goes-on : {t : Option Refusal} → t ≡ rulesFrom s g n → t ≡ rulesFrom s (g + 1) n
     goes-on e = e ∙ rules-next s g n h kept-rules ∙ ap (λ k. rulesFrom s k n) (sym (add-one g))
 
   -- the rule that a group breaks is the first
   pub stops : {t : Option Refusal} (x : Refusal) → t ≡ rulesFrom s g n → q ≡ Broken x → Broken x ≡ ruling t
-  stops x e k = rw (e, rules-broken s g n h x (broken-some (buildRules (sectionGraph s g)) x (sym m ∙ k)))
+  stops x e k = rw (e, rules-broken s g n h x (told (buildRules (sectionGraph s g)) m k))
 
 -- of files that are written
 module _ (s : Sheet) (g n at : ℕ) {was is : List ℕ} {r : Put} (m : PutBy s g at was is r) (h : g < n) where

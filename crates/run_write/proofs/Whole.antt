@@ -26,13 +26,13 @@ use Rattle.run_state.specs.Valid.{countsOk, sheetOk}
 use Rattle.run_state.specs.order.Ordered.{ordered, filled}
 use Rattle.run_state.specs.order.Long.{LongSheet}
 use Rattle.run_state.proofs.order.TidySheets.{counts, tidy-sheet, filled-sheet}
-use Rattle.run_state.proofs.Rulings.{kept-none, broken-some}
 use Rattle.columns.specs.Answers.{ruling}
 use Rattle.columns.specs.declared.refusal.Ruling.the-variants.{Kept, Broken}
 use Rattle.run_write.specs.Answers.{MeasuredBy, Laid, Wrote}
 use Rattle.run_write.specs.declared.Measured.{Measured}
 use Rattle.run_state.specs.declared.Writing.the-variants.{Length, Refused}
 use Rattle.run_write.proofs.Rest.{rulesFrom, bytesFrom, rules-end, bytes-end}
+use Rattle.columns.proofs.Told.{told, told-kept}
 
 -- ── where the loops start ────────────────────────────────────────────────────────────────────
 
@@ -105,14 +105,14 @@ module _ (s : Sheet) (l : LongSheet s) (k : sheetOk s ≡ true) (o : ordered s �
     pub wrote-refused : (x : Refusal) → m .ruling ≡ Broken x → Wrote (sheetIn s) was was (Refused x)
     unfolding unless
     wrote-refused x e = record {
-      answer = sym (ap (writeInto (length was)) (as-sections ∙ ap (λ r. unless r (sectionBytes (sheetIn s))) (broken-some (sectionRules (sheetIn s)) x (sym (d .rules) ∙ e))));
+      answer = sym (ap (writeInto (length was)) (as-sections ∙ ap (λ r. unless r (sectionBytes (sheetIn s))) (told (sectionRules (sheetIn s)) (d .rules) e)));
       rest = refl;
       within = omega arith;
     }
 
     module _ (e : m .ruling ≡ Kept) where
       no-rule : sectionRules (sheetIn s) ≡ none
-      no-rule = kept-none (sectionRules (sheetIn s)) (sym (d .rules) ∙ e)
+      no-rule = told-kept (sectionRules (sheetIn s)) (d .rules) e
 
       all-accepted : writeInto (length was) (written (summaryOf (sheetIn s))) ≡ cond (leb (length (sectionBytes (sheetIn s))) (length was)) (wrote (sectionBytes (sheetIn s))) (refused SliceShort)
       unfolding unless

@@ -1,23 +1,24 @@
 -- Columns in lent bytes: one turn of each loop that loads or stores one, and each answer of the functions over them.
 use mathlib.Core.Path.{_≡_, refl, sym, _∙_}
 use mathlib.Core.Bool.{Bool, true, false, not}
-use mathlib.Core.List.{List, [], map}
+use mathlib.Core.List.{List, map}
 use Prim.Native.Nat.{ℕ, _≤_, _<_, _+_, _-_, _*_, _/_}
 use native.Mathlib.Nat.{add-zero, add-suc, le-div-iff-mul-le}
 use native.Mathlib.Numerals.{add-one}
 use native.Mathlib.Omega.{arith}
 use lib.Dec.{leb}
 use lib.IntN.{ℤ, pos}
-use lib.ListN.{length, getD, set, take, drop, drop-of-length-le, length-take}
+use lib.ListN.{length, getD, set, drop, drop-of-length-le}
 use lib.Seq.{sets, slice, slice-cons, drop-cons}
 use mir.Syntax.{w64}
 use mir.Val.{SFits, toZ, ofZ}
 use mir.ValLaws.{toZ-ofZ}
 use borrow.Author.Tests.{le-leb, lt-leb, leb-true, leb-false, not-true, not-false}
 use Rattle.lists.specs.Lists.{flat}
+use Rattle.lists.proofs.Slices.{slice-none, sets-append}
 use Rattle.archive_bytes.specs.Bytes.{be, bytesOf, signedOf, unsignedOf, column}
 use Rattle.archive_bytes.proofs.Numbers.{length-bytesOf}
-use Rattle.archive_bytes.proofs.Several.{be-front, several-none, several-cons, sets-append}
+use Rattle.archive_bytes.proofs.Several.{be-front, several-none, several-cons}
 use Rattle.archive_bytes.specs.number_columns.Room.{room}
 
 -- ── loading ──────────────────────────────────────────────────────────────────────────────────
@@ -38,9 +39,6 @@ module _ (w n i : ℕ) (l : List ℕ) (p : ℕ) where
     one-signed h f g = rw (e, several-cons w (λ l. be w l 0) n i l p h, be-front w l p, g, f, add-one)
 
 -- ── storing ──────────────────────────────────────────────────────────────────────────────────
-
-pub slice-none : {A : Type 0} (i to : ℕ) (l : List A) → to ≤ i → slice i to l ≡ []
-slice-none i to l h = drop-of-length-le (take to l) {i = i} (simp length-take (omega arith))
 
 module _ {t : List ℕ} (w : ℕ) (xs : List ℕ) (i to p : ℕ) (out : List ℕ) (e : t ≡ sets out p (flat (bytesOf w) (slice i to xs))) where
   pub all-stored : to ≤ i → out ≡ t

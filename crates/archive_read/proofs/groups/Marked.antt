@@ -1,18 +1,19 @@
 -- Group numbers met so far: one file more, and each answer.
 use mathlib.Core.Path.{_≡_, refl, sym, _∙_, ap}
-use mathlib.Core.Bool.{Bool, true, false, cond, _||_, false≢true}
+use mathlib.Core.Bool.{Bool, true, false, _||_, false≢true}
 use mathlib.Core.List.{List, [], _∷_, _++_, foldl, foldl-append, append-assoc, append-nil}
 use Prim.Native.Nat.{ℕ, zero, suc, _≤_, _<_, _+_, _-_}
 use native.Mathlib.Nat.{add-zero, zero-add}
 use native.Mathlib.Numerals.{add-one}
 use native.Mathlib.Omega.{arith}
 use lib.Dec.{eqb}
-use lib.ListN.{length, getD, take, set, length-append, length-take, drop-of-length-le}
+use lib.ListN.{length, getD, take, set, length-append}
 use lib.Seq.{take-suc-set, slice, slice-cons, length-take-le}
 use borrow.Author.Tests.{lt-leb, lt-ltb, le-ltb, eq-eqb, ne-eqb, eqb-false}
 use Rattle.lists.specs.Lists.{mem, add, once, upFrom}
 use Rattle.lists.proofs.Flat.{length-upFrom, upFrom-snoc}
-use Rattle.lists.proofs.Once.{mem-append, add-there, add-new}
+use Rattle.lists.proofs.Once.{mem-append, add-there, add-new, fold-grows}
+use Rattle.lists.proofs.Slices.{slice-none}
 use Rattle.columns.specs.Limits.{maxGroups}
 use Rattle.archive.specs.File.{File}
 use Rattle.archive.specs.Reader.{Parsed, broken, got, andThen, _>>=_}
@@ -29,9 +30,6 @@ use Rattle.archive_read.proofs.AtFiles.{files-end, file-past}
 use Rattle.archive_read.specs.groups.Groups.{filesOf, isRead, groupsOf, groupsOver}
 
 -- ── among ────────────────────────────────────────────────────────────────────────────────────
-
-slice-none : {A : Type 0} (i n : ℕ) (l : List A) → n ≤ i → slice i n l ≡ []
-slice-none i n l h = drop-of-length-le (take n l) {i = i} (simp length-take (omega arith))
 
 module _ {t : Bool} (l : List ℕ) (i n g : ℕ) (e : t ≡ mem g (slice i n l)) where
   pub none-left : n ≤ i → false ≡ t
@@ -78,18 +76,6 @@ module _ (l : List ℕ) (n k g : ℕ) where
 
 -- ── how many ─────────────────────────────────────────────────────────────────────────────────
 
-add-longer : (s : List ℕ) (x : ℕ) → length s ≤ length (add s x)
-unfolding add
-add-longer s x = go (mem x s)
-  where
-    go : (b : Bool) → length s ≤ length (cond b s (s ++ (x ∷ [])))
-    go true = omega arith
-    go false = omega (arith, length-append s (x ∷ []))
-
-fold-longer : (s xs : List ℕ) → length s ≤ length (foldl add s xs)
-fold-longer s [] = omega arith
-fold-longer s (x ∷ xs) = omega (arith, add-longer s x, fold-longer (add s x) xs)
-
 -- numbers that are not there yet are added at the end
 fold-up : (i k : ℕ) → foldl add (upFrom 0 i) (upFrom i k) ≡ upFrom 0 (i + k)
 unfolding upFrom
@@ -111,7 +97,7 @@ pub run-over : (k : ℕ) (x : Parsed (List File)) → 16 < k → true ≡ groups
 unfolding groupsOver
 run-over k x h =
     sym (lt-ltb maxGroups (length (once (upFrom 0 k ++ groupsOf x)))
-    (omega (arith, fold-longer (upFrom 0 k) (groupsOf x), length-upFrom 0 k, ap length (from-run k (groupsOf x)))))
+    (omega (arith, fold-grows (upFrom 0 k) (groupsOf x), length-upFrom 0 k, ap length (from-run k (groupsOf x)))))
 
 -- ── one file more ────────────────────────────────────────────────────────────────────────────
 
@@ -178,7 +164,7 @@ too-many l k n list rest st j h =
     (omega (
       arith,
       ap length (st .same),
-      fold-longer (upFrom 0 k ++ take n list) (groupsOf rest),
+      fold-grows (upFrom 0 k ++ take n list) (groupsOf rest),
       length-append (upFrom 0 k) (take n list),
       length-upFrom 0 k,
       length-take-le n list j,

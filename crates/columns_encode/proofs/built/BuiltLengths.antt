@@ -1,20 +1,20 @@
 -- A built granule's columns are no longer than the columns that building was given.
-use mathlib.Core.Path.{_≡_, refl, ap, _∙_}
+use mathlib.Core.Path.{_≡_, refl}
 use mathlib.Core.Bool.{Bool, true, false, cond, _&&_}
-use mathlib.Core.Logic.{inl, inr}
 use mathlib.Core.List.{List, [], _∷_, _++_}
 use Prim.Native.Nat.{ℕ, zero, suc, _+_, _-_, _*_, _≤_}
 use native.Mathlib.Omega.{arith}
-use lib.Dec.{ltb, leb, eqb}
+use lib.Dec.{leb, eqb}
 use lib.ListN.{length, getD, take, drop, length-take, length-drop, length-append}
 use lib.Seq.{slice}
-use borrow.Author.Tests.{leb-true, le-ltb, eqb-true, ne-eqb}
+use borrow.Author.Tests.{leb-true, le-ltb, ne-eqb}
 use Rattle.lists.specs.Lists.{mem, filter, joined, part, upFrom, sum}
-use Rattle.lists.specs.Order.{climbsTo, insert, sort}
-use Rattle.lists.proofs.Tests.{tested, both}
+use Rattle.lists.specs.Order.{climbsTo, sort}
+use Rattle.lists.proofs.Tests.{both}
 use Rattle.lists.proofs.Flat.{length-joined}
 use Rattle.lists.proofs.Sums.{sum-both}
-use Rattle.lists.proofs.Counting.{bit, sum-zero, sum-swap, sum-below, sum-equal, length-filter, at-most-one, members-counted}
+use Rattle.lists.proofs.Counting.{bit, sum-zero, sum-swap, sum-below, sum-equal, length-filter, members-counted, equal-once}
+use Rattle.lists.proofs.Rising.{length-sort}
 use Rattle.columns.specs.EdgeSet.{fromTo, cutFrom, cut}
 use Rattle.columns.specs.Questions.{listOf}
 use Rattle.columns.specs.Building.{InboundColumns, childrenTo, slotTable, naming, reverseLists, inboundLists}
@@ -129,16 +129,6 @@ module _ (first rows : ℕ) (lists : List (List ℕ)) where
 
 -- ── inbound ──────────────────────────────────────────────────────────────────────────────────
 
-length-insert : (x : ℕ) (ys : List ℕ) → length (insert x ys) ≡ suc (length ys)
-unfolding insert
-length-insert x [] = refl
-length-insert x (y ∷ ys) = elim (tested (ltb y x)) [ inl e ↦ rw e (ap suc (length-insert x ys)) | inr e ↦ rw e refl ]
-
-length-sort : (xs : List ℕ) → length (sort xs) ≡ length xs
-unfolding sort
-length-sort [] = refl
-length-sort (x ∷ xs) = length-insert x (sort xs) ∙ ap suc (length-sort xs)
-
 one-more : (b : Bool) (c : ℕ) (rest : List ℕ) → length (cond b (c ∷ rest) rest) ≡ bit b + length rest
 one-more true c rest = omega arith
 one-more false c rest = omega arith
@@ -149,10 +139,6 @@ one-kind false k = omega arith
 one-kind true zero = omega arith
 one-kind true (suc zero) = omega arith
 one-kind true (suc (suc k)) = rw (ne-eqb (suc (suc k)) 0 (λ e. omega arith), ne-eqb (suc (suc k)) 1 (λ e. omega arith)) (omega arith)
-
--- and one parent
-one-parent : (p first rows : ℕ) → sum (λ n. bit (eqb p n)) (upFrom first rows) ≤ 1
-one-parent p first rows = at-most-one (λ n. eqb p n) (λ i j e l. ne-eqb p j (λ d. omega (arith, eqb-true p i e))) first rows
 
 module _ (first rows : ℕ) where
   given : (cs ps ks : List ℕ) → sum (λ n. length (childrenTo n 0 cs ps ks) + length (childrenTo n 1 cs ps ks)) (upFrom first rows) ≤ length cs
@@ -174,7 +160,7 @@ module _ (first rows : ℕ) where
             ))
             (upFrom first rows),
         sum-both (λ n. bit (eqb p n)) (λ n. length (childrenTo n 0 cs ps ks) + length (childrenTo n 1 cs ps ks)) (upFrom first rows),
-        one-parent p first rows,
+        equal-once p first rows,
         given cs ps ks,
       )
 

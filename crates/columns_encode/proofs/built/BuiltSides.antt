@@ -1,5 +1,5 @@
 -- The lists of a built granule are on their sets' sides.
-use mathlib.Core.Path.{_≡_, sym, subst}
+use mathlib.Core.Path.{_≡_, subst}
 use mathlib.Core.Bool.{true, _&&_, false≢true}
 use mathlib.Core.Logic.{inl, inr}
 use mathlib.Core.List.{List, [], _∷_}
@@ -8,13 +8,15 @@ use Prim.Native.Nat.{ℕ, zero, suc, _+_, _-_, _*_, _/_, _≤_, _<_}
 use native.Mathlib.Omega.{arith}
 use lib.Dec.{ltb, leb, eqb}
 use lib.ListN.{length, getD, take, drop}
-use borrow.Author.Tests.{ltb-true, ltb-false, leb-false, eqb-true, lt-ltb, le-leb}
+use borrow.Author.Tests.{ltb-true, ltb-false, leb-false, lt-ltb, le-leb}
 use Rattle.lists.specs.Lists.{mem, upFrom, part, Each}
-use Rattle.lists.specs.Order.{insert, sort}
+use Rattle.lists.specs.Order.{sort}
 use Rattle.lists.proofs.Tests.{tested}
 use Rattle.lists.proofs.Each.{each-imp, each-both}
 use Rattle.lists.proofs.Pairs.{each-upFrom}
 use Rattle.lists.proofs.Filters.{each-filter, filter-passes}
+use Rattle.lists.proofs.Once.{each-has}
+use Rattle.lists.proofs.Rising.{each-sort}
 use Rattle.columns.specs.Limits.{kinds, end64}
 use Rattle.columns.specs.EdgeSet.{forward, reverse, inbound, eventOf, allowed}
 use Rattle.columns.specs.Questions.{listOf}
@@ -104,14 +106,6 @@ forward-side first rows end slot (ps ∷ lists) b l e =
 
 -- ── reverse ──────────────────────────────────────────────────────────────────────────────────
 
-has-each : (P : ℕ → Type 0) (x : ℕ) (xs : List ℕ) → Each P xs → mem x xs ≡ true → P x
-unfolding mem
-has-each P x [] h m = absurd (false≢true m)
-has-each P x (y ∷ ys) h m = elim (tested (eqb x y)) [
-  | inl e ↦ subst P (sym (eqb-true x y e)) (h .0)
-  | inr e ↦ has-each P x ys (h .1) (rw e at m)
-]
-
 module _ (first rows end : ℕ) (lists : List (List ℕ)) (side : AllowedFrom forward first end 0 lists) where
   -- what an event's list names is below the event
   named-below : (k e p : ℕ) → k < kinds → mem p (listOf first lists k e) ≡ true → p < e
@@ -121,7 +115,7 @@ module _ (first rows end : ℕ) (lists : List (List ℕ)) (side : AllowedFrom fo
     | inr q ↦ let l : first ≤ e = ltb-false e first q in
         let j = kinds * (e - first) + k in
         let same : eventOf first (0 + j) ≡ e = omega arith in
-        ltb-true p e (has-each (λ t. (allowed forward end e t ≡ true) × (t < end64)) p (getD lists j [])
+        ltb-true p e (each-has (λ t. (allowed forward end e t ≡ true) × (t < end64)) p (getD lists j [])
         (subst (λ n. OnSide forward end n (getD lists j [])) same (side-at forward first end 0 lists j side)) (rw q at m) .0)
   ]
 
@@ -137,16 +131,6 @@ module _ (first rows end : ℕ) (lists : List (List ℕ)) (side : AllowedFrom fo
 -- ── inbound ──────────────────────────────────────────────────────────────────────────────────
 
 module _ (P : ℕ → Type 0) where
-  insert-each : (x : ℕ) (ys : List ℕ) → P x → Each P ys → Each P (insert x ys)
-  unfolding insert
-  insert-each x [] p h = (p, tt)
-  insert-each x (y ∷ ys) p h = elim (tested (ltb y x)) [ inl e ↦ rw e (h .0, insert-each x ys p (h .1)) | inr e ↦ rw e (p, h) ]
-
-  sort-each : (xs : List ℕ) → Each P xs → Each P (sort xs)
-  unfolding sort
-  sort-each [] h = tt
-  sort-each (x ∷ xs) h = insert-each x (sort xs) (h .0) (sort-each xs (h .1))
-
   children-each : (parent kind : ℕ) (cs ps ks : List ℕ) → Each P cs → Each P (childrenTo parent kind cs ps ks)
   unfolding childrenTo
   children-each parent kind [] ps ks h = tt
@@ -160,6 +144,6 @@ module _ (P : ℕ → Type 0) where
 pub inbound-side : (end p k : ℕ) (cs ps ks : List ℕ) → Each (λ c. (end ≤ c) × (c < end64)) cs → OnSide inbound end p (sort (childrenTo p k cs ps ks))
 unfolding allowed
 inbound-side end p k cs ps ks h =
-    sort-each (λ t. (allowed inbound end p t ≡ true) × (t < end64)) (childrenTo p k cs ps ks)
+    each-sort (λ t. (allowed inbound end p t ≡ true) × (t < end64)) (childrenTo p k cs ps ks)
     (children-each (λ t. (allowed inbound end p t ≡ true) × (t < end64)) p k cs ps ks
     (each-imp (λ c. (end ≤ c) × (c < end64)) (λ t. (allowed inbound end p t ≡ true) × (t < end64)) cs (λ c w. (le-leb end c (w .0), w .1)) h))

@@ -1,17 +1,17 @@
 -- The keys that the parents of a level add are the parents that were not visited, each once.
 use mathlib.Core.Path.{_≡_, refl, sym, _∙_, ap}
-use mathlib.Core.Bool.{Bool, true, false, not, _||_, or-false, or-true, false≢true}
+use mathlib.Core.Bool.{Bool, true, false, not, _||_, or-true, false≢true}
 use mathlib.Core.Logic.{inl, inr}
 use mathlib.Core.List.{List, [], _∷_, _++_, foldl, append-assoc, append-nil}
-use Prim.Native.Nat.{ℕ, zero, suc, _≤_, _<_, _+_}
+use Prim.Native.Nat.{ℕ, suc, _≤_, _<_, _+_}
 use native.Mathlib.Omega.{arith}
-use lib.Dec.{leb, eqb}
+use lib.Dec.{eqb}
 use lib.ListN.{length, take, length-append}
 use borrow.Author.Tests.{eq-eqb, eqb-true, lt-leb}
 use Rattle.lists.specs.Lists.{mem, add, once, filter, flat}
 use Rattle.lists.specs.Order.{sort}
-use Rattle.lists.proofs.Tests.{tested, not-both}
-use Rattle.lists.proofs.Once.{mem-append, add-there, add-new}
+use Rattle.lists.proofs.Tests.{tested}
+use Rattle.lists.proofs.Once.{mem-append, add-there, add-new, mem-first, mem-last}
 use Rattle.columns.specs.Walk.{level}
 use Rattle.arrays.specs.table.Table.{addCap, addsCap}
 use Rattle.columns_levels.specs.frontier.Frontier.{one, hitsIn}
@@ -22,10 +22,6 @@ pub hits-le : (ys l : List ℕ) → hitsIn ys l ≤ length l
 unfolding hitsIn
 hits-le ys [] = omega arith
 hits-le ys (z ∷ zs) = elim (tested (mem z ys)) [ inl e ↦ rw e (let q = hits-le ys zs in omega arith) | inr e ↦ rw e (let q = hits-le ys zs in omega arith) ]
-
-mem-last : (x p : ℕ) (ys : List ℕ) → mem x (ys ++ (p ∷ [])) ≡ mem x ys || eqb x p
-unfolding mem
-mem-last x p ys = mem-append x ys (p ∷ []) ∙ rw (or-false (eqb x p))
 
 hits-mono : (p : ℕ) (ys l : List ℕ) → hitsIn ys l ≤ hitsIn (ys ++ (p ∷ [])) l
 unfolding hitsIn
@@ -92,10 +88,6 @@ rest-in : (p : ℕ) (ps l : List ℕ) → ((x : ℕ) → mem x (p ∷ ps) ≡ tr
 unfolding mem
 rest-in p ps l h x e = h x (rw e (or-true (eqb x p)))
 
-head-in : (p : ℕ) (ps : List ℕ) → mem p (p ∷ ps) ≡ true
-unfolding mem
-head-in p ps = rw (eq-eqb p p refl)
-
 length-last : (p : ℕ) (l : List ℕ) → length (l ++ (p ∷ [])) ≡ suc (length l)
 length-last p l = length-append l (p ∷ []) ∙ omega arith
 
@@ -116,7 +108,7 @@ module _ (c : ℕ) (ks l visited : List ℕ) (s : (x : ℕ) → mem x ks ≡ mem
               record { are = rw (new-there visited ns p ps e g) (adds-old c (ks ++ ns) p ps f ∙ m .are); within = rw (new-there visited ns p ps e g) (m .within) }
           | inr g ↦
               let f : mem p (ks ++ ns) ≡ false = mem-append p ks ns ∙ rw (s p, e, g) in
-              let more = hits-more p (ks ++ ns) l (i p (head-in p ps)) f in
+              let more = hits-more p (ks ++ ns) l (i p (mem-first p ps)) f in
               let le = hits-le ((ks ++ ns) ++ (p ∷ [])) l in
               let a : (ks ++ ns) ++ (p ∷ []) ≡ ks ++ (ns ++ (p ∷ [])) = append-assoc ks ns (p ∷ []) in
               let w′ : length (ks ++ (ns ++ (p ∷ []))) ≤ hitsIn (ks ++ (ns ++ (p ∷ []))) l = rw (← a, length-last p (ks ++ ns)) (omega (arith, w, more)) in

@@ -2,7 +2,7 @@
 use mathlib.Core.Path.{_≡_, refl, sym, _∙_, ap}
 use mathlib.Core.Bool.{Bool, true, false, cond, _||_, or-true, false≢true}
 use mathlib.Core.List.{List, [], _∷_, _++_}
-use Prim.Native.Nat.{ℕ, zero, suc, _≤_, _<_, _+_, _-_, _*_, min}
+use Prim.Native.Nat.{ℕ, _≤_, _<_, _+_, _-_, _*_, min}
 use native.Mathlib.Numerals.{add-one}
 use native.Mathlib.Omega.{arith}
 use lib.Dec.{ltb}
@@ -12,34 +12,14 @@ use borrow.Author.Tests.{le-ltb, lt-ltb}
 use Rattle.lists.specs.Lists.{mem, flat}
 use Rattle.lists.proofs.Once.{mem-append}
 use Rattle.lists.proofs.Slices.{slice-none}
-use Rattle.columns.specs.EdgeSet.{cut, cutFrom}
+use Rattle.columns.specs.EdgeSet.{cut}
 use Rattle.columns.specs.Questions.{listOf}
+use Rattle.columns.proofs.Offsets.{cut-length, cut-at}
 use Rattle.arrays.specs.table.Table.{addCap, addsCap, Keys, Table}
 use Rattle.arrays.proofs.table.Chains.{keys-are}
 use Rattle.columns_levels.specs.frontier.Frontier.{parentsIn}
 
 -- ── slots ────────────────────────────────────────────────────────────────────────────────────
-
-length-cutFrom : (a : ℕ) (bs t : List ℕ) → length (cutFrom a bs t) ≡ length bs
-unfolding cutFrom
-length-cutFrom a [] t = refl
-length-cutFrom a (b ∷ bs) t = ap suc (length-cutFrom b bs t)
-
-pub length-cut : (offsets t : List ℕ) → length (cut offsets t) ≡ length offsets - 1
-unfolding cut
-length-cut [] t = omega arith
-length-cut (a ∷ bs) t = length-cutFrom a bs t ∙ omega arith
-
-getD-cutFrom : (a : ℕ) (bs t : List ℕ) (s : ℕ) → s < length bs → getD (cutFrom a bs t) s [] ≡ slice (getD (a ∷ bs) s 0) (getD bs s 0) t
-unfolding cutFrom
-getD-cutFrom a [] t s h = absurd (omega arith)
-getD-cutFrom a (b ∷ bs) t zero h = refl
-getD-cutFrom a (b ∷ bs) t (suc s) h = getD-cutFrom b bs t s (omega arith)
-
-pub getD-cut : (offsets t : List ℕ) (s : ℕ) → s + 1 < length offsets → getD (cut offsets t) s [] ≡ slice (getD offsets s 0) (getD offsets (s + 1) 0) t
-unfolding cut
-getD-cut [] t s h = absurd (omega arith)
-getD-cut (a ∷ bs) t s h = rw add-one (getD-cutFrom a bs t s (omega arith))
 
 clamped : (a b : ℕ) (l : List ℕ) → slice a (min b (length l)) l ≡ slice a b l
 clamped a b l = go (ltb b (length l)) refl
@@ -60,12 +40,12 @@ module _ (first kind v : ℕ) (offsets targets : List ℕ) where
 
   after : first ≤ v → length offsets ≤ 2 * (v - first) + kind + 1 → parentsIn first kind offsets targets v ≡ []
   unfolding parentsIn listOf
-  after h k = rw (le-ltb v first h) (List·getD-eq-default (cut offsets targets) [] {n = 2 * (v - first) + kind} (rw length-cut (omega arith)))
+  after h k = rw (le-ltb v first h) (List·getD-eq-default (cut offsets targets) [] {n = 2 * (v - first) + kind} (rw cut-length (omega arith)))
 
   within : first ≤ v → (i s a b : ℕ) → i ≡ v - first → s ≡ 2 * i + kind → s + 1 < length offsets → a ≡ getD offsets s 0 → b ≡ min (getD offsets (s + 1) 0) (length targets)
       → slice a b targets ≡ parentsIn first kind offsets targets v
   unfolding parentsIn listOf
-  within h i s a b e f k g j = rw (le-ltb v first h, ← e, ← f, getD-cut offsets targets s k, ← g, j) (clamped a (getD offsets (s + 1) 0) targets)
+  within h i s a b e f k g j = rw (le-ltb v first h, ← e, ← f, cut-at offsets targets s k, ← g, j) (clamped a (getD offsets (s + 1) 0) targets)
 
   module _ (keys : List ℕ) (n : ℕ) where
     stays : n ≤ length keys → parentsIn first kind offsets targets v ≡ [] → Keys keys keys n n (parentsIn first kind offsets targets v)
@@ -105,11 +85,11 @@ mem-slot x offsets t s e = go (ltb (s + 1) (length offsets)) refl
   where
     go : (b : Bool) → ltb (s + 1) (length offsets) ≡ b → mem x t ≡ true
     go true f =
-        let q = rw (getD-cut offsets t s (borrow.Author.Tests.ltb-true (s + 1) (length offsets) f)) at e in
+        let q = rw (cut-at offsets t s (borrow.Author.Tests.ltb-true (s + 1) (length offsets) f)) at e in
         mem-take x (getD offsets (s + 1) 0) t (mem-drop x (getD offsets s 0) (take (getD offsets (s + 1) 0) t) q)
     go false f =
         let h = borrow.Author.Tests.ltb-false (s + 1) (length offsets) f in
-        let z : getD (cut offsets t) s [] ≡ [] = List·getD-eq-default (cut offsets t) [] {n = s} (rw length-cut (omega arith)) in
+        let z : getD (cut offsets t) s [] ≡ [] = List·getD-eq-default (cut offsets t) [] {n = s} (rw cut-length (omega arith)) in
         mem-none x t (rw z at e)
 
 pub parents-in : (first kind : ℕ) (offsets targets : List ℕ) (v x : ℕ) → mem x (parentsIn first kind offsets targets v) ≡ true → mem x targets ≡ true

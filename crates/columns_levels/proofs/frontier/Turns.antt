@@ -1,20 +1,20 @@
 -- What the steps of a level do: numbers copied, a level laid behind what was visited, and the keys after it.
 use mathlib.Core.Path.{_≡_, refl, sym, _∙_, ap}
 use mathlib.Core.Bool.{Bool, true, false, not, _||_}
-use mathlib.Core.List.{List, [], _∷_, _++_, append-assoc}
+use mathlib.Core.List.{List, [], _++_, append-assoc}
 use Prim.Native.Nat.{ℕ, zero, suc, _≤_, _<_, _+_, _-_, min}
 use native.Mathlib.Numerals.{add-one}
 use native.Mathlib.Nat.{add-suc}
 use native.Mathlib.Omega.{arith}
 use lib.Dec.{ltb}
-use lib.ListN.{length, take, drop, getD, set, length-take, length-drop, length-append, take-append-drop}
-use lib.Seq.{slice, sets, slice-cons, length-slice, length-take-le, length-sets, sets-eq, drop-at, take-at, take-take, take-all, take-append-le, take-append-add, drop-append-seam}
+use lib.ListN.{length, take, drop, getD, set, length-take, length-drop, length-append}
+use lib.Seq.{slice, sets, slice-cons, length-slice, length-take-le, length-sets, sets-eq, drop-at, take-at, take-all, take-append-le}
 use borrow.Author.Tests.{ltb-true, ltb-false}
 use Rattle.lists.specs.Lists.{mem, flat, filter, once}
 use Rattle.lists.specs.Order.{sort}
 use Rattle.lists.proofs.Once.{mem-append}
 use Rattle.lists.proofs.Rising.{mem-sort, length-sort}
-use Rattle.lists.proofs.Slices.{slice-none}
+use Rattle.lists.proofs.Slices.{slice-none, take-none, slice-behind, front-back}
 use Rattle.columns.specs.Walk.{level}
 use Rattle.arrays.specs.sorting.Ordered.{partSorted}
 use Rattle.arrays.specs.table.Table.{Table, addsCap, Keys}
@@ -44,9 +44,6 @@ shorter m j k l e f = go (ltb j k) refl
     go : (b : Bool) → ltb j k ≡ b → take m l ≡ take j l
     go true g = let z : m ≡ j = omega (arith, e, ltb-true j k g) in ap (λ (i : ℕ). take i l) z
     go false g = let h = ltb-false j k g in take-all m l (omega (arith, e, f)) ∙ sym (take-all j l (omega (arith, f)))
-
-slice-behind : (a b : List ℕ) (m : ℕ) → slice (length a) (length a + m) (a ++ b) ≡ take m b
-slice-behind a b m = rw (take-append-add a b m) (drop-append-seam a (take m b))
 
 slice-at : (a b : List ℕ) (base m : ℕ) → length a ≡ base → slice base (base + m) (a ++ b) ≡ take m b
 slice-at a b base m e = rw (← e) (slice-behind a b m)
@@ -109,16 +106,9 @@ module _ (buf keys buf₁ buf₂ : List ℕ) (base left n r m : ℕ) (e1 : buf�
 moved : (base e : ℕ) (was is x y : List ℕ) → x ≡ y → Laid base was is e x → Laid base was is e y
 moved base e was is x y q g = record { more = g .more; upto = g .upto; size = g .size; below = g .below; list = g .list ∙ q }
 
-take-zero : (l : List ℕ) → take 0 l ≡ []
-take-zero [] = refl
-take-zero (x ∷ xs) = refl
-
 level-zero : (p : ℕ → List ℕ) (visited frontier x : List ℕ) → take 0 x ≡ level p 0 visited frontier
 unfolding level
-level-zero p visited frontier x = take-zero x ∙ sym (take-zero (sort (once (filter (λ n. not (mem n visited)) (flat p frontier)))))
-
-front-back : (base e : ℕ) (l : List ℕ) → base ≤ e → take base l ++ slice base e l ≡ take e l
-front-back base e l h = ap (λ (j : List ℕ). j ++ slice base e l) (sym (take-take base e l h)) ∙ take-append-drop base (take e l)
+level-zero p visited frontier x = take-none x ∙ sym (take-none (sort (once (filter (λ n. not (mem n visited)) (flat p frontier)))))
 
 module _ (first kind left n r : ℕ) (offsets targets visited frontier keys keys′ : List ℕ) (q : Seen left n visited keys targets)
     (k : Keys keys keys′ n r (flat (parentsIn first kind offsets targets) frontier)) (u : n ≤ length keys) where

@@ -1,23 +1,24 @@
 -- The keys from a number on end up closed under parents: then they are all that the number reaches.
 use mathlib.Core.Path.{_≡_, refl, sym, _∙_, ap, subst}
-use mathlib.Core.Bool.{Bool, true, false, not, _&&_, _||_, or-false, or-true, false≢true, true≢false}
-use mathlib.Core.Logic.{_⊎_, inl, inr}
-use mathlib.Core.List.{List, [], _∷_, _++_, foldl, List·Memᴰ, List·Memᴰ·head, List·Memᴰ·tail, List·Memᴰ·cases-cons, List·Memᴰ·not-nil}
-use mathlib.Core.Option.{none, some}
+use mathlib.Core.Bool.{Bool, true, false, not, _||_, or-false, or-true, false≢true, true≢false}
+use mathlib.Core.Logic.{inl, inr}
+use mathlib.Core.List.{List, [], _∷_, _++_, List·Memᴰ, List·Memᴰ·head, List·Memᴰ·tail, List·Memᴰ·cases-cons, List·Memᴰ·not-nil}
+use mathlib.Core.Option.{none}
 use Prim.Native.Nat.{ℕ, zero, suc, _≤_, _<_, _+_, _-_}
 use native.Mathlib.Numerals.{add-one}
 use native.Mathlib.Omega.{arith}
 use lib.Dec.{eqb, leb}
-use lib.ListN.{length, take, drop, getD, length-append, List·getD-append}
-use lib.Seq.{slice, length-take-le, getD-take, take-suc, take-all}
+use lib.ListN.{length, take, getD, List·getD-append}
+use lib.Seq.{length-take-le, getD-take, take-suc}
 use borrow.Author.Tests.{eq-eqb, eqb-true, eqb-false, lt-leb}
-use Rattle.lists.specs.Lists.{mem, add, filter}
+use Rattle.lists.specs.Lists.{mem, filter}
 use Rattle.lists.proofs.Tests.{tested, not-both}
-use Rattle.lists.proofs.Once.{mem-append, mem-folded}
+use Rattle.lists.proofs.Once.{mem-append, mem-folded, mem-first, mem-later}
 use Rattle.lists.proofs.Rising.{mem-filter}
-use Rattle.columns.specs.Ancestor.{Reaches, here, up, SharedAncestor}
+use Rattle.lists.proofs.Slices.{take-none}
+use Rattle.columns.specs.Ancestor.{Reaches, here, up}
 use Rattle.arrays.specs.table.Table.{Table, Keys, addCap, addsCap}
-use Rattle.columns_levels.specs.frontier.Frontier.{parentsIn, hitsIn, one}
+use Rattle.columns_levels.specs.frontier.Frontier.{parentsIn, hitsIn}
 use Rattle.columns_levels.proofs.frontier.Slots.{parents-in}
 use Rattle.columns_levels.proofs.frontier.Fresh.{newFrom, made-all}
 use Rattle.columns_levels.specs.rounds.Closure.{All, Grown, Free, Apart, Answer}
@@ -66,17 +67,9 @@ only-one : (a x : ℕ) → mem x (a ∷ []) ≡ true → x ≡ a
 unfolding mem
 only-one a x e = eqb-true x a (sym (or-false (eqb x a)) ∙ e)
 
-first-in : (a : ℕ) (l : List ℕ) → mem a (a ∷ l) ≡ true
-unfolding mem
-first-in a l = rw (eq-eqb a a refl)
-
 mem-none : (x : ℕ) → mem x [] ≡ true → ⊥
 unfolding mem
 mem-none x e = false≢true e
-
-mem-later : (x y : ℕ) (l : List ℕ) → mem x l ≡ true → mem x (y ∷ l) ≡ true
-unfolding mem
-mem-later x y l e = rw e (or-true (eqb x y))
 
 -- ── reaching ─────────────────────────────────────────────────────────────────────────────────
 
@@ -147,7 +140,7 @@ first-within a l = rw (eq-eqb a a refl) (omega arith)
 pub grown-first : (p : ℕ → List ℕ) (a : ℕ) (targets : List ℕ) → Grown p a targets (a ∷ []) 0
 grown-first p a targets = record {
   only = λ x e. subst (λ (y : ℕ). Reaches p a y) (sym (only-one a x e)) here;
-  start = first-in a [];
+  start = mem-first a [];
   closed = λ j h x e. absurd (omega (arith, h));
   within = first-within a targets;
 }
@@ -202,11 +195,7 @@ common-hit ks os i m n t h u e f =
     (sym e ∙ f, ap (λ (y : ℕ). mem y (take m os)) (sym (getD-take m os i 0 h)) ∙ mem-at (take m os) i (let l = length-take-le m os u in omega (arith, l)))
 
 pub free-first : (ks os : List ℕ) → Free ks (take 0 os)
-free-first ks os = record { none = λ x e. absurd (mem-none x (sym (ap (λ (o : List ℕ). mem x o) (no os)) ∙ e)) }
-  where
-    no : (l : List ℕ) → take 0 l ≡ []
-    no [] = refl
-    no (y ∷ ys) = refl
+free-first ks os = record { none = λ x e. absurd (mem-none x (sym (ap (λ (o : List ℕ). mem x o) (take-none os)) ∙ e)) }
 
 pub free-turn : (ks os : List ℕ) (i m n : ℕ) (t : Bool) → Free (take n ks) (take i os) → t ≡ mem (getD os i 0) (take n ks) → t ≡ false → i < m → m ≤ length os → Free (take n ks) (take (i + 1) os)
 free-turn ks os i m n t w e f h u = record {
@@ -228,8 +217,4 @@ shared-found Nothing p a b ks os d s t = λ x u v. true≢false (sym (s .every x
 
 pub planted : (p : ℕ → List ℕ) (a n : ℕ) (targets keys keys′ : List ℕ) → take n keys′ ≡ addCap (length keys) (take 0 keys) a → length targets < length keys → Grown p a targets (take n keys′) 0
 unfolding addCap mem
-planted p a n targets keys keys′ e h = rw (e, no keys, lt-leb (length keys) 0 (omega arith)) (grown-first p a targets)
-  where
-    no : (l : List ℕ) → take 0 l ≡ []
-    no [] = refl
-    no (y ∷ ys) = refl
+planted p a n targets keys keys′ e h = rw (e, take-none keys, lt-leb (length keys) 0 (omega arith)) (grown-first p a targets)

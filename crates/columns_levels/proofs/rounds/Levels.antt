@@ -1,16 +1,17 @@
 -- One turn of a walk is one level of its definition, and the walk ends where the definition does.
 use mathlib.Core.Path.{_≡_, refl, sym, _∙_, ap}
-use mathlib.Core.Bool.{Bool, true, false, cond}
+use mathlib.Core.Bool.{true, false}
 use mathlib.Core.List.{List, [], _∷_, _++_, append-assoc, append-nil}
 use Prim.Native.Nat.{ℕ, zero, suc, _≤_, _<_, _+_, _-_}
 use native.Mathlib.Numerals.{add-one}
 use native.Mathlib.Omega.{arith}
-use lib.ListN.{length, take, drop, set, length-append, length-take, take-append-drop}
-use lib.Seq.{slice, slice-empty, length-slice, length-take-le, take-take, take-suc-set, drop-set-lt, drop-drop, drop-append-le}
+use lib.ListN.{length, take, drop, set}
+use lib.Seq.{slice, slice-empty, length-slice, length-take-le, take-suc-set, drop-set-lt, drop-drop, drop-append-le}
 use Rattle.lists.specs.Lists.{isEmpty, joined}
+use Rattle.lists.proofs.Slices.{front-back, take-none}
 use Rattle.columns.specs.Walk.{level, levelsFrom}
 use Rattle.arrays.specs.table.Table.{Table}
-use Rattle.columns_levels.specs.frontier.Frontier.{Laid, Seen}
+use Rattle.columns_levels.specs.frontier.Frontier.{Laid}
 use Rattle.columns_levels.specs.rounds.Rounds.{endsFrom, Going, Ran}
 
 -- ── the definition's turns ───────────────────────────────────────────────────────────────────
@@ -52,9 +53,6 @@ ends-cons at l ls = refl
 
 -- ── parts of a slice ─────────────────────────────────────────────────────────────────────────
 
-front-back : (base e : ℕ) (l : List ℕ) → base ≤ e → take base l ++ slice base e l ≡ take e l
-front-back base e l h = ap (λ (j : List ℕ). j ++ slice base e l) (sym (take-take base e l h)) ∙ take-append-drop base (take e l)
-
 part-part : (m e : ℕ) (l : List ℕ) → 1 ≤ m → m ≤ e → m ≤ length l → slice 1 m l ++ slice m e l ≡ slice 1 e l
 part-part m e l a h k =
     sym (ap (λ (j : List ℕ). drop 1 j) (sym (front-back m e l h)) ∙ drop-append-le 1 (take m l) (slice m e l) (let z = length-take-le m l k in omega (arith, z)))
@@ -66,12 +64,8 @@ going-first p limit buf ends =
     let z : limit - 0 ≡ limit = omega arith in
     rw z (record {
       numbers = ap (λ (l : List ℕ). l ++ joined (levelsFrom p limit limit (take 1 buf) (take 1 buf))) (sym (slice-empty 1 buf));
-      stops = ap (λ (l : List ℕ). l ++ endsFrom 0 (levelsFrom p limit limit (take 1 buf) (take 1 buf))) (sym (none ends));
+      stops = ap (λ (l : List ℕ). l ++ endsFrom 0 (levelsFrom p limit limit (take 1 buf) (take 1 buf))) (sym (take-none ends));
     })
-  where
-    none : (l : List ℕ) → take 0 l ≡ []
-    none [] = refl
-    none (x ∷ xs) = refl
 
 module _ (p : ℕ → List ℕ) (ls : List (List ℕ)) (f left lo m k e : ℕ) (buf buf′ ends : List ℕ) (g : Going ls (levelsFrom p f left (take m buf) (slice lo m buf)) buf ends m k)
     (x : Laid m buf buf′ e (level p left (take m buf) (slice lo m buf))) where

@@ -8,19 +8,17 @@ use Prim.Native.Nat.{ℕ, suc, _≤_, _+_, _-_}
 use native.Mathlib.Omega.{arith}
 use lib.Dec.{eqb, leb, ltb}
 use lib.IntN.{ℤ}
-use lib.ListN.{length, take, drop, length-append, length-map}
-use lib.Seq.{slice, sets, sets-eq, length-slice, take-append-add, drop-append-seam, take-at}
+use lib.ListN.{length, drop, length-append, length-map}
+use lib.Seq.{slice, sets, sets-eq, length-slice, take-at}
 use borrow.Author.Tests.{leb-true, eqb-true, ltb-true, ltb-false}
 use Rattle.lists.specs.Lists.{joined}
 use Rattle.lists.specs.Order.{climbsTo}
 use Rattle.lists.proofs.Tests.{both, tested}
+use Rattle.lists.proofs.Slices.{slice-behind, take-none}
 use Rattle.columns.specs.EdgeSet.{EdgeSet, cut, cutFrom, fromTo, eventOf, targetOf}
 use Rattle.columns.specs.Reading.{targetsFrom, slotsOf, setRules}
 use Rattle.columns.proofs.Offsets.{low-high, form-climbs}
 use Rattle.columns.proofs.Checks.{kept-form, kept-climbs}
-
-slice-behind : (a b : List ℕ) (m : ℕ) → slice (length a) (length a + m) (a ++ b) ≡ take m b
-slice-behind a b m = rw (take-append-add a b m) (drop-append-seam a (take m b))
 
 -- the part of a list from the end of its first part to the end of its second
 middle : (p q r l : List ℕ) (a b : ℕ) → l ≡ p ++ (q ++ r) → length p ≡ a → length q ≡ b - a → a ≤ b → slice a b l ≡ q
@@ -110,13 +108,9 @@ stored set first rows end s k l h = elim (tested (ltb 0 (s .count))) [
   | inr f ↦ go 0 (omega arith) (let z : s .count ≡ 0 = omega (arith, ltb-false 0 (s .count) f) in rw z at (form-climbs rows (s .count) (s .offsets) (kept-form set first rows end s k)))
 ]
   where
-    zero-front : (m : List ℕ) → take 0 m ≡ []
-    zero-front [] = refl
-    zero-front (x ∷ xs) = refl
-
     go : (high : ℕ) → high ≤ length (s .deltas) → fromTo 0 high (s .offsets) ≡ true → cut (s .offsets) (sets l 0 (joined (targetsFrom first 0 (cut (s .offsets) (s .deltas))))) ≡ targetsFrom first 0 (cut (s .offsets) (s .deltas))
     go high fits e =
         let ts = joined (targetsFrom first 0 (cut (s .offsets) (s .deltas))) in
         let n : length ts ≤ high = all-total first high (s .deltas) fits (s .offsets) e in
-        let c : sets l 0 ts ≡ ts ++ drop (0 + length ts) l = sets-eq ts l 0 (omega (arith, n, fits, h)) ∙ ap (λ (m : List ℕ). (m ++ ts) ++ drop (0 + length ts) l) (zero-front l) in
+        let c : sets l 0 ts ≡ ts ++ drop (0 + length ts) l = sets-eq ts l 0 (omega (arith, n, fits, h)) ∙ ap (λ (m : List ℕ). (m ++ ts) ++ drop (0 + length ts) l) (take-none l) in
         all-same first high (s .deltas) fits (s .offsets) e (sets l 0 ts) (drop (0 + length ts) l) c

@@ -100,9 +100,6 @@ pub read-written : {t : List ℕ} (n first rows end : ℕ) (s : EdgeSet) (l : Li
     → t ++ drop n l ≡ writtenOver (take n l) (inOne (decodeSet 0 first rows end s (room n))) ++ drop n l
 read-written n first rows end s l e h = ap (λ (m : List ℕ). m ++ drop n l) (e ∙ ap (λ (k : ℕ). writtenOver (take n l) (inOne (decodeSet 0 first rows end s (room k)))) (length-take-le n l h))
 
-pub part-count : (n : ℕ) (l : List ℕ) → n ≤ length l → n ≡ length (take n l)
-part-count n l h = sym (length-take-le n l h)
-
 -- ── leaves ───────────────────────────────────────────────────────────────────────────────────
 
 pub kind-below : (k : Kind) (n : ℕ) → n ≡ kindOf k → n < 2

@@ -5,7 +5,7 @@ use Rattle.columns.specs.Reading.{Labels}
 use Rattle.columns.specs.Refusal.{firstOf}
 use Rattle.columns.specs.declared.refusal.Refusal.the-variants.{DepthOrder}
 use Rattle.columns.specs.declared.refusal.Refusal.{Refusal}
-use Rattle.columns_rules.proofs.Told.{last-rule, goes-on, stops-here}
+use Rattle.columns.proofs.Told.{last-rule, goes-on, stops-here}
 use Rattle.columns.specs.Answers.{ruling}
 use Rattle.columns_rules.specs.records.Recorded.{depthOf, unresolvedFrom, depthRules, recordRules}
 use Rattle.columns.specs.declared.depth.Depth.the-variants.{Unknown, Between}

@@ -13,6 +13,7 @@ use lib.ListN.{length, getD, getElem?}
 use borrow.Author.Tests.{lt-ltb, le-ltb, le-leb, lt-leb, leb-true, leb-false, not-true, not-false}
 use Rattle.lists.specs.Lists.{upFrom}
 use Rattle.lists.proofs.Tests.{tested}
+use Rattle.lists.proofs.Once.{eqb-sym}
 use Rattle.columns.specs.Limits.{kinds}
 use Rattle.columns.specs.Refusal.{firstOf, firstIn}
 use Rattle.columns.specs.Building.{has, inFile, greater, unresolvedRules, inboundRules}
@@ -22,7 +23,7 @@ use Rattle.columns.specs.declared.refusal.Refusal.{Refusal}
 use Rattle.columns.specs.declared.refusal.Refusal.the-variants.{UnresolvedChild, UnresolvedKind, InboundChild, InboundParent}
 use Rattle.columns.specs.declared.refusal.Ruling.{Ruling}
 use Rattle.columns.specs.declared.refusal.Ruling.the-variants.{Kept, Broken}
-use Rattle.columns_rules.proofs.Told.{eqb-swap, told, told-kept}
+use Rattle.columns.proofs.Told.{told, told-kept}
 
 -- ── a part of a record ───────────────────────────────────────────────────────────────────────
 
@@ -47,7 +48,7 @@ module _ (l : List ℕ) (i : ℕ) (h : i < length l) where
 
   pub zero-part : eqb (getD l i 0) 0 ≡ has (eqb 0) (getElem? l i)
   unfolding has
-  zero-part = rw (there l i h) (eqb-swap (getD l i 0) 0)
+  zero-part = rw (there l i h) (eqb-sym (getD l i 0) 0)
 
   pub file-part : (first end : ℕ) {r : Bool} → r ≡ inFile first end (getD l i 0) → r ≡ has (inFile first end) (getElem? l i)
   unfolding has

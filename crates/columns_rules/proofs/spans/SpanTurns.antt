@@ -13,11 +13,11 @@ use lib.Seq.{slice, slice-cons, drop-cons, getD-take, getD-drop}
 use borrow.Author.Tests.{lt-ltb, le-ltb, leb-true, leb-false, not-true, not-false}
 use Rattle.lists.specs.Lists.{all, part, joined}
 use Rattle.lists.proofs.Tests.{tested, all-append}
+use Rattle.lists.proofs.Slices.{slice-none}
 use Rattle.columns.specs.EdgeSet.{offsetsForm, cut, eventOf, deltaOf, deltasFrom}
 use Rattle.columns.specs.Building.{fits63, deltasFit}
 use Rattle.columns_rules.specs.spans.Spanned.{spansFit, slotsFit}
 use Rattle.columns_rules.proofs.SlotTables.{table-of, length-cut, getD-cut}
-use Rattle.columns_rules.proofs.ParentTurns.{slice-none}
 
 -- ── event minus target ───────────────────────────────────────────────────────────────────────
 

@@ -1,25 +1,22 @@
 -- One turn of the loop that writes a granule's deltas, slot after slot.
 use mathlib.Core.Path.{_≡_, refl, sym, _∙_}
 use mathlib.Core.Bool.{true, _&&_}
-use mathlib.Core.List.{List, [], _∷_, _++_, map}
+use mathlib.Core.List.{List, [], _∷_, map}
 use Prim.Native.Nat.{ℕ, zero, suc, _+_, _-_, _*_, _/_, _≤_, _<_}
 use native.Mathlib.Nat.{add-zero}
 use native.Mathlib.Numerals.{add-one}
 use native.Mathlib.Omega.{arith}
 use lib.IntN.{ℤ}
-use lib.ListN.{length, getD, set, drop, drop-of-length-le, length-take, length-drop, length-map}
+use lib.ListN.{length, getD, drop, drop-of-length-le, length-take, length-drop, length-map}
 use lib.Seq.{slice, sets, drop-cons, getD-take, getD-drop, length-slice}
 use Rattle.lists.specs.Lists.{part, joined}
 use Rattle.lists.proofs.Tests.{both}
+use Rattle.lists.proofs.Slices.{sets-append}
 use Rattle.columns.specs.EdgeSet.{offsetsForm, cut, deltaOf, deltasFrom}
 use Rattle.columns.specs.Building.{deltasFit}
 use Rattle.columns_rules.specs.spans.Spanned.{spansFit, slotsFit}
 use Rattle.columns_rules.proofs.SlotTables.{Table, table-of, length-cut, getD-cut}
 use Rattle.columns_rules.proofs.spans.SpanTurns.{deltas-slots}
-
-sets-append : {A : Type 0} (xs ys : List A) (l : List A) (i : ℕ) → sets l i (xs ++ ys) ≡ sets (sets l i xs) (i + length xs) ys
-sets-append [] ys l i = let z : i + 0 ≡ i = omega arith in rw z
-sets-append (x ∷ xs) ys l i = let z : i + suc (length xs) ≡ suc i + length xs = omega arith in rw z (sets-append xs ys (set l i x) (suc i))
 
 pub climbs : (slots count : ℕ) (offsets : List ℕ) → Table slots count offsets → (s d : ℕ) → s + d ≤ slots → getD offsets s 0 ≤ getD offsets (s + d) 0
 climbs slots count offsets t s zero h = let z : s + 0 ≡ s = omega arith in rw z (omega arith)
@@ -133,6 +130,6 @@ module _ (first rows from n : ℕ) (offsets targets : List ℕ) (base : ℕ) whe
         same = l ∙ w .same;
         fits = rw add-one (both (spansFit (first + from + q / 2) (getD (cut offsets targets) (2 * from + q) [])) (slotsFit (first + from) (suc q) (drop (suc q) (part (2 * from) (2 * n) (cut offsets targets)))) fits-parts .1);
         ends =
-            let step = sets-append (map (deltaOf (first + from + q / 2)) (getD (cut offsets targets) (2 * from + q) [])) (joined (deltasFrom (first + from) (suc q) (drop (suc q) (part (2 * from) (2 * n) (cut offsets targets))))) out (getD offsets (2 * from + q) 0 - base) in
+            let step = sets-append out (getD offsets (2 * from + q) 0 - base) (map (deltaOf (first + from + q / 2)) (getD (cut offsets targets) (2 * from + q) [])) (joined (deltasFrom (first + from) (suc q) (drop (suc q) (part (2 * from) (2 * n) (cut offsets targets))))) in
             (rw this at (w .ends)) ∙ step ∙ rw (place, ← e, add-one);
       }

@@ -14,10 +14,10 @@ use mir.ValLaws.{toZ-ofZ}
 use borrow.Author.Tests.{ltb-true, leb-true}
 use Rattle.lists.specs.Lists.{all}
 use Rattle.lists.proofs.Tests.{both}
+use Rattle.lists.proofs.Slices.{slice-none}
 use Rattle.columns.specs.EdgeSet.{deltaOf}
 use Rattle.columns.specs.Building.{fits63}
 use Rattle.columns_rules.specs.spans.Spanned.{spansFit}
-use Rattle.columns_rules.proofs.ParentTurns.{slice-none}
 use Rattle.columns_rules.proofs.spans.SpanTurns.{delta-down, delta-up, span-down, span-up}
 
 below : (m : ℕ) → negsuc 0 -ℤ pos m ≡ negsuc m

@@ -1,10 +1,10 @@
 -- A set written whole: its starts, its deltas and its edge count, and the reverse set out of the turned table.
-use mathlib.Core.Path.{_≡_, sym, _∙_, ap}
+use mathlib.Core.Path.{_≡_, sym, _∙_}
 use mathlib.Core.List.{List, _++_}
 use Prim.Native.Nat.{ℕ, _+_, _-_, _*_, _≤_, _<_}
 use native.Mathlib.Omega.{arith}
 use lib.IntN.{ℤ}
-use lib.ListN.{length, getD, take, drop, length-append, length-take}
+use lib.ListN.{length, getD, take, drop, length-append}
 use lib.Seq.{sets, take-all, length-take-le}
 use Rattle.lists.specs.Lists.{part, joined, starts, sum}
 use Rattle.lists.proofs.Flat.{length-joined, length-starts, getD-starts}
@@ -51,12 +51,6 @@ module _ (first rows from n : ℕ) (offsets targets : List ℕ) (r : Reached fir
   deltas-written was out e = e
 
 -- ── a set out of a table ─────────────────────────────────────────────────────────────────────
-
-pub prefix-count : {A : Type 0} (k : ℕ) (l : List A) → k ≤ length l → k ≡ length (take k l)
-prefix-count k l h = sym (length-take-le k l h)
-
-pub prefix-short : {A : Type 0} (m k : ℕ) (l : List A) → m ≤ k → length (take m l) ≤ k
-prefix-short m k l h = simp length-take (omega arith)
 
 -- the reverse lists, at the front of the columns that `turn` is lent
 module _ (first rows from n : ℕ) (offsets targets : List ℕ) (t : Turnable first rows from n offsets targets) (m : ℕ) (e : m ≡ length (joined (reverseLists first rows (cut offsets targets))))

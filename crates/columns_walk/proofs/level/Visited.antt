@@ -15,6 +15,7 @@ use Rattle.lists.proofs.Each.{each-all}
 use Rattle.lists.proofs.Filters.{filter-all}
 use Rattle.lists.proofs.Rising.{mem-filter}
 use Rattle.lists.proofs.Once.{mem-append, add-there, add-new, mem-last}
+use Rattle.lists.proofs.Slices.{take-none}
 use Rattle.arrays.specs.table.Table.{addsCap, Keys}
 use Rattle.columns_levels.specs.frontier.Frontier.{parentsIn, hitsIn, Seen}
 use Rattle.columns_levels.proofs.frontier.Slots.{all-parents-in}
@@ -59,10 +60,6 @@ few-once ps l i =
 
 -- ── find ─────────────────────────────────────────────────────────────────────────────────────
 
-none-taken : (l : List ℕ) → take 0 l ≡ []
-none-taken [] = refl
-none-taken (x ∷ xs) = refl
-
 module _ (n : ℕ) (visited targets keys keys′ : List ℕ) (k : Keys keys keys′ 0 n (slice 0 (length visited) visited)) (h : length keys ≡ 8192) (i : length visited ≤ 4096) (j : length targets ≤ 4096) where
   room-for-all : length (visited ++ targets) ≤ length keys
   room-for-all = rw length-append (omega arith)
@@ -72,7 +69,7 @@ module _ (n : ℕ) (visited targets keys keys′ : List ℕ) (k : Keys keys keys
 
   visited-keys : take n keys′ ≡ newFrom [] [] visited
   visited-keys =
-      k .are ∙ ap (λ (l : List ℕ). addsCap (length keys) l (slice 0 (length visited) visited)) (none-taken keys)
+      k .are ∙ ap (λ (l : List ℕ). addsCap (length keys) l (slice 0 (length visited) visited)) (take-none keys)
       ∙ ap (λ (l : List ℕ). addsCap (length keys) [] l) (take-all (length visited) visited (omega arith)) ∙ visited-made .0
 
   seen-all : Seen 1 n visited keys′ targets

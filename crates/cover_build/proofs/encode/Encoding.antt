@@ -1,9 +1,9 @@
 -- Encoding: the loop that writes differences, and the verdict, return by return.
-use mathlib.Core.Path.{_≡_, refl, sym, _∙_, ap}
+use mathlib.Core.Path.{_≡_, sym, _∙_, ap}
 use mathlib.Core.Bool.{Bool, true, false, not, _&&_}
 use mathlib.Core.List.{List, [], _∷_}
 use mathlib.Core.Option.{none}
-use Prim.Native.Nat.{ℕ, suc, _+_, _≤_, _<_}
+use Prim.Native.Nat.{ℕ, _+_, _≤_, _<_}
 use native.Mathlib.Numerals.{add-one}
 use native.Mathlib.Omega.{arith}
 use lib.Dec.{ltb, eqb}
@@ -15,20 +15,17 @@ use Rattle.lists.proofs.Tests.{both}
 use Rattle.columns.specs.Limits.{maxRecords}
 use Rattle.columns.specs.Refusal.{Verdict, refused, accepted, short, limits}
 use Rattle.columns.specs.declared.refusal.Refusal.the-variants.{OverRecords, SliceShort, CoverForm}
+use Rattle.columns.proofs.FirstBroken.{passes}
 use Rattle.cover.specs.Cover.{LinkColumns, linksOf, evenColumns, wrappingLess, differences, columnsOf, encode}
 use Rattle.cover.specs.Answers.{linkColumns, linkLengths, forRecords, over, counted, columnsOver, columnsAfter}
 use Rattle.cover.specs.declared.answer.Answer.the-variants.{Refused, Done}
+use Rattle.cover.proofs.Stored.{length-differences}
 use Rattle.cover_rows.proofs.limits.Anyone.{any-nil}
 use Rattle.cover_rows.proofs.Columned.{over-sets}
 use Rattle.cover_rows.proofs.Fitting.{columns-of}
-use Rattle.cover_rows.proofs.limits.Verdicts.{counted-refused, counted-done, limits-records, limits-short, limits-none, first-refuses, next-rule, no-rule, refuse-not, refuse-none}
+use Rattle.cover_rows.proofs.limits.Verdicts.{counted-refused, counted-done, limits-records, limits-short, limits-none, first-refuses, next-rule, no-rule, refuse-not}
 
 -- ── differences ──────────────────────────────────────────────────────────────────────────────
-
-length-differences : (before : ℕ) (xs : List ℕ) → length (differences before xs) ≡ length xs
-unfolding differences
-length-differences before [] = refl
-length-differences before (x ∷ xs) = ap suc (length-differences x xs)
 
 pub diffs-over : (xs out : List ℕ) → length xs ≤ length out → over (differences 0 xs) out ≡ sets out 0 (differences 0 xs)
 diffs-over xs out h = over-sets (differences 0 xs) out (rw (length-differences 0 xs) h)
@@ -148,7 +145,7 @@ module _ (s b c d ns : List ℕ) where
         done : not v ≡ false → encode (linkColumns s b c d) (forRecords ns) ≡ accepted (linkColumns (differences 0 s) b c d)
         unfolding encode
         done p =
-            next-rule k (accepted k) _ _ within (next-rule k (accepted k) _ _ (refuse-none CoverForm (evenColumns l) (sym g ∙ not-false v p)) (no-rule k))
+            next-rule k (accepted k) _ _ within (next-rule k (accepted k) _ _ (passes CoverForm (evenColumns l) (sym g ∙ not-false v p)) (no-rule k))
             ∙ ap accepted (stored s b c d (sym g ∙ not-false v p))
 
         pub encode-told : not v ≡ false → Done (length s) ≡ counted (λ x. x .fromChains) (encode (linkColumns s b c d) (forRecords ns))

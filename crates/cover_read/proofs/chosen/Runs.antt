@@ -3,7 +3,7 @@ use mathlib.Core.Path.{_≡_, refl, _∙_, ap}
 use mathlib.Core.Bool.{true, false}
 use mathlib.Core.Logic.{inl, inr}
 use mathlib.Core.List.{List, [], _∷_, _++_}
-use Prim.Native.Nat.{ℕ, zero, suc, _+_, _≤_, _<_}
+use Prim.Native.Nat.{ℕ, zero, suc, _+_, _<_}
 use native.Mathlib.Nat.{add-zero}
 use native.Mathlib.Omega.{arith}
 use lib.Dec.{ltb, leb, eqb}
@@ -12,18 +12,11 @@ use borrow.Author.Tests.{ltb-true, ltb-false, leb-true, le-leb, ne-eqb, eqb-fals
 use Rattle.lists.specs.Lists.{mem, upFrom}
 use Rattle.lists.specs.Order.{levelAbove, sort}
 use Rattle.lists.proofs.Tests.{tested, both}
-use Rattle.lists.proofs.Rising.{mem-sort}
+use Rattle.lists.proofs.Rising.{mem-sort, level-lower}
 use Rattle.arrays.specs.searching.Place.{placeOf}
 use Rattle.cover_read.specs.chosen.Chosen.{runOf, rowsOf}
 
 -- ── columns that don't fall ──────────────────────────────────────────────────────────────────
-
-level-lower : (low x : ℕ) (l : List ℕ) → low ≤ x → levelAbove x l ≡ true → levelAbove low l ≡ true
-unfolding levelAbove
-level-lower low x [] h a = refl
-level-lower low x (y ∷ ys) h a =
-    let p = both (leb x y) (levelAbove y ys) a in
-    rw (le-leb low y (omega (arith, leb-true x y (p .0)))) (p .1)
 
 pub level-drop : (low i : ℕ) (l : List ℕ) → levelAbove low l ≡ true → levelAbove low (drop i l) ≡ true
 unfolding levelAbove

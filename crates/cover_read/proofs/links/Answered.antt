@@ -11,13 +11,14 @@ use Rattle.lists.specs.Lists.{any}
 use Rattle.columns.specs.Limits.{maxRecords, maxNumbers}
 use Rattle.columns.specs.Refusal.{refused, accepted, short, limits}
 use Rattle.columns.specs.declared.refusal.Refusal.the-variants.{OverRecords, OverNumbers, SliceShort, CoverForm}
+use Rattle.columns.proofs.FirstBroken.{passes}
 use Rattle.cover.specs.Chains.{Link}
 use Rattle.cover.specs.Cover.{LinkColumns, linksOk, linkRules, storedLinks}
 use Rattle.cover.specs.Questions.{chainLinks}
 use Rattle.cover.specs.Answers.{linkLengths, forRecords, counted, linksOver, linksAfter}
 use Rattle.cover.specs.declared.answer.Answer.the-variants.{Refused, Done}
 use Rattle.cover_rows.proofs.limits.Anyone.{any-here, any-on, any-nil}
-use Rattle.cover_rows.proofs.limits.Verdicts.{counted-refused, counted-done, columns-kept, columns-written, limits-records, limits-numbers, limits-short, limits-none, first-refuses, next-rule, no-rule, refuse-not, refuse-none}
+use Rattle.cover_rows.proofs.limits.Verdicts.{counted-refused, counted-done, columns-kept, columns-written, limits-records, limits-numbers, limits-short, limits-none, first-refuses, next-rule, no-rule, refuse-not}
 use Rattle.cover_read.specs.chosen.Chosen.{linksFrom}
 
 module _ (l : LinkColumns) (chains ns : List ℕ) where
@@ -76,7 +77,7 @@ module _ (l : LinkColumns) (chains ns : List ℕ) where
 
           done : not w ≡ false → chainLinks l chains (forRecords ns) ≡ accepted found
           unfolding chainLinks linkRules linksFrom
-          done p = next-rule _ (accepted found) _ _ within (next-rule _ (accepted found) _ _ (refuse-none CoverForm (linksOk l) (sym g ∙ not-false w p)) (no-rule found))
+          done p = next-rule _ (accepted found) _ _ within (next-rule _ (accepted found) _ _ (passes CoverForm (linksOk l) (sym g ∙ not-false w p)) (no-rule found))
 
           pub found-told : not w ≡ false → (k : ℕ) → k ≡ length (linksFrom chains (storedLinks l)) → Done k ≡ counted (λ x. x) (chainLinks l chains (forRecords ns))
           found-told p k q = counted-done _ _ found (done p) q

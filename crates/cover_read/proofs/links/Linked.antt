@@ -14,8 +14,8 @@ use Rattle.lists.proofs.Tests.{tested}
 use Rattle.cover.specs.Cover.{LinkColumns, linksOf, sums, storedLinks, linksOk}
 use Rattle.cover.specs.Answers.{linkColumns, over, linksOver}
 use Rattle.cover.specs.Places.{rowAt, rowsFrom}
+use Rattle.cover.proofs.Stored.{length-sums}
 use Rattle.cover_rows.proofs.Rowed.{rows-cons, rows-all, rows-none}
-use Rattle.cover_rows.proofs.Columned.{length-sums}
 use Rattle.cover_rows.proofs.Fitting.{front-sums, long-sums, ok-from, ok-to, ok-ends}
 use Rattle.cover_rows.specs.pick.Picked.{within}
 use Rattle.cover_read.specs.chosen.Chosen.{rowsOf, linksFrom}

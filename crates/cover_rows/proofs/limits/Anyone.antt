@@ -1,6 +1,6 @@
 -- Whether some number of a list passes a test, number by number.
-use mathlib.Core.Path.{_≡_, refl, sym, _∙_}
-use mathlib.Core.Bool.{Bool, true, false, _||_}
+use mathlib.Core.Path.{_≡_, refl, sym}
+use mathlib.Core.Bool.{Bool, true, false, or-false}
 use mathlib.Core.List.{List, [], _∷_}
 use Prim.Native.Nat.{ℕ, _≤_, _<_}
 use lib.Dec.{ltb}
@@ -9,10 +9,6 @@ use Rattle.lists.specs.Lists.{any}
 use Rattle.lists.proofs.Once.{or-is-false}
 use Rattle.columns.specs.Refusal.{short}
 use Rattle.cover.specs.Answers.{forRecords}
-
-or-false : (b : Bool) → (b || false) ≡ b
-or-false true = refl
-or-false false = refl
 
 pub any-here : (m x : ℕ) (xs : List ℕ) → m < x → true ≡ any (ltb m) (x ∷ xs)
 unfolding any

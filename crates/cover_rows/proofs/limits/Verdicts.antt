@@ -1,5 +1,5 @@
 -- Limits and verdicts: which refusal comes first.
-use mathlib.Core.Path.{_≡_, refl, sym, _∙_, ap}
+use mathlib.Core.Path.{_≡_, refl}
 use mathlib.Core.Bool.{Bool, true, false, not}
 use mathlib.Core.List.{List, [], _∷_}
 use mathlib.Core.Option.{Option, none, some}
@@ -51,9 +51,6 @@ module _ {A : Type 0} (a : A) where
 
 pub refuse-not : (r : Refusal) (t : Bool) → t ≡ false → refuse r (not t) ≡ some r
 refuse-not r t e = rw e
-
-pub refuse-none : (r : Refusal) (t : Bool) → t ≡ true → refuse r (not t) ≡ none
-refuse-none r t e = rw e
 
 -- ── answers ──────────────────────────────────────────────────────────────────────────────────
 

@@ -9,6 +9,7 @@ use lib.Dec.{ltb}
 use borrow.Author.Tests.{lt-ltb, le-ltb, eq-eqb, ne-eqb, ltb-true, ltb-false}
 use Rattle.lists.specs.Order.{insert, sort}
 use Rattle.lists.proofs.Tests.{tested}
+use Rattle.lists.proofs.Compared.{less, level, above, compared}
 use Rattle.columns.specs.Reading.{Label}
 use Rattle.cover.specs.Chains.{Range, rangeOf, widen, addLabel}
 use Rattle.cover_sort.specs.labels.Runs.{labelOf}
@@ -101,17 +102,6 @@ module _ (r : Range) (rs : List Range) (l : Label) where
 pub add-none : (l : Label) → addLabel [] l ≡ rangeOf l ∷ []
 unfolding addLabel
 add-none l = refl
-
-data Compared (x y : ℕ) : Type 0 where
-  less : x < y → Compared x y
-  level : x ≡ y → Compared x y
-  above : y < x → Compared x y
-
-compared : (x y : ℕ) → Compared x y
-compared x y = elim (tested (ltb x y)) [
-  | inl e ↦ less (ltb-true x y e)
-  | inr e ↦ elim (tested (ltb y x)) [ inl f ↦ above (ltb-true y x f) | inr f ↦ level (omega (arith, ltb-false x y e, ltb-false y x f)) ]
-]
 
 widen-chain : (r : Range) (s : ℕ) → (widen r s) .chain ≡ r .chain
 unfolding widen

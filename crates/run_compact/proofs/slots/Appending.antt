@@ -6,7 +6,7 @@ use native.Mathlib.Numerals.{add-one}
 use native.Mathlib.Omega.{arith}
 use lib.ListN.{length, getD, set, take}
 use lib.Seq.{slice, slice-cons, take-suc-set}
-use Rattle.run_renumber.proofs.Growing.{slice-none}
+use Rattle.lists.proofs.Slices.{slice-none}
 
 module _ {t : List ℕ} (all xs : List ℕ) (n i b : ℕ) (e : t ≡ take n all ++ slice i b xs) where
   pub all-copied : b ≤ i → take n all ≡ t

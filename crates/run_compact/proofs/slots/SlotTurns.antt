@@ -12,9 +12,10 @@ use borrow.Author.Tests.{eq-eqb, ne-eqb}
 use Rattle.lists.specs.Lists.{flat, part, upFrom}
 use Rattle.columns.specs.Limits.{kinds}
 use Rattle.columns.specs.EdgeSet.{fromTo, offsetsForm, cut}
+use Rattle.columns.proofs.Offsets.{cut-at}
 use Rattle.run_renumber.specs.declared.Grown.the-variants.{Upto}
 use Rattle.run_renumber.specs.Answers.{Grew, Built}
-use Rattle.run_renumber.proofs.Tables.{table-rises, table-within, cut-at, form-length, form-table}
+use Rattle.run_renumber.proofs.Tables.{table-rises, table-within, form-length, form-table}
 use Rattle.run_renumber.proofs.Slots.{slot-added, built-same, built-cut, rows-length}
 use Rattle.cleaning.specs.Survivors.{keepSlots}
 use Rattle.run_compact.specs.Columns.{gone}

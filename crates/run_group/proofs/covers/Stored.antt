@@ -15,6 +15,7 @@ use Rattle.columns.specs.Refusal.{short}
 use Rattle.cover.specs.Cover.{LinkColumns, linksOf, evenColumns, differences, columnsOf, encode}
 use Rattle.cover.specs.Answers.{linkColumns, forRecords, over, columnsOver, columnsAfter}
 use Rattle.cover.specs.Places.{rowAt}
+use Rattle.cover.proofs.Stored.{length-differences}
 use Rattle.cover_rows.proofs.limits.Anyone.{any-last, any-on, short-last, short-on}
 use Rattle.cover_rows.proofs.Columned.{take-over}
 use Rattle.cover_rows.proofs.Fitting.{columns-of}
@@ -25,11 +26,6 @@ use Rattle.run_state.specs.View.{listed, linkAt}
 use Rattle.run_state.proofs.order.TidySheets.{column-listed}
 use Rattle.run_group.proofs.parts.Ranges.{places-rise, places-room, between-places}
 use Rattle.run_state.specs.output.View.{linksIn}
-
-length-differences : (before : ℕ) (xs : List ℕ) → length (differences before xs) ≡ length xs
-unfolding differences
-length-differences before [] = refl
-length-differences before (x ∷ xs) = ap suc (length-differences x xs)
 
 -- four columns equal in number, and room for them
 module _ (a b c d : List ℕ) (p : length b ≡ length a) (q : length c ≡ length a) (r : length d ≡ length a) (few : length a ≤ 1024)

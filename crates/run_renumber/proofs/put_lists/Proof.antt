@@ -1,7 +1,8 @@
 -- `run_renumber::put_lists` meets its contract. The table of no list is the one offset 0.
 use lib.Seq.{lt-length-set}
 use borrow.Author.Needs.{needs}
-use Rattle.run_renumber.proofs.Slots.{begins, lists-named, same-after, prefix-count}
+use Rattle.lists.proofs.Slices.{prefix-count}
+use Rattle.run_renumber.proofs.Slots.{begins, lists-named, same-after}
 use Rattle.run_renumber.proofs.put_lists.Statement.{statement}
 use Rattle.run_renumber.proofs.put_lists.Tie as tie
 

@@ -7,17 +7,14 @@ use native.Mathlib.Numerals.{add-one}
 use native.Mathlib.Omega.{arith}
 use lib.Dec.{eqb, leb}
 use lib.ListN.{length, getD, set, take, drop, replicate}
-use lib.Seq.{slice, slice-cons, slice-empty, take-suc, take-suc-set, take-take, take-at, drop-at, drop-append-le, length-take-le}
+use lib.Seq.{slice, slice-cons, slice-empty, take-suc-set, take-take, take-at, drop-at, length-take-le}
 use borrow.Author.Tests.{leb-true, le-leb, eq-eqb}
 use Rattle.lists.specs.Lists.{all}
 use Rattle.lists.specs.Order.{levelAbove}
 use Rattle.lists.proofs.Tests.{both, all-each, all-of}
 use Rattle.lists.proofs.Each.{each-append}
-use Rattle.run_renumber.proofs.Growing.{slice-none}
+use Rattle.lists.proofs.Slices.{slice-none, slice-snoc}
 use Rattle.run_resolve.specs.links.Sorted.{Appended}
-
-slice-snoc : (i p : ℕ) (l : List ℕ) → i ≤ p → p < length l → slice i (suc p) l ≡ slice i p l ++ (getD l p 0 ∷ [])
-slice-snoc i p l h k = ap (drop i) (take-suc l p 0 k) ∙ drop-append-le i (take p l) (getD l p 0 ∷ []) (omega (arith, length-take-le p l (omega arith)))
 
 -- ── copies ───────────────────────────────────────────────────────────────────────────────────
 
@@ -77,5 +74,5 @@ module _ (g i n p : ℕ) (groups : List ℕ) (l : n ≤ length groups) where
         pub end-own : i ≤ p → all (eqb g) (slice i p groups) ≡ true → all (eqb g) (slice i (p + 1) groups) ≡ true
         unfolding all
         end-own k a =
-            rw (add-one, slice-snoc i p groups k (omega arith))
+            rw (add-one, slice-snoc i p groups 0 k (omega arith))
             (all-of (eqb g) (slice i p groups ++ (getD groups p 0 ∷ [])) (each-append (λ x. eqb g x ≡ true) (slice i p groups) (getD groups p 0 ∷ []) (all-each (eqb g) (slice i p groups) a) (eq-eqb g (getD groups p 0) (sym e), tt)))

@@ -1,7 +1,6 @@
 -- What sorted columns of links stand for, and columns with the links of a group more.
 use mathlib.Core.Path.{_≡_, refl, sym, ap, ap₂, _∙_}
-use mathlib.Core.Bool.{Bool, true, false, cond}
-use mathlib.Core.List.{List, [], _∷_, _++_, map, map-append, append-assoc, foldl}
+use mathlib.Core.List.{List, [], _∷_, _++_, map, map-append, append-assoc}
 use Prim.Native.Nat.{ℕ, zero, suc, _+_, _-_, _≤_, _<_}
 use native.Mathlib.Omega.{arith}
 use native.Mathlib.Nat.{zero-add}
@@ -13,7 +12,7 @@ use mir.Val.{Fits}
 use Rattle.lists.specs.Lists.{upFrom}
 use Rattle.lists.proofs.Flat.{map-ext, upFrom-append, length-map-upFrom}
 use Rattle.lists.proofs.Filters.{each-below, map-places}
-use Rattle.cover.specs.Chains.{Link, linkLess, addLink, sortLinks}
+use Rattle.cover.specs.Chains.{Link, sortLinks}
 use Rattle.cover.specs.Cover as cover
 use Rattle.cover.specs.Answers.{link, over, linkColumns, linksOver}
 use Rattle.cover.specs.Places.{rowAt}

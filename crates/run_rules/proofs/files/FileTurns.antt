@@ -1,7 +1,7 @@
 -- The rules of an archive's files: one turn of the loop over them, and each of its answers.
 use mathlib.Core.Path.{_≡_, refl, sym, _∙_, ap}
 use mathlib.Core.Bool.{Bool, true, false, cond}
-use mathlib.Core.List.{List, [], _∷_}
+use mathlib.Core.List.{List, _∷_}
 use mathlib.Core.Option.{Option, none, some}
 use Prim.Native.Nat.{ℕ, suc, _+_, _-_, _≤_, _<_}
 use native.Mathlib.Nat.{add-zero}
@@ -12,8 +12,8 @@ use lib.Seq.{sets, length-sets, length-take-le}
 use borrow.Author.Tests.{lt-leb, leb-true, ltb-true}
 use Rattle.lists.specs.Lists.{sum}
 use Rattle.lists.proofs.Tests.{both}
+use Rattle.lists.proofs.Slices.{take-sets}
 use Rattle.columns.specs.Limits.{end64}
-use Rattle.columns.specs.Refusal.{firstOf}
 use Rattle.columns.specs.Building.{subjectOk, numbersOk}
 use Rattle.columns.specs.declared.refusal.Refusal.{Refusal}
 use Rattle.columns.specs.declared.refusal.Refusal.the-variants.{SubjectLength, NumberRange}
@@ -21,7 +21,7 @@ use Rattle.columns.proofs.FirstBroken.{each-none, passed}
 use Rattle.columns.specs.Answers.{ruling}
 use Rattle.columns.specs.declared.refusal.Ruling.{Ruling}
 use Rattle.columns.specs.declared.refusal.Ruling.the-variants.{Kept, Broken}
-use Rattle.columns_rules.proofs.Told.{told-kept, stops-here, goes-on}
+use Rattle.columns.proofs.Told.{told-kept, stops-here, goes-on}
 use Rattle.archive.specs.Reader.{Parsed, broken, got, andThen, _>>=_}
 use Rattle.archive.specs.File.{CoverColumns, File}
 use Rattle.archive.specs.Parse.{file, files, parse}
@@ -32,13 +32,12 @@ use Rattle.archive_read.specs.Sums.{totals, totalsOf}
 use Rattle.archive_read.specs.declared.records.FileAt.{FileAt}
 use Rattle.archive_read.specs.declared.records.FileRead.{FileRead}
 use Rattle.archive_read.specs.declared.records.FileRead.the-variants.{FileIs, NoFile}
-use Rattle.cleaning.specs.Source.{Source, coverRead, sourceOf, endOf, isThere}
+use Rattle.cleaning.specs.Source.{Source, coverRead, sourceOf, isThere}
 use Rattle.cleaning.specs.Held.{ending}
 use Rattle.cleaning.proofs.HeldLimits.{files-alike}
 use Rattle.cleaning.specs.Taking.{fileRules, filesRules}
 use Rattle.run_rules.specs.parts.Back.{backOf}
 use Rattle.run_rules.specs.declared.parts.heads.Back.{Back}
-use Rattle.run_rules.proofs.parts.SetOrder.{take-sets}
 use Rattle.run_rules.specs.files.Parts.{subjectIn, Small}
 use Rattle.run_rules.specs.files.Archive.{rulesOf, Within, seenOf, endsWith}
 use Rattle.run_rules.specs.declared.files.all.Seen.{Seen}

@@ -16,7 +16,7 @@ use Rattle.columns.proofs.FirstBroken.{each-none, passed}
 use Rattle.columns.specs.Answers.{ruling}
 use Rattle.columns.specs.declared.refusal.Ruling.{Ruling}
 use Rattle.columns.specs.declared.refusal.Ruling.the-variants.{Kept, Broken}
-use Rattle.columns_rules.proofs.Told.{told-kept, stops-here, goes-on}
+use Rattle.columns.proofs.Told.{told-kept, stops-here, goes-on}
 use Rattle.archive.specs.Bytes.{several}
 use Rattle.archive.specs.Parse.{depthRead, unresolvedAt, rootAt}
 use Rattle.archive_read.specs.bodies.View.{setIn, coverIn}

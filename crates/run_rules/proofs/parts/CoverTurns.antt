@@ -11,6 +11,7 @@ use lib.Seq.{sets, length-sets, length-take-le, drop-drop}
 use borrow.Author.Tests.{lt-ltb, le-ltb, le-leb, lt-leb, not-true, not-false}
 use Rattle.lists.specs.Lists.{all}
 use Rattle.lists.specs.Order.{rising, risesAbove}
+use Rattle.lists.proofs.Slices.{take-sets}
 use Rattle.columns.specs.Refusal.{firstOf}
 use Rattle.columns.specs.declared.refusal.Refusal.the-variants.{CoverForm}
 use Rattle.cover.specs.Cover.{rangesOk, linksOk, rangeRules, linkRules}
@@ -25,7 +26,6 @@ use Rattle.columns.specs.Answers.{ruling}
 use Rattle.columns.specs.declared.refusal.Ruling.the-variants.{Kept, Broken}
 use Rattle.cleaning.specs.Taking.{coverRules}
 use Rattle.run_rules.specs.parts.Back.{inOrder, linksAt, sized}
-use Rattle.run_rules.proofs.parts.SetOrder.{take-sets}
 
 -- ── chains rise ──────────────────────────────────────────────────────────────────────────────
 

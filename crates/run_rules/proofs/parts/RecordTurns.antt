@@ -20,7 +20,7 @@ use Rattle.archive.specs.File.{Unresolved, Root}
 use Rattle.columns.specs.Answers.{ruling}
 use Rattle.columns.specs.declared.refusal.Ruling.{Ruling}
 use Rattle.columns.specs.declared.refusal.Ruling.the-variants.{Kept, Broken}
-use Rattle.columns_rules.proofs.Told.{told, told-kept, last-rule}
+use Rattle.columns.proofs.Told.{told, told-kept, last-rule}
 use Rattle.run_rules.specs.parts.Back.{inRows, childRule, recordRule, recordsRules}
 
 -- ── roots ────────────────────────────────────────────────────────────────────────────────────

@@ -1,12 +1,12 @@
 -- The rules on sets of edges: columns loaded from bytes, and one set after another.
 use mathlib.Core.Path.{_≡_, sym}
 use mathlib.Core.List.{List, map}
-use mathlib.Core.Option.{Option}
 use Prim.Native.Nat.{ℕ, _+_, _*_, _≤_}
 use native.Mathlib.Omega.{arith}
 use lib.IntN.{ℤ}
-use lib.ListN.{length, take, drop, length-map}
-use lib.Seq.{sets, sets-eq, length-sets, length-take-le, take-append-seam}
+use lib.ListN.{length, take, length-map}
+use lib.Seq.{sets, length-sets, length-take-le}
+use Rattle.lists.proofs.Slices.{take-sets}
 use Rattle.columns.specs.EdgeSet.{EdgeSet}
 use Rattle.columns.specs.Answers.{columnsOf, ruling}
 use Rattle.columns.specs.Reading.{setRules}
@@ -16,13 +16,10 @@ use Rattle.archive.proofs.Back.{length-several}
 use Rattle.archive_read.specs.bodies.View.{setIn}
 use Rattle.columns.specs.declared.refusal.Ruling.{Ruling}
 use Rattle.columns.specs.declared.refusal.Ruling.the-variants.{Kept, Broken}
-use Rattle.columns_rules.proofs.Told.{stops-here, goes-on}
+use Rattle.columns.proofs.Told.{stops-here, goes-on}
 use Rattle.run_rules.specs.parts.Back.{setsRules, laterRules}
 
 -- ── a column written to the front of an array ────────────────────────────────────────────────
-
-pub take-sets : {A : Type 0} (l vs : List A) (n : ℕ) → length vs ≡ n → n ≤ length l → take n (sets l 0 vs) ≡ vs
-take-sets l vs n d h = rw (← d, sets-eq vs l 0 (omega arith)) (take-append-seam vs (drop (0 + length vs) l))
 
 module _ (b : List ℕ) (rows p n : ℕ) (os₀ : List ℕ) (ds₀ : List ℤ) {os : List ℕ} {ds : List ℤ} (e : os ≡ sets os₀ 0 (column 8 (2 * rows + 1) b (p + 4)))
     (f : ds ≡ sets ds₀ 0 (map signedOf (column 8 n b (p + 4 + (2 * rows + 1) * 8)))) (u : length os₀ ≡ 2049) (v : length ds₀ ≡ 4096) where

@@ -1,23 +1,24 @@
 -- `run_sets::build_rows` meets its contract: each column is lent up to its count.
 use Prim.Native.Nat.{_+_, _-_}
 use native.Mathlib.Omega.{arith}
+use Rattle.lists.proofs.Slices.{prefix-short, prefix-count}
 use Rattle.run_state.proofs.ColumnTurns.{table-count, form-cut}
-use Rattle.run_sets.proofs.LentColumns.{prefix-count, front-count, prefix-few, records-few, part-few, rows-lent}
+use Rattle.run_sets.proofs.LentColumns.{whole-count, records-few, part-few, rows-lent}
 use borrow.Author.Needs.{needs}
 use Rattle.run_sets.proofs.build_rows.Statement.{statement}
 use Rattle.run_sets.proofs.build_rows.Tie as tie
 
 slice-aggregate-build-part : tie.Need-slice-aggregate-build-part
-slice-aggregate-build-part c = search prefix-count
+slice-aggregate-build-part c = search whole-count
 
 slice-aggregate-build-part-2 : tie.Need-slice-aggregate-build-part-2
 slice-aggregate-build-part-2 c = search table-count
 
 slice-aggregate-build-part-3 : tie.Need-slice-aggregate-build-part-3
-slice-aggregate-build-part-3 c = search prefix-count
+slice-aggregate-build-part-3 c = search whole-count
 
 slice-aggregate-build-part-4 : tie.Need-slice-aggregate-build-part-4
-slice-aggregate-build-part-4 c = search front-count
+slice-aggregate-build-part-4 c = search prefix-count
 
 build-part-requires : tie.Need-build-part-requires
 build-part-requires c κs =
@@ -28,12 +29,12 @@ build-part-requires c κs =
     let records = s .pre .1 .1 .0 in (
       s .pre .0 .1,
       (
-        (prefix-few _ 4096 _ (s .pre .1 .0 .0), (form-cut _ _ _ _ (s .pre .1 .0 .0) (columns .targets-long) (s .pre .1 .0 .1 .0), s .pre .1 .0 .1 .1)),
+        (prefix-short _ 4096 _ (s .pre .1 .0 .0), (form-cut _ _ _ _ (s .pre .1 .0 .0) (columns .targets-long) (s .pre .1 .0 .1 .0), s .pre .1 .0 .1 .1)),
         (
           record {
             children-few = records-few (x .p) (x .m) (x .children .now) (records .few);
             kinds-few = records-few (x .p) (x .m) (x .kinds .now) (records .few);
-            flags-few = prefix-few (x .m) 1024 (x .flags .now) (records .few);
+            flags-few = prefix-short (x .m) 1024 (x .flags .now) (records .few);
             chains-few = part-few (x .a) (x .a + x .n - x .a) (x .chains .now) (columns .chains-long);
             seqs-few = part-few (x .a) (x .a + x .n - x .a) (x .seqs .now) (columns .seqs-long);
           },

@@ -1,28 +1,26 @@
 -- What is lent of some rows is their graph, and it keeps building's limits.
 use mathlib.Core.Path.{_≡_, refl, sym, _∙_, ap, ap₂}
-use mathlib.Core.Bool.{Bool, true, false, false≢true}
+use mathlib.Core.Bool.{Bool, true, false}
 use mathlib.Core.Logic.{inl, inr}
-use mathlib.Core.List.{List, [], _∷_, _++_, map}
+use mathlib.Core.List.{List, [], _++_, map}
 use Prim.Native.Nat.{ℕ, zero, suc, _+_, _-_, _*_, _≤_, _<_}
 use native.Mathlib.Omega.{arith}
-use lib.Dec.{leb, ltb, eqb}
+use lib.Dec.{ltb}
 use lib.IntN.{ℤ}
-use lib.ListN.{length, getD, take, drop, length-map, drop-of-length-le, length-take, length-drop}
-use lib.Seq.{slice, sets, sets-eq, length-sets, take-at, length-slice}
-use borrow.Author.Tests.{leb-true, eqb-true, le-ltb}
+use lib.ListN.{length, getD, take, drop, length-map, length-take, length-drop}
+use lib.Seq.{sets, sets-eq, length-sets, take-at}
+use borrow.Author.Tests.{le-ltb}
 use Rattle.lists.specs.Lists.{flat, joined, starts, part, upFrom, any}
-use Rattle.lists.specs.Order.{climbsTo}
-use Rattle.lists.proofs.Tests.{tested, both}
+use Rattle.lists.proofs.Tests.{tested}
 use Rattle.lists.proofs.Flat.{length-starts}
-use Rattle.lists.proofs.Slices.{slice-rest}
 use Rattle.columns.specs.Limits.{maxNumbers}
 use Rattle.columns.specs.Refusal.{unless, firstOf, short, limits}
 use Rattle.columns.specs.Reading.{labelLengths}
 use Rattle.columns.specs.Building.{greater, recordCount, buildRules, builtOf, graphLengths, graphRecords, build}
-use Rattle.columns.specs.EdgeSet.{fromTo, offsetsForm, cutFrom, cut}
-use Rattle.columns.proofs.Offsets.{low-high, form-climbs}
+use Rattle.columns.specs.EdgeSet.{offsetsForm, cut}
+use Rattle.columns.proofs.Offsets.{form-climbs, joined-cut, starts-cut}
 use Rattle.columns_rules.proofs.SlotTables.{table-of, length-cut}
-use Rattle.columns_rules.proofs.Told.{last-rule}
+use Rattle.columns.proofs.Told.{last-rule}
 use Rattle.columns_rules.specs.records.Recorded.{depthOf, labelsGiven}
 use Rattle.columns.specs.declared.depth.Depth as given
 use Rattle.columns_encode.specs.Encoded.{Rooms}
@@ -34,32 +32,9 @@ use Rattle.cleaning.proofs.Parts.{length-part}
 use Rattle.run_group.specs.sections.Laid.{edgesOfRow, Laid}
 use Rattle.run_sets.specs.section.Parted.{partGraph, Few, judged}
 
-module _ (column : List ℕ) where
-  joined-from : (a : ℕ) (bs : List ℕ) → climbsTo (length column) a bs ≡ true → joined (cutFrom a bs column) ≡ drop a column
-  unfolding climbsTo cutFrom joined
-  joined-from a [] e = let z : a ≡ length column = eqb-true a (length column) e in sym (drop-of-length-le column {i = a} (omega arith))
-  joined-from a (b ∷ bs) e =
-      let p = both (leb a b) (climbsTo (length column) b bs) e in
-      rw (joined-from b bs (p .1)) (slice-rest a b column (leb-true a b (p .0)) (low-high (length column) b bs (p .1)))
-
-  starts-from : (a : ℕ) (bs : List ℕ) → climbsTo (length column) a bs ≡ true → starts a (cutFrom a bs column) ≡ a ∷ bs
-  unfolding climbsTo cutFrom starts
-  starts-from a [] e = refl
-  starts-from a (b ∷ bs) e =
-      let p = both (leb a b) (climbsTo (length column) b bs) e in
-      let l : a + length (slice a b column) ≡ b = rw (length-slice a b column (low-high (length column) b bs (p .1))) (omega (arith, leb-true a b (p .0))) in
-      rw (l, starts-from b bs (p .1))
-
-  -- a table in form: its lists hold the whole column and start where its offsets say
-  whole : (offs : List ℕ) → fromTo 0 (length column) offs ≡ true → (joined (cut offs column) ≡ column) × (starts 0 (cut offs column) ≡ offs)
-  unfolding fromTo cut
-  whole [] e = absurd (false≢true e)
-  whole (zero ∷ bs) e = let p = both (eqb 0 0) (climbsTo (length column) 0 bs) e in (joined-from 0 bs (p .1), starts-from 0 bs (p .1))
-  whole (suc a ∷ bs) e = let z : suc a ≡ 0 = eqb-true (suc a) 0 (both (eqb (suc a) 0) (climbsTo (length column) (suc a) bs) e .0) in absurd (omega arith)
-
 module _ (total a n : ℕ) (offsets targets : List ℕ) (ok : offsetsForm total (length targets) offsets ≡ true) (h : a + n ≤ total) where
   all-lists : (joined (cut offsets targets) ≡ targets) × (starts 0 (cut offsets targets) ≡ offsets)
-  all-lists = whole targets offsets (form-climbs total (length targets) offsets ok)
+  all-lists = let e = form-climbs total (length targets) offsets ok in (joined-cut targets offsets e, starts-cut targets offsets e)
 
   within : 2 * a + 2 * n ≤ length (cut offsets targets)
   within = omega (arith, length-cut (2 * total) 0 offsets targets (table-of total (length targets) offsets ok .long))

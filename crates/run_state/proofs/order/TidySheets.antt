@@ -16,6 +16,7 @@ use Rattle.lists.proofs.Each.{each-map, each-imp}
 use Rattle.lists.proofs.Filters.{map-places}
 use Rattle.lists.proofs.From.{EachFrom}
 use Rattle.lists.proofs.Flat.{length-map-upFrom, getD-map-upFrom}
+use Rattle.lists.proofs.Slices.{slice-none}
 use Rattle.columns.specs.Limits.{kinds, maxNumbers}
 use Rattle.columns.specs.EdgeSet.{offsetsForm, eventOf}
 use Rattle.columns.specs.Building.{inFile}
@@ -25,7 +26,6 @@ use Rattle.cleaning.proofs.Sides.{SlotBelow}
 use Rattle.cleaning.proofs.Neat.{Neat}
 use Rattle.cleaning.specs.Held.{noFacts}
 use Rattle.columns_rules.proofs.SlotTables.{table-of, length-cut}
-use Rattle.columns_rules.proofs.ParentTurns.{slice-none}
 use Rattle.run_state.specs.declared.Groups.{Groups}
 use Rattle.run_state.specs.declared.Rows.{Rows}
 use Rattle.run_state.specs.declared.Edges.{Edges}

@@ -12,9 +12,9 @@ use borrow.Author.Tests.{leb-true, le-leb, lt-leb, lt-ltb, le-ltb, eq-eqb, ne-eq
 use Rattle.lists.specs.Lists.{all}
 use Rattle.lists.specs.Order.{rising, risesAbove, levelAbove, notFalling}
 use Rattle.lists.proofs.Tests.{both}
+use Rattle.lists.proofs.Slices.{slice-none}
 use Rattle.columns.specs.Limits.{maxRecords, maxGroups, maxSubject}
 use Rattle.cleaning.specs.Sections.{reaches}
-use Rattle.columns_rules.proofs.ParentTurns.{slice-none}
 use Rattle.run_state.specs.declared.Sheet.{Sheet}
 use Rattle.run_state.specs.Valid.{below, countsOk}
 use Rattle.run_state.proofs.ColumnTurns.{not-below, below-on}

@@ -6,16 +6,12 @@ use native.Mathlib.Omega.{arith}
 use lib.ListN.{length, getD, length-map}
 use Rattle.cover.specs.Chains.{Link}
 use Rattle.cover.specs.Cover.{linksOf, sums}
+use Rattle.cover.proofs.Stored.{length-sums}
 use Rattle.cleaning.specs.Sheet.{GroupLink}
 use Rattle.run_state.specs.declared.Links.{Links}
 use Rattle.run_state.specs.View.{listed, linkAt}
 use Rattle.run_store.specs.parts.Grown.{linksWith}
 use Rattle.run_store.proofs.joined.Grows.{sets-before, sets-at, getD-map-in, listed-grown, column-at}
-
-pub length-sums : (b : ℕ) (ds : List ℕ) → length (sums b ds) ≡ length ds
-unfolding sums
-length-sums b [] = refl
-length-sums b (d ∷ ds) = ap suc (length-sums (b + d) ds)
 
 abbrev noLink : Link
 noLink = record { fromChain = 0; fromSeq = 0; toChain = 0; toSeq = 0 }

@@ -1,75 +1,28 @@
 -- The lists of a set of a file after those that are held: the two tables joined cut out both.
 use mathlib.Core.Path.{_≡_, refl, sym, _∙_, ap}
-use mathlib.Core.Bool.{true, false, false≢true}
+use mathlib.Core.Bool.{true}
 use mathlib.Core.List.{List, [], _∷_, _++_, map}
-use Prim.Native.Nat.{ℕ, zero, suc, _≤_, _+_, _-_, _*_}
+use Prim.Native.Nat.{ℕ, suc, _≤_, _+_, _-_, _*_}
 use native.Mathlib.Nat.{add-zero, add-assoc, zero-add}
 use native.Mathlib.Omega.{arith}
-use lib.Dec.{leb, eqb}
+use lib.Dec.{leb}
 use lib.IntN.{ℤ}
-use lib.ListN.{length, take, drop, length-append, length-map, length-drop, drop-of-length-le}
-use lib.Seq.{slice, length-slice, length-take-le}
-use borrow.Author.Tests.{leb-true, le-leb, eqb-true}
+use lib.ListN.{length, take, drop, length-append, length-map, length-drop}
+use lib.Seq.{length-take-le}
+use borrow.Author.Tests.{le-leb}
 use Rattle.lists.specs.Lists.{joined, starts}
-use Rattle.lists.specs.Order.{climbsTo}
 use Rattle.lists.proofs.Tests.{both}
 use Rattle.lists.proofs.Flat.{joined-append, length-starts}
 use Rattle.columns.specs.Limits.{kinds, maxNumbers}
-use Rattle.columns.specs.EdgeSet.{EdgeSet, fromTo, offsetsForm, cutFrom, cut, eventOf, targetOf}
+use Rattle.columns.specs.EdgeSet.{EdgeSet, fromTo, offsetsForm, cut, eventOf, targetOf}
 use Rattle.columns.specs.Reading.{targetsFrom, slotsOf}
-use Rattle.columns.proofs.Offsets.{low-high, form-climbs, form-length}
+use Rattle.columns.proofs.Offsets.{form-climbs, form-length, joined-cut, starts-cut}
 use Rattle.columns.proofs.ReadBack.{cut-joined, starts-form}
 use Rattle.run_state.specs.declared.Edges.{Edges}
 use Rattle.run_state.specs.View.{slotsIn}
 use Rattle.run_state.specs.Valid.{edgesOk}
 use Rattle.run_store.specs.parts.Grown.{edgesWith}
 use Rattle.run_store.proofs.joined.Grows.{sets-take}
-
--- ── a table in form, as the starts of its lists ──────────────────────────────────────────────
-
-module _ {A : Type 0} (column : List A) where
-  starts-cutFrom : (a : ℕ) (bs : List ℕ) → climbsTo (length column) a bs ≡ true → starts a (cutFrom a bs column) ≡ a ∷ bs
-  unfolding climbsTo cutFrom starts
-  starts-cutFrom a [] e = refl
-  starts-cutFrom a (b ∷ bs) e =
-      let p = both (leb a b) (climbsTo (length column) b bs) e in
-      let k : b ≤ length column = low-high (length column) b bs (p .1) in
-      let z : a + length (slice a b column) ≡ b = omega (arith, length-slice a b column k, leb-true a b (p .0)) in
-      ap (λ r. a ∷ r) (ap (λ i. starts i (cutFrom b bs column)) z ∙ starts-cutFrom b bs (p .1))
-
-  pub starts-cut : (os : List ℕ) → fromTo 0 (length column) os ≡ true → os ≡ starts 0 (cut os column)
-  unfolding fromTo cut
-  starts-cut [] e = absurd (false≢true e)
-  starts-cut (a ∷ bs) e =
-      let p = both (eqb a 0) (climbsTo (length column) a bs) e in
-      let z : a ≡ 0 = eqb-true a 0 (p .0) in
-      sym (starts-cutFrom a bs (p .1)) ∙ ap (λ i. starts i (cutFrom a bs column)) z
-
-  slice-rest : (a b : ℕ) → a ≤ b → slice a b column ++ drop b column ≡ drop a column
-  slice-rest a b h = go column a b h
-    where
-      go : (l : List A) (a b : ℕ) → a ≤ b → slice a b l ++ drop b l ≡ drop a l
-      go l zero zero h = refl
-      go [] zero (suc b) h = refl
-      go [] (suc a) zero h = refl
-      go [] (suc a) (suc b) h = refl
-      go (x ∷ l) zero (suc b) h = ap (λ r. x ∷ r) (go l zero b (omega arith))
-      go (x ∷ l) (suc a) zero h = absurd (omega arith)
-      go (x ∷ l) (suc a) (suc b) h = go l a b (omega arith)
-
-  joined-cutFrom : (a : ℕ) (bs : List ℕ) → climbsTo (length column) a bs ≡ true → joined (cutFrom a bs column) ≡ drop a column
-  unfolding climbsTo cutFrom joined
-  joined-cutFrom a [] e = sym (drop-of-length-le column {i = a} (omega (arith, eqb-true a (length column) e)))
-  joined-cutFrom a (b ∷ bs) e =
-      let p = both (leb a b) (climbsTo (length column) b bs) e in
-      ap (λ r. slice a b column ++ r) (joined-cutFrom b bs (p .1)) ∙ slice-rest a b (leb-true a b (p .0))
-
-  pub joined-cut : (os : List ℕ) → fromTo 0 (length column) os ≡ true → joined (cut os column) ≡ column
-  unfolding fromTo cut
-  joined-cut [] e = absurd (false≢true e)
-  joined-cut (a ∷ bs) e =
-      let p = both (eqb a 0) (climbsTo (length column) a bs) e in
-      joined-cutFrom a bs (p .1) ∙ ap (λ i. drop i column) (eqb-true a 0 (p .0))
 
 -- targets are as many as deltas, list by list
 starts-targets : (first slot a : ℕ) (ls : List (List ℤ)) → starts a (targetsFrom first slot ls) ≡ starts a ls
@@ -145,7 +98,7 @@ module _ (n rows first : ℕ) (e : Edges) (s : EdgeSet) (form : edgesOk n e ≡ 
 
   ps-starts : s .offsets ≡ starts 0 ls
   unfolding slotsOf
-  ps-starts = starts-cut (s .deltas) (s .offsets) ps-climb ∙ sym (starts-targets first 0 0 (cut (s .offsets) (s .deltas)))
+  ps-starts = sym (starts-cut (s .deltas) (s .offsets) ps-climb) ∙ sym (starts-targets first 0 0 (cut (s .offsets) (s .deltas)))
 
   pub targets-counted : length (joined (slotsOf first s)) ≡ s .count
   unfolding slotsOf
@@ -159,7 +112,7 @@ module _ (n rows first : ℕ) (e : Edges) (s : EdgeSet) (form : edgesOk n e ≡ 
       let a : map (λ o. e .count + o) (drop 1 (s .offsets)) ≡ drop 1 (starts (0 + length (joined ks)) ls) =
       drop-moved (e .count) (s .offsets) ∙ ap (λ r. drop 1 (map (λ o. e .count + o) r)) ps-starts ∙ ap (drop 1) (starts-moved (e .count) 0 ls)
       ∙ ap (λ i. drop 1 (starts i ls)) (add-zero (e .count) ∙ sym length-ks ∙ sym (zero-add (length (joined ks)))) in
-      ap (λ r. os ++ r) a ∙ ap (λ r. r ++ drop 1 (starts (0 + length (joined ks)) ls)) (starts-cut xs os os-climb) ∙ starts-append 0 ks ls
+      ap (λ r. os ++ r) a ∙ ap (λ r. r ++ drop 1 (starts (0 + length (joined ks)) ls)) (sym (starts-cut xs os os-climb)) ∙ starts-append 0 ks ls
 
   new-offsets : take (kinds * (n + rows) + 1) (edgesWith e n first s .offsets) ≡ starts 0 (ks ++ ls)
   unfolding edgesWith
@@ -180,7 +133,7 @@ module _ (n rows first : ℕ) (e : Edges) (s : EdgeSet) (form : edgesOk n e ≡ 
 
   length-slots : length (ks ++ ls) ≡ kinds * (n + rows)
   length-slots =
-      omega (arith, length-append ks ls, length-starts 0 ks, length-starts 0 ls, ap length ps-starts, ap length (starts-cut xs os os-climb), form-length rows (s .count) (s .offsets) more, form-length n (e .count) os os-form)
+      omega (arith, length-append ks ls, length-starts 0 ks, length-starts 0 ls, ap length ps-starts, ap length (sym (starts-cut xs os os-climb)), form-length rows (s .count) (s .offsets) more, form-length n (e .count) os os-form)
 
   pub edges-grown : edgesOk (n + rows) (edgesWith e n first s) ≡ true
   unfolding edgesOk edgesWith

@@ -5,13 +5,14 @@ use mathlib.Core.List.{List, map}
 use Prim.Native.Nat.{ℕ, _≤_, _<_, _+_, _*_}
 use lib.IntN.{ℤ}
 use lib.ListN.{length, take, drop, length-map}
-use lib.Seq.{sets, sets-eq, take-at, length-take-le, length-sets}
+use lib.Seq.{sets, length-take-le, length-sets}
 use mir.Syntax.{w64}
 use mir.Val.{Fits}
 use native.Mathlib.Omega.{arith}
 use Rattle.columns.specs.Answers.{columnsOf}
 use Rattle.columns.specs.Readable.{Readable}
 use Rattle.lists.specs.Lists.{joined}
+use Rattle.lists.proofs.Slices.{take-sets}
 use Rattle.columns.specs.EdgeSet.{EdgeSet, fromTo}
 use Rattle.columns.specs.Reading.{slotsOf}
 use Rattle.columns.proofs.Offsets.{form-climbs}
@@ -52,16 +53,13 @@ module _ {s : Side} (c : EdgesAt) where
   pub place-inbound : s ≡ Inbound → record { at = c .inbound; count = c .inbounds } ≡ placeOf s c
   place-inbound e = rw e
 
-front : {A : Type 0} (z col : List A) (m : ℕ) → length col ≡ m → m ≤ length z → take m (sets z 0 col) ≡ col
-front z col m e h = rw (sets-eq col z 0 (omega arith)) (take-at col _ m e)
-
 module _ (rows k : ℕ) (l : List ℕ) (at : ℕ) (z : List ℕ) (y : List ℤ) {o : List ℕ} {d : List ℤ} (e : o ≡ sets z 0 (column 8 (2 * rows + 1) l (at + 4)))
     (f : d ≡ sets y 0 (map signedOf (column 8 k l (at + 4 + (2 * rows + 1) * 8)))) where
   pub set-loaded : rows ≤ 1024 → k ≤ 4096 → length z ≡ 2049 → length y ≡ 4096 → columnsOf k (take (2 * rows + 1) o) (take k d) ≡ setAt l rows at k
   set-loaded g h u v =
-      let a = front z (column 8 (2 * rows + 1) l (at + 4)) (2 * rows + 1) (length-several 8 (λ l. be 8 l 0) (2 * rows + 1) (drop (at + 4) l)) (omega arith) in
+      let a = take-sets z (column 8 (2 * rows + 1) l (at + 4)) (2 * rows + 1) (length-several 8 (λ l. be 8 l 0) (2 * rows + 1) (drop (at + 4) l)) (omega arith) in
       let c = column 8 k l (at + 4 + (2 * rows + 1) * 8) in
-      let b = front y (map signedOf c) k (length-map c signedOf ∙ length-several 8 (λ l. be 8 l 0) k (drop (at + 4 + (2 * rows + 1) * 8) l)) (omega arith) in
+      let b = take-sets y (map signedOf c) k (length-map c signedOf ∙ length-several 8 (λ l. be 8 l 0) k (drop (at + 4 + (2 * rows + 1) * 8) l)) (omega arith) in
       rw (e, f, a, b)
 
   pub table-long : length z ≡ 2049 → length o ≡ 2049

@@ -1,6 +1,6 @@
 -- What is left for the files of an archive: at the start, and after a file is stored.
-use mathlib.Core.Path.{_≡_, refl, sym, ap, subst, _∙_}
-use mathlib.Core.Bool.{Bool, true, false, cond}
+use mathlib.Core.Path.{_≡_, sym, ap, subst, _∙_}
+use mathlib.Core.Bool.{Bool, true, false}
 use mathlib.Core.List.{List, [], _∷_, _++_, map, foldl}
 use mathlib.Core.Logic.{_⊎_, inl, inr}
 use mathlib.Core.Option.{none, some}
@@ -12,7 +12,7 @@ use borrow.Author.Tests.{ltb-false, eq-eqb, ne-eqb}
 use Rattle.lists.specs.Lists.{sum, once, add, isEmpty, upFrom, Each}
 use Rattle.lists.proofs.Once.{or-is-false}
 use Rattle.columns.specs.Limits.{maxRecords, maxNumbers, maxGroups}
-use Rattle.columns.specs.Refusal.{refuse, firstOf}
+use Rattle.columns.specs.Refusal.{refuse}
 use Rattle.columns.specs.declared.refusal.Refusal.the-variants.{OverRecords, OverNumbers}
 use Rattle.columns.proofs.FirstBroken.{each-none, not-refused}
 use Rattle.archive.specs.File.{File}
@@ -20,7 +20,7 @@ use Rattle.archive.specs.Fits.{FileFits}
 use Rattle.archive_read.specs.Sums.{totals}
 use Rattle.archive_read.specs.Layout.{fileIn, HoldsFile, Uncovers}
 use Rattle.archive_read.specs.declared.records.FileAt.{FileAt}
-use Rattle.cleaning.specs.Source.{SourceCover, Source, sourceOf, endOf, isThere}
+use Rattle.cleaning.specs.Source.{Source, sourceOf, isThere}
 use Rattle.cleaning.specs.Sheet.{rowCount}
 use Rattle.cleaning.specs.Taking.{fileRules, filesRules}
 use Rattle.cleaning.specs.Held.{heldWith, lookBack, ending, noFacts, holdRules, recordsOver, numbersOver}

@@ -10,7 +10,7 @@ use lib.Seq.{sets, drop-cons}
 use mir.Syntax.{w64}
 use mir.Val.{SFits, toZ, ofZ}
 use mir.ValLaws.{toZ-ofZ}
-use Rattle.archive_bytes.proofs.Several.{sets-append}
+use Rattle.lists.proofs.Slices.{sets-append}
 use Rattle.cleaning.specs.Listing.{signed}
 use Rattle.run_text.specs.numbers.Wrote.{Wrote}
 use Rattle.run_text.specs.lines.Parts.{spaced}

@@ -1,6 +1,6 @@
 -- `columns_encode::late::table_rules` meets its contract.
+use Rattle.lists.proofs.Slices.{prefix-count}
 use Rattle.columns_encode.proofs.Later.{given-twice, then-spans}
-use Rattle.columns_sets.proofs.sets.WholeSets.{prefix-count}
 use borrow.Author.Needs.{needs}
 use Rattle.columns_encode.proofs.late.table_rules.Statement.{statement}
 use Rattle.columns_encode.proofs.late.table_rules.Tie as tie

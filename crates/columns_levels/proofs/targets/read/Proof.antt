@@ -1,11 +1,12 @@
 -- `columns_levels::targets::read` meets its contract.
-use Rattle.columns_levels.proofs.targets.Verdicts.{read-count, read-written, part-count}
+use Rattle.lists.proofs.Slices.{prefix-count}
+use Rattle.columns_levels.proofs.targets.Verdicts.{read-count, read-written}
 use borrow.Author.Needs.{needs}
 use Rattle.columns_levels.proofs.targets.read.Statement.{statement}
 use Rattle.columns_levels.proofs.targets.read.Tie as tie
 
 slice-aggregate-decode-csr : tie.Need-slice-aggregate-decode-csr
-slice-aggregate-decode-csr c = search (needs, part-count)
+slice-aggregate-decode-csr c = search (needs, prefix-count)
 
 returns : tie.Need-returns
 returns c = (search read-count, search read-written)

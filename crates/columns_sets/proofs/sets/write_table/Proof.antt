@@ -1,5 +1,5 @@
 -- `columns_sets::sets::write_table` meets its contract.
-use Rattle.columns_sets.proofs.sets.WholeSets.{prefix-count, prefix-short}
+use Rattle.lists.proofs.Slices.{prefix-count, prefix-short}
 use borrow.Author.Needs.{needs}
 use Rattle.columns_sets.proofs.sets.write_table.Statement.{statement}
 use Rattle.columns_sets.proofs.sets.write_table.Tie as tie

@@ -1,6 +1,6 @@
 -- `run_sets::section::build_columns` meets its contract.
-use Rattle.columns_sets.proofs.sets.WholeSets.{prefix-count}
 use borrow.Author.Needs.{needs}
+use Rattle.lists.proofs.Slices.{prefix-count}
 use Rattle.run_sets.proofs.section.build_columns.Statement.{statement}
 use Rattle.run_sets.proofs.section.build_columns.Tie as tie
 

@@ -4,10 +4,9 @@ use borrow.Author.Needs.{needs}
 use Rattle.run_state.proofs.tests.table_ok.Statement.{statement}
 use Rattle.run_state.proofs.tests.table_ok.Tie as tie
 
-slice-aggregate-entries-form : tie.Need-slice-aggregate-entries-form
-slice-aggregate-entries-form c = search table-count
+slice-aggregate-is-form : tie.Need-slice-aggregate-is-form
+slice-aggregate-is-form c = search table-count
 
 pub table-ok-spec : {M : Type 1} → statement M
 table-ok-spec =
-    tie.close
-    (tie.spec (λ c. search needs) (λ c. search needs) slice-aggregate-entries-form (λ c κs. search needs) (λ c. search needs))
+    tie.close (tie.spec (λ c. search needs) (λ c. search needs) slice-aggregate-is-form (λ c κs. search needs) (λ c. search needs))

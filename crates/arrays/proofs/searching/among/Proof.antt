@@ -1,12 +1,12 @@
--- `columns_rules::slots::among` meets its contract.
+-- `arrays::searching::among` meets its contract.
 use mathlib.Core.Path.{_≡_}
 use Prim.Native.Nat.{_-_}
 use lib.Seq.{slice}
 use Rattle.lists.specs.Lists.{mem}
-use Rattle.columns_rules.proofs.ParentTurns.{not-among, found-among, among-on}
+use Rattle.arrays.proofs.searching.Looking.{not-among, found-among, among-on}
 use borrow.Author.Needs.{needs}
-use Rattle.columns_rules.proofs.slots.among.Statement.{statement}
-use Rattle.columns_rules.proofs.slots.among.Tie as tie
+use Rattle.arrays.proofs.searching.among.Statement.{statement}
+use Rattle.arrays.proofs.searching.among.Tie as tie
 
 abbrev Inv-loop : tie.InvT-loop
 Inv-loop list from to x i₀ i =

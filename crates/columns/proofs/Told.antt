@@ -1,18 +1,14 @@
 -- What a ruling tells, and one rule after another.
-use Prim.Native.Nat.{ℕ, _-_}
-use Rattle.columns.specs.Refusal.{firstOf}
-use Rattle.columns.specs.declared.refusal.Refusal.{Refusal}
-use Rattle.lists.proofs.Tests.{tested}
-use Rattle.columns.specs.Answers.{ruling}
-use Rattle.columns.specs.declared.refusal.Ruling.the-variants.{Kept, Broken}
-use Rattle.columns.specs.declared.refusal.Ruling.{Ruling}
-use borrow.Author.Tests.{eq-eqb, ne-eqb, eqb-true, eqb-false}
-use lib.Dec.{eqb}
+use mathlib.Core.Path.{_≡_, refl, ap}
 use mathlib.Core.List.{[], _∷_}
-use mathlib.Core.Logic.{inl, inr}
 use mathlib.Core.Option.{Option, none, some}
-use mathlib.Core.Path.{_≡_, refl, sym, ap}
+use Prim.Native.Nat.{ℕ}
 use native.Mathlib.Omega.{arith}
+use Rattle.columns.specs.Refusal.{firstOf}
+use Rattle.columns.specs.Answers.{ruling}
+use Rattle.columns.specs.declared.refusal.Refusal.{Refusal}
+use Rattle.columns.specs.declared.refusal.Ruling.{Ruling}
+use Rattle.columns.specs.declared.refusal.Ruling.the-variants.{Kept, Broken}
 
 -- a ruling tells the broken rule
 pub told : (o : Option Refusal) → {r : Ruling} → r ≡ ruling o → {x : Refusal} → r ≡ Broken x → o ≡ some x
@@ -22,12 +18,6 @@ told (some y) e {x} f = let z : y ≡ x = cc in ap some z
 pub told-kept : (o : Option Refusal) → {r : Ruling} → r ≡ ruling o → r ≡ Kept → o ≡ none
 told-kept none e f = refl
 told-kept (some y) e f = absurd (let z : _≡_ {A = ℕ} 0 1 = cc in omega arith)
-
-pub eqb-swap : (a b : ℕ) → eqb a b ≡ eqb b a
-eqb-swap a b = elim (tested (eqb a b)) [
-  | inl e ↦ rw (e, eq-eqb b a (sym (eqb-true a b e)))
-  | inr e ↦ rw (e, ne-eqb b a (λ d. eqb-false a b e (sym d)))
-]
 
 pub last-rule : (o : Option Refusal) → firstOf (o ∷ []) ≡ o
 unfolding firstOf
