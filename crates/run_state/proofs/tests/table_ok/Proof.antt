@@ -9,4 +9,5 @@ slice-aggregate-is-form c = search table-count
 
 pub table-ok-spec : {M : Type 1} → statement M
 table-ok-spec =
-    tie.close (tie.spec (λ c. search needs) (λ c. search needs) slice-aggregate-is-form (λ c κs. search needs) (λ c. search needs))
+    tie.close
+    (tie.spec (λ c. search needs) (λ c. search needs) slice-aggregate-is-form (λ c κs. search needs) (λ c. search needs))
