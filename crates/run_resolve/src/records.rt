@@ -10,8 +10,8 @@ ghost use Rattle.columns.specs.Building.{inFile};
 ghost use Rattle.cleaning.specs.Survivors.{keepUnresolved, keepRoots};
 ghost use Rattle.run_state.specs.View.{listed, unresolvedAt, rootAt};
 ghost use Rattle.run_state.specs.Valid.{below};
+ghost use Rattle.run_state.specs.ByColumns.{unresolvedOf, rootsOf};
 ghost use Rattle.run_compact.specs.Columns.{gone};
-ghost use Rattle.run_resolve.specs.sheet.Kept.{unresolvedOf, rootsOf};
 
 // The unresolved records of rows that survive, their children under new numbers, in place; answers how many they are.
 pub fn renew_unresolved(

@@ -22,7 +22,8 @@ use Rattle.run_state.specs.declared.Roots.{Roots}
 use Rattle.run_state.specs.View.{listed, unresolvedAt, rootAt}
 use Rattle.run_state.specs.Valid.{below}
 use Rattle.run_compact.specs.Columns.{gone, survive, keptIn, flagsOf, newRows}
-use Rattle.run_resolve.specs.sheet.Kept.{unresolvedOf, rootsOf, UnresolvedKept, RootsKept}
+use Rattle.run_state.specs.ByColumns.{unresolvedOf, rootsOf}
+use Rattle.run_resolve.specs.sheet.Kept.{UnresolvedKept, RootsKept}
 use Rattle.run_resolve.proofs.sheet.KeptRecords.{unresolved-survive, roots-survive}
 use Rattle.run_resolve.proofs.sheet.MovedRecords.{children-moved, roots-moved}
 
