@@ -5,15 +5,16 @@ use Prim.Native.Nat.{ℕ, suc, _≤_, _<_, _+_, _-_}
 use native.Mathlib.Omega.{arith}
 use lib.ListN.{length, take, drop, set, length-take, take-append-drop}
 use lib.Seq.{slice, sets, sets-eq, length-take-le, length-slice, take-suc-set}
-use borrow.Author.Tests.{eq-eqb, lt-leb}
+use borrow.Author.Tests.{lt-leb}
 use Rattle.lists.specs.Lists.{mem, joined, sum}
 use Rattle.lists.proofs.Flat.{length-joined}
 use Rattle.lists.proofs.Slices.{take-none}
 use Rattle.lists.proofs.Once.{mem-later}
 use Rattle.columns.specs.Walk.{levels, levelsFrom}
 use Rattle.arrays.specs.table.Table.{Table, addCap}
-use Rattle.columns_levels.specs.frontier.Frontier.{hitsIn, copied, Seen}
+use Rattle.columns_levels.specs.frontier.Frontier.{copied, Seen}
 use Rattle.columns_levels.specs.rounds.Rounds.{endsFrom, Ran}
+use Rattle.columns_levels.proofs.rounds.Closed.{first-within}
 use Rattle.columns_walk.specs.declared.Handed.the-variants.{Levels}
 
 -- ── fill ─────────────────────────────────────────────────────────────────────────────────────
@@ -27,10 +28,6 @@ one-key start n c keys keys′ links heads t e k h =
     let z : length (take n keys′) ≡ 1 = ap length (only-key start n keys keys′ e (omega arith)) in
     omega (arith, length-take n keys′, z)
 
-one-hit : (start : ℕ) (l : List ℕ) → length (start ∷ []) ≤ hitsIn (start ∷ []) (start ∷ l)
-unfolding hitsIn mem
-one-hit start l = rw (eq-eqb start start refl) (omega arith)
-
 pub seen-first : (limit start n c d : ℕ) (targets buf keys keys′ : List ℕ) → take n keys′ ≡ addCap (length keys) (take 0 keys) start → take 1 buf ≡ start ∷ [] → length keys ≡ c → length keys′ ≡ d → d ≡ c → length targets < c
     → Seen limit n (take 1 buf) keys′ targets
 seen-first limit start n c d targets buf keys keys′ e f k j i h =
@@ -40,7 +37,7 @@ seen-first limit start n c d targets buf keys keys′ e f k j i h =
       fits = omega arith;
       every = λ x q. mem-later x start targets q;
       same = λ q x. ap (λ (l : List ℕ). mem x l) (o ∙ sym f);
-      within = λ q. rw o (one-hit start targets);
+      within = λ q. rw o (first-within start targets);
     }
 
 pub ran-levels : (p : ℕ → List ℕ) (limit start m k : ℕ) (buf ends₀ buf′ ends : List ℕ) → Ran (levelsFrom p limit limit (take 1 buf) (take 1 buf)) ends₀ buf′ ends m k → take 1 buf ≡ start ∷ []

@@ -1,5 +1,5 @@
 -- The verdict of reading, return by return.
-use mathlib.Core.Path.{_≡_, refl, sym, _∙_, ap}
+use mathlib.Core.Path.{_≡_, sym, _∙_}
 use mathlib.Core.Bool.{Bool, true, false, not}
 use mathlib.Core.List.{List, [], _∷_, _++_}
 use mathlib.Core.Option.{none}
@@ -10,12 +10,11 @@ use lib.ListN.{length}
 use borrow.Author.Tests.{not-true, not-false}
 use Rattle.lists.specs.Lists.{any}
 use Rattle.columns.specs.Limits.{maxRecords}
-use Rattle.columns.specs.Refusal.{Verdict, refused, accepted, short, limits}
+use Rattle.columns.specs.Refusal.{refused, accepted, short, limits}
 use Rattle.columns.specs.declared.refusal.Refusal.the-variants.{OverRecords, SliceShort, CoverForm}
 use Rattle.columns.proofs.FirstBroken.{passes}
-use Rattle.cover.specs.Chains.{Link}
 use Rattle.cover.specs.Cover.{LinkColumns, Cover, linksOk, linkRules, storedLinks}
-use Rattle.cover.specs.Answers.{RangeColumns, rangeLengths, linkLengths, lentRanges, rangesFit, columnRules, forRecords, readLent, counted, linksOver, linksAfter, linkColumns}
+use Rattle.cover.specs.Answers.{RangeColumns, rangeLengths, linkLengths, lentRanges, rangesFit, columnRules, forRecords, readLent, counted, linksOver, linksAfter}
 use Rattle.cover.specs.declared.answer.Answer.the-variants.{Refused, Done}
 use Rattle.cover_rows.proofs.limits.Anyone.{any-nil, few-first, long-first}
 use Rattle.cover_rows.proofs.Fitting.{ok-count}
@@ -85,9 +84,6 @@ module _ (r : RangeColumns) (l : LinkColumns) (ns : List ℕ) where
 
           pub read-all-written : (x y : LinkColumns) → y ≡ linksOver (storedLinks l) x → not w ≡ false → y ≡ linksAfter (λ x. x .links) (readLent r l (forRecords ns)) x
           read-all-written x y q p = columns-written _ _ cover x y (read-all p) q
-
-pub links-ok : (l : LinkColumns) (w : Bool) → w ≡ linksOk l → not w ≡ false → linksOk l ≡ true
-links-ok l w o p = sym o ∙ not-false w p
 
 -- columns within the limits fit into the slices
 module _ (a b c s fs tc ts x y z v : ℕ) (t : Bool) (e : t ≡ any (ltb maxRecords) (a ∷ b ∷ c ∷ s ∷ fs ∷ tc ∷ ts ∷ [])) (h : t ≡ false) where

@@ -133,7 +133,7 @@ put-keys c l ys ps i h w =
 
 -- ── spread ───────────────────────────────────────────────────────────────────────────────────
 
-first-within : (a : ℕ) (l : List ℕ) → length (a ∷ []) ≤ hitsIn (a ∷ []) (a ∷ l)
+pub first-within : (a : ℕ) (l : List ℕ) → length (a ∷ []) ≤ hitsIn (a ∷ []) (a ∷ l)
 unfolding hitsIn mem
 first-within a l = rw (eq-eqb a a refl) (omega arith)
 

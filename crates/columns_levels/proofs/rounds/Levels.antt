@@ -13,6 +13,7 @@ use Rattle.columns.specs.Walk.{level, levelsFrom}
 use Rattle.arrays.specs.table.Table.{Table}
 use Rattle.columns_levels.specs.frontier.Frontier.{Laid}
 use Rattle.columns_levels.specs.rounds.Rounds.{endsFrom, Going, Ran}
+use Rattle.columns_levels.proofs.targets.Stored.{joined-cons}
 
 -- ── the definition's turns ───────────────────────────────────────────────────────────────────
 
@@ -34,10 +35,6 @@ levels-go : (p : ℕ → List ℕ) (f left : ℕ) (visited frontier found : List
     → levelsFrom p (suc f) left visited frontier ≡ found ∷ levelsFrom p f (left - length found) (visited ++ found) found
 unfolding levelsFrom
 levels-go p f left visited frontier found e h = rw (← e, some-empty found h)
-
-joined-cons : (l : List ℕ) (ls : List (List ℕ)) → joined (l ∷ ls) ≡ l ++ joined ls
-unfolding joined
-joined-cons l ls = refl
 
 joined-none : joined {A = ℕ} [] ≡ []
 unfolding joined

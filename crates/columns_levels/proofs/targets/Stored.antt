@@ -20,6 +20,10 @@ use Rattle.columns.specs.Reading.{targetsFrom, slotsOf, setRules}
 use Rattle.columns.proofs.Offsets.{low-high, form-climbs}
 use Rattle.columns.proofs.Checks.{kept-form, kept-climbs}
 
+pub joined-cons : (l : List ℕ) (ls : List (List ℕ)) → joined (l ∷ ls) ≡ l ++ joined ls
+unfolding joined
+joined-cons l ls = refl
+
 -- the part of a list from the end of its first part to the end of its second
 middle : (p q r l : List ℕ) (a b : ℕ) → l ≡ p ++ (q ++ r) → length p ≡ a → length q ≡ b - a → a ≤ b → slice a b l ≡ q
 middle p q r l a b e h k o =
@@ -37,10 +41,6 @@ module _ (first high : ℕ) (deltas : List ℤ) (fits : high ≤ length deltas) 
   targets-none : (s a : ℕ) → targetsFrom first s (cutFrom a [] deltas) ≡ []
   unfolding targetsFrom cutFrom
   targets-none s a = refl
-
-  joined-cons : (l : List ℕ) (ls : List (List ℕ)) → joined (l ∷ ls) ≡ l ++ joined ls
-  unfolding joined
-  joined-cons l ls = refl
 
   joined-none : joined {A = ℕ} [] ≡ []
   unfolding joined

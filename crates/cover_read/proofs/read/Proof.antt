@@ -1,7 +1,8 @@
-use Rattle.cover_read.proofs.Readings.{read-over-told, read-over-kept, read-short-told, read-short-kept, read-ranges-told, read-ranges-kept, read-links-told, read-links-kept, read-all-told, read-all-written, links-ok, few, rooms}
+use Rattle.cover_read.proofs.Readings.{read-over-told, read-over-kept, read-short-told, read-short-kept, read-ranges-told, read-ranges-kept, read-links-told, read-links-kept, read-all-told, read-all-written, few, rooms}
 use borrow.Author.Needs.{needs}
 use Rattle.cover_read.proofs.read.Statement.{statement}
 use Rattle.cover_read.proofs.read.Tie as tie
+use Rattle.cover_read.proofs.links.Answered.{links-ok}
 
 returns : tie.Need-returns
 returns c = (search read-over-told, search read-over-kept)
