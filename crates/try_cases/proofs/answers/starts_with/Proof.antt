@@ -1,9 +1,9 @@
--- `try_replay::answers::starts_with` meets its contract.
+-- `try_cases::answers::starts_with` meets its contract.
 use Prim.Native.Nat.{_≤_, _-_}
 use lib.ListN.{length}
 use borrow.Author.Needs.{needs}
-use Rattle.try_replay.proofs.answers.starts_with.Statement.{statement}
-use Rattle.try_replay.proofs.answers.starts_with.Tie as tie
+use Rattle.try_cases.proofs.answers.starts_with.Statement.{statement}
+use Rattle.try_cases.proofs.answers.starts_with.Tie as tie
 
 abbrev Inv-loop : tie.InvT-loop
 Inv-loop out numbers i₀ i = i ≤ length numbers

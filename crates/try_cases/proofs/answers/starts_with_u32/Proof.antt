@@ -1,9 +1,9 @@
--- `try_replay::answers::starts_with_u32` meets its contract.
+-- `try_cases::answers::starts_with_u32` meets its contract.
 use Prim.Native.Nat.{_≤_, _-_}
 use lib.ListN.{length}
 use borrow.Author.Needs.{needs}
-use Rattle.try_replay.proofs.answers.starts_with_u32.Statement.{statement}
-use Rattle.try_replay.proofs.answers.starts_with_u32.Tie as tie
+use Rattle.try_cases.proofs.answers.starts_with_u32.Statement.{statement}
+use Rattle.try_cases.proofs.answers.starts_with_u32.Tie as tie
 
 abbrev Inv-loop : tie.InvT-loop
 Inv-loop out numbers i₀ i = i ≤ length numbers
