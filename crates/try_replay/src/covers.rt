@@ -1,13 +1,13 @@
 // Building, storing, reading a cover, and its two questions.
-use crate::answers::is_list_u32;
-use crate::answers::is_refused;
-use crate::parts::after;
-use crate::parts::behind_all;
-use crate::parts::list_u32;
-use crate::parts::number;
 use cover::answer::Answer;
 use cover::answer::Window;
 use cover_build::Built;
+use try_cases::answers::is_list_u32;
+use try_cases::answers::is_refused;
+use try_cases::parts::after;
+use try_cases::parts::behind_all;
+use try_cases::parts::list_u32;
+use try_cases::parts::number;
 
 // Whether the four lists behind so many from a place on are the first n numbers of four columns.
 fn are_columns(

@@ -1,21 +1,19 @@
 // The original's kept answers, asked of the proved functions: a line for each question. A case is how many words of 64 bits follow, the
 // number of its question, the parts of its input, and the answer. Behind the last case are words 0, cases of no question.
-mod answers;
 mod builds;
 mod covers;
-mod granules;
-mod parts;
-mod tally;
-mod walks;
 
-use parts::after;
-use parts::behind;
-use parts::number;
-use parts::part;
-use parts::part_i64;
-use parts::part_u8;
-use parts::part_u32;
-use tally::Tally;
+use try_cases::granules;
+use try_cases::parts::after;
+use try_cases::parts::behind;
+use try_cases::parts::number;
+use try_cases::parts::part;
+use try_cases::parts::part_i64;
+use try_cases::parts::part_u8;
+use try_cases::parts::part_u32;
+use try_cases::tally;
+use try_cases::tally::Tally;
+use try_cases::walks;
 
 // Whether a case of a question agrees.
 fn agrees(question: u64, words: &[u64], signed: &[i64], shorts: &[u32], bytes: &[u8]) -> bool {

@@ -1,8 +1,8 @@
--- `try_replay::walks::are_levels` meets its contract.
+-- `try_cases::walks::are_levels` meets its contract.
 use Prim.Native.Nat.{_≤_, _-_}
 use borrow.Author.Needs.{needs}
-use Rattle.try_replay.proofs.walks.are_levels.Statement.{statement}
-use Rattle.try_replay.proofs.walks.are_levels.Tie as tie
+use Rattle.try_cases.proofs.walks.are_levels.Statement.{statement}
+use Rattle.try_cases.proofs.walks.are_levels.Tie as tie
 
 abbrev Inv-loop : tie.InvT-loop
 Inv-loop words at out ends levels total from₀ i₀ from i = i ≤ levels

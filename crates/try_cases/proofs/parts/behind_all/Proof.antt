@@ -1,8 +1,8 @@
--- `try_replay::parts::behind_all` meets its contract.
+-- `try_cases::parts::behind_all` meets its contract.
 use Prim.Native.Nat.{_≤_, _-_}
 use borrow.Author.Needs.{needs}
-use Rattle.try_replay.proofs.parts.behind_all.Statement.{statement}
-use Rattle.try_replay.proofs.parts.behind_all.Tie as tie
+use Rattle.try_cases.proofs.parts.behind_all.Statement.{statement}
+use Rattle.try_cases.proofs.parts.behind_all.Tie as tie
 
 abbrev Inv-loop : tie.InvT-loop
 Inv-loop words at lists p₀ i₀ p i = i ≤ lists
