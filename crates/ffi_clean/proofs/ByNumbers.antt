@@ -8,7 +8,7 @@ use native.Mathlib.Omega.{arith}
 use lib.Dec.{ltb}
 use borrow.Author.Tests.{lt-ltb, le-ltb}
 use lib.ListN.{length, getD, take, drop}
-use lib.Seq.{sets, sets-eq, length-take-le, take-append-seam, drop-append-seam}
+use lib.Seq.{sets-eq, length-take-le, take-append-seam, drop-append-seam}
 use Rattle.columns.specs.declared.refusal.Refusal.the-variants.{SliceShort}
 use Rattle.cleaning.specs.Step as step
 use Rattle.cleaning.specs.Listing.{listing}

@@ -7,7 +7,6 @@ use run::Count;
 use run::Number;
 use run::Reply;
 use run::Run;
-use run::Stepped;
 ghost use mathlib.Core.Path.{_≡_};
 ghost use Rattle.cleaning.specs.Step.{takes, resolves, maps, counts};
 ghost use Rattle.cleaning.specs.Runs.{freshRun, runStep};
