@@ -2,9 +2,8 @@
 // key of each bucket. Places are counted from 1, and 0 is none.
 use crate::index;
 ghost use mathlib.Core.Path.{_≡_};
-ghost use mathlib.Core.List.{[], _∷_};
 ghost use Prim.Native.Nat.{_+_, _-_, _≤_, _<_, _%_};
-ghost use lib.ListN.{length, take, set, getD, replicate};
+ghost use lib.ListN.{length, take, set};
 ghost use lib.Seq.{slice};
 ghost use Rattle.lists.specs.Lists.{mem};
 ghost use Rattle.arrays.specs.table.Table.{lastPlace, newest, Down, Table, addCap, Keys};
