@@ -17,7 +17,7 @@ fn events_of(bytes: &[u8]) -> usize {
     let x = sum_up(bytes);
     match x {
         Summed::Sums(t) => t.events,
-        Summed::Broken => 0,
+        Summed::Refused(_) => 0,
     }
 }
 
@@ -25,7 +25,7 @@ fn files_of(bytes: &[u8]) -> usize {
     let x = sum_up(bytes);
     match x {
         Summed::Sums(t) => t.files,
-        Summed::Broken => 0,
+        Summed::Refused(_) => 0,
     }
 }
 

@@ -113,8 +113,8 @@ fn main() {
     let mut signed = [0i64; 40960];
     let mut shorts = [0u32; 40960];
     let mut bytes = [0u8; 40960];
-    archive_bytes::number_columns::load_u64s(&input, 0, n, &mut words);
-    archive_bytes::number_columns::load_i64s(&input, 0, n, &mut signed);
+    archive_cursor::number_columns::load_u64s(&input, 0, n, &mut words);
+    archive_cursor::number_columns::load_i64s(&input, 0, n, &mut signed);
     narrow(&words, &mut shorts, &mut bytes);
     replay_all(&words, &signed, &shorts, &bytes);
 }
