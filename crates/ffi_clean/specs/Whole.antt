@@ -7,8 +7,6 @@ use lib.Dec.{ltb}
 use lib.ListN.{length, getD, take, drop}
 use Rattle.columns.specs.declared.refusal.Refusal.the-variants.{SliceShort}
 use Rattle.cleaning.specs.Step as step
-use Rattle.cleaning.specs.Listing.{listing}
-use Rattle.run_text.specs.files.Files.{listingRoom}
 use Rattle.messages.specs.words.Words.{table}
 use Rattle.run_state.specs.declared.Writing.{Writing}
 use Rattle.run_state.specs.declared.Writing.the-variants.{Length, Refused}
@@ -27,10 +25,6 @@ bytesOf step.done = []
 bytesOf (step.wrote w) = w
 bytesOf (step.told n) = []
 bytesOf (step.counted n) = []
-
--- the listing into so much room: 41 where there is less than a listing may take
-unfoldable pub listedFrom : List ℕ → ℕ → step.Answer
-listedFrom bytes room = cond (ltb room listingRoom) (step.refused SliceShort) (step.wrote (listing bytes))
 
 -- what a number means into so much room: 41 where there is less than the longest words take
 unfoldable pub wordsFrom : ℕ → ℕ → step.Answer

@@ -36,16 +36,16 @@ use Rattle.run_clean.specs.Cleans.{after, writtenFrom, resolvedFrom, cle
 use Rattle.run_clean.specs.Survived.{Alone, Gathered, Survived, untaken, taken}
 
 -- a call, then others
-abbrev Then : Call → RunState → (RunState → ℕ → Answer) → ℕ → Answer
+abbrev pub Then : Call → RunState → (RunState → ℕ → Answer) → ℕ → Answer
 Then c s more room = after ((runStep s c) .answer) (more ((runStep s c) .state) room)
 
 module _ (c : Call) (more : RunState → ℕ → Answer) (s : RunState) (was : List ℕ) where
   -- a refused call ends it
-  stops : (x : Refusal) → runStep s c ≡ runOutcome s (refused x) → Gives (Then c s more) was was (Refused x)
+  pub stops : (x : Refusal) → runStep s c ≡ runOutcome s (refused x) → Gives (Then c s more) was was (Refused x)
   stops x e = record { answers = ap (λ o. after (o .answer) (more (o .state) (length was))) (sym e); rest = refl; within = omega arith }
 
   -- an accepted one goes on
-  goes : {n : RunState} {is : List ℕ} {r : Writing} → runStep s c ≡ runOutcome n done → Gives (more n) was is r → Gives (Then c s more) was is r
+  pub goes : {n : RunState} {is : List ℕ} {r : Writing} → runStep s c ≡ runOutcome n done → Gives (more n) was is r → Gives (Then c s more) was is r
   goes e g = record { answers = g .answers ∙ ap (λ o. after (o .answer) (more (o .state) (length was))) (sym e); rest = g .rest; within = g .within }
 
 two-rulings : {A : Type 0} {r : Ruling} (x : Refusal) → r ≡ Broken x → r ≡ Kept → A

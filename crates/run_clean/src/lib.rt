@@ -1,6 +1,6 @@
 // A whole cleaning in one call: an archive taken alone by a fresh run, resolved and written. The columns of what is taken are filled and renewed in
 // place in one function, without the sets that no step reads, and no run is made.
-pub mod parts;
+mod parts;
 
 use columns::refusal::Refusal;
 use columns::refusal::Ruling;

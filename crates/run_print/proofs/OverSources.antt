@@ -1,6 +1,6 @@
 -- What is printed over what a run holds is the listing by its definition, where the room is that of any listing.
 use mathlib.Core.Path.{_≡_, refl, ap, ap₂, subst, _∙_}
-use mathlib.Core.Bool.{not}
+use mathlib.Core.Bool.{Bool, true, false, not, cond}
 use mathlib.Core.List.{List, [], _∷_, map}
 use mathlib.Core.Option.{Option, none, some}
 use Prim.Native.Nat.{ℕ, _≤_}
@@ -9,10 +9,10 @@ use lib.Dec.{ltb}
 use lib.ListN.{length}
 use borrow.Author.Tests.{le-ltb, ltb-false, not-false}
 use Rattle.lists.specs.Lists.{isEmpty, last, Each}
-use Rattle.columns.specs.Limits.{maxNumbers}
+use Rattle.columns.specs.Limits.{maxNumbers, maxListed}
 use Rattle.columns.specs.Refusal.{unless, refuse, firstOf}
 use Rattle.columns.specs.declared.refusal.Refusal.{Refusal}
-use Rattle.columns.specs.declared.refusal.Refusal.the-variants.{OverRecords, OverNumbers, GroupOrder, NoSurvivor}
+use Rattle.columns.specs.declared.refusal.Refusal.the-variants.{OverRecords, OverNumbers, GroupOrder, NoSurvivor, SliceShort}
 use Rattle.columns.proofs.FirstBroken.{each-none, not-refused}
 use Rattle.archive.specs.File.{File}
 use Rattle.archive.specs.Fits.{FileFits}
@@ -25,12 +25,12 @@ use Rattle.cleaning.specs.Memo.{tables}
 use Rattle.cleaning.specs.Resolving.{entries, groupsSurvive, resolveRules}
 use Rattle.cleaning.specs.Summary.{Summary, tabled}
 use Rattle.cleaning.specs.Writing.{outputs, writeRules, bytesOf, written}
-use Rattle.cleaning.specs.Step.{takes, resolves, taking, resolved, fresh, Outcome, takeMore, resolveBy, resolve, step}
+use Rattle.cleaning.specs.Step.{takes, resolves, Answer, refused, done, wrote, told, counted, taking, resolved, fresh, Outcome, takeMore, resolveBy, resolve, step}
 use Rattle.cleaning.specs.Sheet.{summaryOf}
 use Rattle.cleaning.specs.Held.{heldOf, archiveHeld}
 use Rattle.cleaning.specs.Survivors.{survivorSheet}
-use Rattle.cleaning.specs.Runs.{freshRun, slotted, runStep}
-use Rattle.cleaning.specs.Listing.{refusedLine, listingText, afterwards, writing, writingFrom, cleaning}
+use Rattle.cleaning.specs.Runs.{slotted}
+use Rattle.cleaning.specs.Listing.{refusedLine, listingText, afterwards, writing, writingFrom, cleaning, listing}
 use Rattle.cleaning.proofs.Taken.{Followed, taken-followed}
 use Rattle.cleaning.proofs.Invariant.{Inv}
 use Rattle.cleaning.proofs.Holding.{hold, run-step}
@@ -44,19 +44,27 @@ use Rattle.run_text.specs.files.Files.{listingRoom}
 use Rattle.run_list.specs.Need.{listingNeed}
 use Rattle.run_list.specs.Listed.{listed}
 use Rattle.run.specs.Listed.{listedIn}
-use Rattle.run_print.specs.Prints.{said, listedText, resolvedText}
+use Rattle.run_clean.specs.Cleans.{after}
+use Rattle.run_print.specs.Whole.{answered, listedOf, resolvedList, takenList, listedFrom, printed}
 use Rattle.run_print.proofs.Room.{room-enough}
 
+printed-after : (a b : Answer) → printed (after a b) ≡ afterwards refusedLine a (printed b)
+printed-after (refused x) b = refl
+printed-after done b = refl
+printed-after (wrote w) b = refl
+printed-after (told n) b = refl
+printed-after (counted n) b = refl
+
 -- what a write of a resolved run is made into
-abbrev pub lines : Archive → List File → List ℕ → List ℕ
+abbrev lines : Archive → List File → List ℕ → List ℕ
 lines A fs w = listingText A fs
 
 module _ (room : ℕ) where
-  said-listed : (A : Archive) (S : Summary) → listingNeed A (outputs S) ≤ room → said (listed room A S) ≡ writing refusedLine (lines A (outputs S)) (written S)
+  printed-listed : (A : Archive) (S : Summary) → listingNeed A (outputs S) ≤ room → printed (answered (listed room A S)) ≡ writing refusedLine (lines A (outputs S)) (written S)
   unfolding listed written unless firstOf
-  said-listed A S h = rw (le-ltb room (listingNeed A (outputs S)) h) (go (writeRules S))
+  printed-listed A S h = rw (le-ltb room (listingNeed A (outputs S)) h) (go (writeRules S))
     where
-      go : (x : Option Refusal) → said (unless (firstOf (x ∷ none ∷ [])) (listingText A (outputs S))) ≡ writing refusedLine (lines A (outputs S)) (unless x (bytesOf S))
+      go : (x : Option Refusal) → printed (answered (unless (firstOf (x ∷ none ∷ [])) (listingText A (outputs S)))) ≡ writing refusedLine (lines A (outputs S)) (unless x (bytesOf S))
       go none = refl
       go (some x) = refl
 
@@ -68,8 +76,8 @@ module _ (room : ℕ) where
         (summary-held held (tables (archiveHeld held)) (rows-held (t .sources) f) (tables-length (archiveHeld held)))
 
     resolved-says : resolveRules t (archiveOf t) (tables (archiveOf t)) ≡ none
-        → listedText room (hold (resolved t (tables (archiveOf t)))) ≡ writingFrom refusedLine lines (resolved t (tables (archiveOf t)))
-    unfolding listedText listedIn hold resolveRules
+        → printed (listedOf (hold (resolved t (tables (archiveOf t)))) room) ≡ writingFrom refusedLine lines (resolved t (tables (archiveOf t)))
+    unfolding listedOf listedIn hold resolveRules
     resolved-says e =
         let A = archiveOf t in
         let ts = tables A in
@@ -77,26 +85,27 @@ module _ (room : ℕ) where
         let some-source = not-refused GroupOrder (isEmpty (t .sources)) (rules .0) in
         let few = ltb-false maxNumbers (entries ts) (not-refused OverNumbers (ltb maxNumbers (entries ts)) (rules .1 .0)) in
         let survive = not-false (groupsSurvive A) (not-refused NoSurvivor (not (groupsSurvive A)) (rules .1 .1 .0)) in
-        ap₂ (λ B S. said (listed room B S)) (archive-held (t .sources) f) summary-says
-        ∙ said-listed A (tabled A ts) (omega (arith, room-enough t f h l some-source few survive))
+        ap₂ (λ B S. printed (answered (listed room B S))) (archive-held (t .sources) f) summary-says
+        ∙ printed-listed A (tabled A ts) (omega (arith, room-enough t f h l some-source few survive))
 
     taken-by : (x : Option Refusal) → resolveRules t (archiveOf t) (tables (archiveOf t)) ≡ x
-        → afterwards refusedLine ((resolveBy t (tables (archiveOf t)) x) .answer) (listedText room (hold ((resolveBy t (tables (archiveOf t)) x) .state)))
+        → afterwards refusedLine ((resolveBy t (tables (archiveOf t)) x) .answer) (printed (listedOf (hold ((resolveBy t (tables (archiveOf t)) x) .state)) room))
         ≡ afterwards refusedLine ((resolveBy t (tables (archiveOf t)) x) .answer) (writingFrom refusedLine lines ((resolveBy t (tables (archiveOf t)) x) .state))
     taken-by none e = resolved-says e
     taken-by (some x) e = refl
 
-    pub taken-says : resolvedText room (hold (taking t))
+    taken-says : printed (resolvedList (hold (taking t)) room)
         ≡ afterwards refusedLine ((step (taking t) resolves) .answer) (writingFrom refusedLine lines ((step (taking t) resolves) .state))
-    unfolding resolvedText Inv step resolve
+    unfolding resolvedList Inv step resolve
     taken-says =
-        ap (λ o. afterwards refusedLine (o .answer) (listedText room (o .state))) (run-step (taking t) resolves (t .sources) (refl, f))
+        ap (λ o. printed (after (o .answer) (listedOf (o .state) room))) (run-step (taking t) resolves (t .sources) (refl, f))
+        ∙ printed-after ((step (taking t) resolves) .answer) (listedOf (hold ((step (taking t) resolves) .state)) room)
         ∙ taken-by (resolveRules t (archiveOf t) (tables (archiveOf t))) refl
 
   -- ── an archive taken alone ───────────────────────────────────────────────────────────────────
 
   abbrev Says : Outcome → Type 0
-  Says o = afterwards refusedLine (o .answer) (resolvedText room (hold (o .state)))
+  Says o = printed (after (o .answer) (resolvedList (hold (o .state)) room))
       ≡ afterwards refusedLine (o .answer) (afterwards refusedLine ((step (o .state) resolves) .answer) (writingFrom refusedLine lines ((step (o .state) resolves) .state)))
 
   abbrev noSource : Taken
@@ -120,8 +129,16 @@ module _ (room : ℕ) where
     unfolding step
     step-says b h = parse-says (parse b) h
 
-    pub bytes-say : (b : List ℕ) → Each FileFits (filesIn (parse b))
-        → afterwards refusedLine ((runStep freshRun (takes b)) .answer) (resolvedText room ((runStep freshRun (takes b)) .state)) ≡ cleaning refusedLine lines b
-    unfolding cleaning Inv hold heldOf
+    bytes-say : (b : List ℕ) → Each FileFits (filesIn (parse b)) → printed (takenList b room) ≡ cleaning refusedLine lines b
+    unfolding takenList cleaning Inv hold heldOf
     bytes-say b h =
-        ap (λ o. afterwards refusedLine (o .answer) (resolvedText room (o .state))) (run-step fresh (takes b) [] (refl, tt)) ∙ step-says b h
+        ap (λ o. printed (after (o .answer) (resolvedList (o .state) room))) (run-step fresh (takes b) [] (refl, tt)) ∙ step-says b h
+
+    -- the whole output of the listing program
+    pub listing-printed : (b : List ℕ) → Each FileFits (filesIn (parse b)) → printed (listedFrom b room) ≡ listing b
+    unfolding listedFrom listing
+    listing-printed b h = go (ltb maxListed (length b))
+      where
+        go : (long : Bool) → printed (cond long (refused SliceShort) (takenList b room)) ≡ cond long (refusedLine SliceShort) (cleaning refusedLine lines b)
+        go true = refl
+        go false = bytes-say b h
