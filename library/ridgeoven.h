@@ -1,9 +1,9 @@
 /* Cleans room archives. Every function is proved; what each promises is its contract in crates/ffi_clean and crates/ffi_run.
  *
  * A call is refused by number: 1 to 27 for the archive, 42 and 43 where it is over the limits, 41 where out has too little room for
- * what is accepted; 0 where there is no refusal. A refused call writes nothing, and an accepted one nothing past its length. Nothing is allocated
- * and nothing kept; the calls may be made by several threads at once. bytes and out must not overlap. A call works on the stack: the
- * thread must have RIDGEOVEN_STACK bytes of it free, which is more than a second thread has on many systems. */
+ * what is accepted; 0 where there is no refusal. A refused call writes nothing, and an accepted one nothing past its length. Nothing is
+ * allocated and nothing kept; the calls may be made by several threads at once. bytes and out must not overlap. A call works on the
+ * stack: the thread must have RIDGEOVEN_STACK bytes of it free, which is more than a second thread has on many systems. */
 #ifndef RIDGEOVEN_H
 #define RIDGEOVEN_H
 
