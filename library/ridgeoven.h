@@ -1,9 +1,9 @@
 /* Cleans room archives. Every function is proved; what each promises is its contract in crates/ffi_clean and crates/ffi_run.
  *
- * A call is refused by number: 1 to 27 for the archive, 41 where out has too little room, 42 and 43 where the archive is over the
- * limits; 0 where it is accepted. A refused call writes nothing, and an accepted one nothing past its length. Nothing is allocated
- * and nothing kept; the calls may be made by several threads at once. bytes and out must not overlap. A call works on the stack: the
- * thread must have RIDGEOVEN_STACK bytes of it free, which is more than a second thread has on many systems. */
+ * A call is refused by number: 1 to 27 for the archive, 42 and 43 where it is over the limits, 41 where out has too little room for
+ * what is accepted; 0 where there is no refusal. A refused call writes nothing, and an accepted one nothing past its length. Nothing is
+ * allocated and nothing kept; the calls may be made by several threads at once. bytes and out must not overlap. A call works on the
+ * stack: the thread must have RIDGEOVEN_STACK bytes of it free, which is more than a second thread has on many systems. */
 #ifndef RIDGEOVEN_H
 #define RIDGEOVEN_H
 
@@ -17,7 +17,8 @@ extern "C" {
 /* No cleaned archive is longer. */
 #define RIDGEOVEN_CLEANED_MAX 196448
 
-/* No listing is longer; one is made only where there is so much room. */
+/* No listing needs more room: one needs 46 bytes for each event, 224 for each cleaned file, 126 for each of its events, 21 for each of its
+ * deltas, and 32. */
 #define RIDGEOVEN_LISTING_ROOM 437792
 
 /* No refusal's words are longer; they are told only where there is so much room. */
@@ -36,7 +37,7 @@ typedef struct ridgeoven_answer {
 ridgeoven_answer ridgeoven_clean(const uint8_t *bytes, size_t length, uint8_t *out, size_t room);
 
 /* The listing of an archive's cleaning into out, of room bytes: the map of numbers, the edge columns of the cleaned files, the number
- * of reparented events. Where the archive is refused its text is "refused N" and a line's end. */
+ * of reparented events. An archive of more than 65,536 bytes is refused with 41. */
 ridgeoven_answer ridgeoven_list(const uint8_t *bytes, size_t length, uint8_t *out, size_t room);
 
 /* What the number of a refusal means, into out, of room bytes and without a 0 after it; a number that is no refusal's has no words. */
@@ -44,7 +45,9 @@ ridgeoven_answer ridgeoven_words(uint64_t refusal, uint8_t *out, size_t room);
 
 /* ── step by step ──────────────────────────────────────────────────────────────────────────────
  * A run is a value, given and given back: a host may take several archives into it, ask after resolving, and write more than once. A
- * run that no call gave answers 40 to every call, and so does a call out of turn. After a refusal the run is the one that was given. */
+ * call out of turn is 40. After a refusal the run is the one that was given. What is promised of a cleaned archive is promised of runs
+ * that ridgeoven_new and the calls after it gave: a value is tested for a run's form, and one of another form answers 40 to every
+ * call; one that has the form is answered by what it holds, whoever made it. */
 
 #define RIDGEOVEN_RUN_WORDS 40992
 

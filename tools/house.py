@@ -5,7 +5,8 @@
 
 Doors: a function of one storey is called from another only if README's table of doors lists it; the boundary, the programs and the tries
 may also call every public function. Promises: a public function of README's table has an `ensures` and no `requires`, and as many must-fail
-edits as the table says; every exported function is in the table. Edits: the first line of each names a public function, a definition, or
+edits as the table says; every exported function is in the table, and no function that can be called from outside a crate with public
+functions has a `requires`. Edits: the first line of each names a public function, a definition, or
 the function of a near miss, and the wrong answer that it rules out."""
 import pathlib
 import re
@@ -85,6 +86,17 @@ def contract(path):
     return found and found.group(1)
 
 
+def open_functions(crate, modules=()):
+    """The functions that can be called from outside a crate, by their paths, each with its text."""
+    text = (CRATES / crate / "src" / ("/".join(modules or ("lib",)) + ".rt")).read_text()
+    for function in re.split(r"^(?=(?:pub(?:\(crate\))? )?(?:extern \"C\" )?fn )", text, flags=re.M)[1:]:
+        name = re.match(r"pub (?:extern \"C\" )?fn (\w+)", function)
+        if name:
+            yield "::".join((crate, *modules, name[1])), function
+    for module in re.findall(r"^pub mod (\w+);", text, re.M):
+        yield from open_functions(crate, (*modules, module))
+
+
 def exported():
     """The functions that programs in C or Rust can call."""
     for crate in crates():
@@ -126,6 +138,8 @@ def promises(table):
             wrong.append(f"{path} is in the table of public functions and not in the code")
         elif "ensures {" not in text or "requires {" in text:
             wrong.append(f"{path}: a public function has an `ensures` and no `requires`")
+    for crate in sorted({path.split("::")[0] for path in public}):
+        wrong += [f"{path} has a `requires` and can be called from outside" for path, text in open_functions(crate) if "requires {" in text and path not in public]
     for row in table:
         least, unit = row[2].split(" ", 1)
         paths = list(functions(row[1]))

@@ -22,7 +22,7 @@ use Rattle.archive.specs.Reader.{broken, got, _>>=_, byte, number, bytes
 use Rattle.archive.specs.File.{Row, Unresolved, Root, CoverColumns, File}
 use Rattle.archive.specs.Parse
 use Rattle.archive.specs.Parse.{Head, depthFlagOk, headEnd, edgeSet, rowAt, unresolvedAt, rootAt, rangeAt, files, parse}
-use Rattle.archive.specs.Encode.{recordBytes, depthBytes, headBytes, setBytes, edgesBytes, flagOf, rowBytes, unresolvedBytes, rootBytes, rangeBytes, linksBytes, coverBytes, countedBytes, coverRecord, fileBytes, encode}
+use Rattle.archive.specs.Encode.{recordBytes, depthBytes, headFields, headBytes, setBytes, setsBytes, edgesBytes, flagOf, rowBytes, unresolvedBytes, rootBytes, rangeBytes, linksBytes, coverBytes, countedBytes, coverRecord, fileBytes, encode}
 use Rattle.archive.specs.Fits.{DepthFits, SetFits, UnresolvedFits, RootFits, RangeFits, LinksFit, CoverFits, CoverFitsIn, FileFits, Short}
 use Rattle.archive_bytes.proofs.Numbers.{length-bytesOf, be-at, signed-all, unsigned-all}
 use Rattle.archive.proofs.Forward.{Reads, then-reads, end-reads, again-reads, number-reads, byte-reads, bytes-reads, Item, table-reads, things-read, numbers-read, counted-read, stops-at-end, record-kind, record-reads, found-reads, none-reads}
@@ -41,12 +41,13 @@ depth-reads a b c s none g =
 depth-reads a b c s (some d) g =
     then-reads byte _ (byte-reads 1) (then-reads (number 8) _ (number-reads 8 (d .least) (g .0)) (end-reads (number 8) _ (number-reads 8 (d .greatest) (g .1)) (λ l p k. refl)))
 
-head-reads : (f : File) → FileFits f → Reads [] Parse.head (headBytes f) (headOf f)
-unfolding Parse.head headBytes
-head-reads f k =
-    then-reads (number 8) _ (number-reads 8 (f .first) (k .first)) (then-reads (number 4) _ (number-reads 4 (length (f .rows)) (k .rowCount)) (then-reads byte _ (byte-reads (f .group))
-    (then-reads byte _ (byte-reads (length (f .subject))) (then-reads (bytes (length (f .subject))) _ (bytes-reads (f .subject))
-    (depth-reads (f .first) (length (f .rows)) (f .group) (f .subject) (f .depth) (k .depth))))))
+pub head-reads : (h : Head) → h .first < 256 ^ 8 → h .rows < 256 ^ 4 → DepthFits (h .depth)
+    → Reads [] Parse.head (headFields (h .first) (h .rows) (h .group) (h .subject) (h .depth)) h
+unfolding Parse.head
+head-reads h first rows depth =
+    then-reads (number 8) _ (number-reads 8 (h .first) first) (then-reads (number 4) _ (number-reads 4 (h .rows) rows) (then-reads byte _ (byte-reads (h .group))
+    (then-reads byte _ (byte-reads (length (h .subject))) (then-reads (bytes (length (h .subject))) _ (bytes-reads (h .subject))
+    (depth-reads (h .first) (h .rows) (h .group) (h .subject) (h .depth) depth)))))
 
 depth-length : (d : Option Depth) → length (depthBytes d) ≡ 17
 unfolding depthBytes bytesOf
@@ -66,12 +67,10 @@ set-reads rows s f =
     (end-reads (numbers 8 (s .count)) _ (numbers-read 8 (s .count) (map unsignedOf (s .deltas)) (length-map (s .deltas) unsignedOf ∙ sym (f .counted)) (unsigned-all (s .deltas) (f .deltas)))
     (λ l p k. rw (signed-all (s .deltas) (f .deltas)))))
 
-sets-read : (f : File) → FileFits f → Reads [] (Parse.sets (length (f .rows))) (edgesBytes f) (record { forward = f .forward; reverse = f .reverse; inbound = f .inbound })
-unfolding Parse.sets edgesBytes
-sets-read f k =
-    let n = length (f .rows) in
-    then-reads (edgeSet n) _ (set-reads n (f .forward) (k .forward)) (then-reads (edgeSet n) _ (set-reads n (f .reverse) (k .reverse))
-    (end-reads (edgeSet n) _ (set-reads n (f .inbound) (k .inbound)) (λ l p h. refl)))
+pub sets-read : (n : ℕ) (a b c : EdgeSet) → SetFits n a → SetFits n b → SetFits n c → Reads [] (Parse.sets n) (setsBytes a b c) (record { forward = a; reverse = b; inbound = c })
+unfolding Parse.sets
+sets-read n a b c f r i =
+    then-reads (edgeSet n) _ (set-reads n a f) (then-reads (edgeSet n) _ (set-reads n b r) (end-reads (edgeSet n) _ (set-reads n c i) (λ l p h. refl)))
 
 -- ── 3 rows ───────────────────────────────────────────────────────────────────────────────────
 
@@ -101,7 +100,7 @@ flags-pass (r ∷ rs) = rw (pass (r .erased), flags-pass rs)
     pass true = refl
     pass false = refl
 
-rows-read : (rs : List Row) → Each (λ r. r .tag < 256 ^ 8) rs → Reads [] (Parse.rows (length rs)) (flat rowBytes rs) rs
+pub rows-read : (rs : List Row) → Each (λ r. r .tag < 256 ^ 8) rs → Reads [] (Parse.rows (length rs)) (flat rowBytes rs) rs
 unfolding Parse.rows
 rows-read rs k =
     again-reads (table 9 (λ l. getD l 0 0) (length rs)) _ (table-reads 9 rowBytes row-wide (λ l. getD l 0 0) (λ r. flagOf (r .erased)) rs (each-all _ flag-item rs))
@@ -118,11 +117,11 @@ unfolding unresolvedBytes unresolvedAt bytesOf
 unresolved-item u h post =
     rw (be-at 8 (u .child) [] ((u .kind ∷ []) ++ (bytesOf 4 (u .handle) ++ post)) (h .0), be-at 4 (u .handle) (bytesOf 8 (u .child) ++ (u .kind ∷ [])) post (h .2))
 
-unresolved-read : (f : File) → FileFits f → Reads [] Parse.unresolved (countedBytes unresolvedBytes (f .unresolved)) (f .unresolved)
+pub unresolved-read : (us : List Unresolved) → Each UnresolvedFits us → length us < 256 ^ 4 → notFalling (map (λ u. u .child) us) ≡ true
+    → Reads [] Parse.unresolved (countedBytes unresolvedBytes us) us
 unfolding Parse.unresolved
-unresolved-read f k =
-    counted-read 13 unresolvedBytes unresolved-wide unresolvedAt (f .unresolved) (each-imp _ _ (f .unresolved) unresolved-item (k .unresolved))
-    (λ us. notFalling (map (λ u. u .child) us)) (k .unresolvedCount) (k .unresolvedOrder)
+unresolved-read us k count order =
+    counted-read 13 unresolvedBytes unresolved-wide unresolvedAt us (each-imp _ _ us unresolved-item k) (λ us. notFalling (map (λ u. u .child) us)) count order
 
 root-wide : (r : Root) → length (rootBytes r) ≡ 16
 unfolding rootBytes bytesOf
@@ -132,10 +131,9 @@ root-item : (r : Root) → RootFits r → Item rootBytes rootAt (λ r. r) r
 unfolding rootBytes rootAt bytesOf
 root-item r h post = rw (be-at 8 (r .row) [] (bytesOf 8 (r .handle) ++ post) (h .0), be-at 8 (r .handle) (bytesOf 8 (r .row)) post (h .1))
 
-roots-read : (f : File) → FileFits f → Reads [] Parse.roots (countedBytes rootBytes (f .roots)) (f .roots)
+pub roots-read : (rs : List Root) → Each RootFits rs → length rs < 256 ^ 4 → rising (map (λ r. r .row) rs) ≡ true → Reads [] Parse.roots (countedBytes rootBytes rs) rs
 unfolding Parse.roots
-roots-read f k =
-    counted-read 16 rootBytes root-wide rootAt (f .roots) (each-imp _ _ (f .roots) root-item (k .roots)) (λ rs. rising (map (λ r. r .row) rs)) (k .rootCount) (k .rootOrder)
+roots-read rs k count order = counted-read 16 rootBytes root-wide rootAt rs (each-imp _ _ rs root-item k) (λ rs. rising (map (λ r. r .row) rs)) count order
 
 -- ── 6 cover ──────────────────────────────────────────────────────────────────────────────────
 
@@ -159,7 +157,7 @@ links-read c k =
     (then-reads (numbers 4 n) _ (numbers-read 4 n (c .fromSeqs) (k .second) (k .fromSeqs)) (then-reads (numbers 4 n) _ (numbers-read 4 n (c .toChains) (k .third) (k .toChains))
     (end-reads (numbers 4 n) _ (numbers-read 4 n (c .toSeqs) (k .fourth) (k .toSeqs)) (λ l p h. refl)))))
 
-cover-reads : (rows : ℕ) (c : CoverColumns) → CoverFits rows c → Reads [] (Parse.cover rows) (coverBytes c) c
+pub cover-reads : (rows : ℕ) (c : CoverColumns) → CoverFits rows c → Reads [] (Parse.cover rows) (coverBytes c) c
 unfolding Parse.cover coverBytes
 cover-reads rows c k =
     let m = length (c .ranges) in
@@ -175,14 +173,14 @@ cover-record-reads rows (some c) k g = found-reads 6 (Parse.cover rows) (k .shor
 
 -- a file is read where no cover of another stands behind it
 file-reads : {post : List ℕ} (f : File) → FileFits f → eqb (getD post 5 0) 6 ≡ false → Reads post Parse.file (fileBytes f) f
-unfolding Parse.file fileBytes
+unfolding Parse.file fileBytes headBytes edgesBytes
 file-reads f k g =
     let n = length (f .rows) in
-    then-reads (recordOf 1 Parse.head) _ (record-reads 1 Parse.head (head-short f k) (head-reads f k))
-    (then-reads (recordOf 2 (Parse.sets n)) _ (record-reads 2 (Parse.sets n) (k .edgesShort) (sets-read f k))
+    then-reads (recordOf 1 Parse.head) _ (record-reads 1 Parse.head (head-short f k) (head-reads (headOf f) (k .first) (k .rowCount) (k .depth)))
+    (then-reads (recordOf 2 (Parse.sets n)) _ (record-reads 2 (Parse.sets n) (k .edgesShort) (sets-read n (f .forward) (f .reverse) (f .inbound) (k .forward) (k .reverse) (k .inbound)))
     (then-reads (recordOf 3 (Parse.rows n)) _ (record-reads 3 (Parse.rows n) (k .rowsShort) (rows-read (f .rows) (k .tags)))
-    (then-reads (recordOf 4 Parse.unresolved) _ (record-reads 4 Parse.unresolved (k .unresolvedShort) (unresolved-read f k))
-    (then-reads (recordOf 5 Parse.roots) _ (record-reads 5 Parse.roots (k .rootsShort) (roots-read f k))
+    (then-reads (recordOf 4 Parse.unresolved) _ (record-reads 4 Parse.unresolved (k .unresolvedShort) (unresolved-read (f .unresolved) (k .unresolved) (k .unresolvedCount) (k .unresolvedOrder)))
+    (then-reads (recordOf 5 Parse.roots) _ (record-reads 5 Parse.roots (k .rootsShort) (roots-read (f .roots) (k .roots) (k .rootCount) (k .rootOrder)))
     (end-reads (optionally 6 (Parse.cover n)) _ (cover-record-reads n (f .cover) (k .cover) g) (λ l p h. refl))))))
 
 file-long : (f : File) → 0 < length (fileBytes f)

@@ -1,4 +1,3 @@
 pub mod Bytes
+pub mod After
 pub mod Computes
-pub mod cursor
-pub mod number_columns

@@ -1,5 +1,4 @@
 // Big-endian numbers in lent bytes: one number read or written at a place that its caller has looked at.
-pub mod cursor;
 pub mod number_columns;
 
 ghost use mathlib.Core.Path.{_≡_};

@@ -1,5 +1,4 @@
-// Columns of big-endian numbers in lent bytes. A short read or write is an answer; a function whose caller has looked already says so by
-// a `requires`.
+// Columns of big-endian numbers in lent bytes, read or written at a place that the caller has looked at.
 use crate::load_u32;
 use crate::load_u64;
 use crate::long;
@@ -8,7 +7,6 @@ use crate::store_u32;
 use crate::store_u64;
 use crate::unsigned;
 ghost use mathlib.Core.Path.{_≡_};
-ghost use mathlib.Core.Bool.{cond};
 ghost use mathlib.Core.List.{map};
 ghost use Prim.Native.Nat.{_+_, _*_, _≤_, _<_};
 ghost use lib.Dec.{leb};
@@ -16,7 +14,6 @@ ghost use lib.ListN.{length, take};
 ghost use lib.Seq.{sets};
 ghost use Rattle.lists.specs.Lists.{flat};
 ghost use Rattle.archive_bytes.specs.Bytes.{bytesOf, signedOf, unsignedOf, column};
-ghost use Rattle.archive_bytes.specs.number_columns.Room.{room};
 
 // Whether n things of w bytes each are there from `at` on; no product is formed, so none can wrap.
 pub fn fits(len: usize, at: usize, n: usize, w: usize) -> bool
@@ -29,6 +26,7 @@ pub fn fits(len: usize, at: usize, n: usize, w: usize) -> bool
     n <= (len - at) / w
 }
 
+// The n numbers of 8 bytes from `at` on, into the front of `out`.
 pub fn fill_u64s(bytes: &[u8], at: usize, n: usize, out: &mut [u64])
     requires { ⌜ (at + n * 8 ≤ length (now bytes)) × (n ≤ length (now out)) ⌝ }
     ensures { λ _. ⌜ now (out .exit) ≡ sets (now (out .entry)) 0 (column 8 n (now (bytes .entry)) at) ⌝ }
@@ -66,49 +64,6 @@ pub fn fill_u32s(bytes: &[u8], at: usize, n: usize, out: &mut [u32])
         i += 1;
         p += 4;
     }
-}
-
-// The n numbers of 8 bytes from `at` on, into the front of `out`, if both are there; says whether they were.
-pub fn load_u64s(bytes: &[u8], at: usize, n: usize, out: &mut [u64]) -> bool
-    ensures { λ r. ⌜ r ≡ room 8 n (now (out .entry)) (now (bytes .entry)) at ⌝ }
-    ensures { λ r. ⌜ now (out .exit) ≡ cond r (sets (now (out .entry)) 0 (column 8 n (now (bytes .entry)) at)) (now (out .entry)) ⌝ }
-{
-    if out.len() < n {
-        return false;
-    }
-    if !fits(bytes.len(), at, n, 8) {
-        return false;
-    }
-    fill_u64s(bytes, at, n, out);
-    true
-}
-
-pub fn load_i64s(bytes: &[u8], at: usize, n: usize, out: &mut [i64]) -> bool
-    ensures { λ r. ⌜ r ≡ room 8 n (now (out .entry)) (now (bytes .entry)) at ⌝ }
-    ensures { λ r. ⌜ now (out .exit) ≡ cond r (sets (now (out .entry)) 0 (map signedOf (column 8 n (now (bytes .entry)) at))) (now (out .entry)) ⌝ }
-{
-    if out.len() < n {
-        return false;
-    }
-    if !fits(bytes.len(), at, n, 8) {
-        return false;
-    }
-    fill_i64s(bytes, at, n, out);
-    true
-}
-
-pub fn load_u32s(bytes: &[u8], at: usize, n: usize, out: &mut [u32]) -> bool
-    ensures { λ r. ⌜ r ≡ room 4 n (now (out .entry)) (now (bytes .entry)) at ⌝ }
-    ensures { λ r. ⌜ now (out .exit) ≡ cond r (sets (now (out .entry)) 0 (column 4 n (now (bytes .entry)) at)) (now (out .entry)) ⌝ }
-{
-    if out.len() < n {
-        return false;
-    }
-    if !fits(bytes.len(), at, n, 4) {
-        return false;
-    }
-    fill_u32s(bytes, at, n, out);
-    true
 }
 
 // The first n numbers of a column, 8 bytes each, from `at` on.
@@ -161,47 +116,4 @@ pub fn store_bytes(s: &[u8], out: &mut [u8], at: usize)
         out[at + i] = s[i];
         i += 1;
     }
-}
-
-// The first n numbers of a column, 8 bytes each, from `at` on, if both are there; says whether they were.
-pub fn put_u64s(xs: &[u64], n: usize, out: &mut [u8], at: usize) -> bool
-    ensures { λ r. ⌜ r ≡ room 8 n (now (xs .entry)) (now (out .entry)) at ⌝ }
-    ensures { λ r. ⌜ now (out .exit) ≡ cond r (sets (now (out .entry)) at (flat (bytesOf 8) (take n (now (xs .entry))))) (now (out .entry)) ⌝ }
-{
-    if xs.len() < n {
-        return false;
-    }
-    if !fits(out.len(), at, n, 8) {
-        return false;
-    }
-    store_u64s(xs, n, out, at);
-    true
-}
-
-pub fn put_i64s(xs: &[i64], n: usize, out: &mut [u8], at: usize) -> bool
-    ensures { λ r. ⌜ r ≡ room 8 n (now (xs .entry)) (now (out .entry)) at ⌝ }
-    ensures { λ r. ⌜ now (out .exit) ≡ cond r (sets (now (out .entry)) at (flat (bytesOf 8) (map unsignedOf (take n (now (xs .entry)))))) (now (out .entry)) ⌝ }
-{
-    if xs.len() < n {
-        return false;
-    }
-    if !fits(out.len(), at, n, 8) {
-        return false;
-    }
-    store_i64s(xs, n, out, at);
-    true
-}
-
-pub fn put_u32s(xs: &[u32], n: usize, out: &mut [u8], at: usize) -> bool
-    ensures { λ r. ⌜ r ≡ room 4 n (now (xs .entry)) (now (out .entry)) at ⌝ }
-    ensures { λ r. ⌜ now (out .exit) ≡ cond r (sets (now (out .entry)) at (flat (bytesOf 4) (take n (now (xs .entry))))) (now (out .entry)) ⌝ }
-{
-    if xs.len() < n {
-        return false;
-    }
-    if !fits(out.len(), at, n, 4) {
-        return false;
-    }
-    store_u32s(xs, n, out, at);
-    true
 }

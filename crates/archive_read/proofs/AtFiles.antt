@@ -8,6 +8,7 @@ use native.Mathlib.Omega.{arith}
 use lib.ListN.{length, length-map}
 use borrow.Author.Tests.{le-leb, lt-leb}
 use Rattle.lists.specs.Lists.{sum}
+use Rattle.columns.specs.declared.refusal.Refusal.the-variants.{RecordBroken}
 use Rattle.archive.specs.Reader.{Parsed, broken, got, andThen, _>>=_}
 use Rattle.archive.specs.File.{CoverColumns, File}
 use Rattle.archive.specs.Parse.{file, files, parse}
@@ -20,7 +21,7 @@ use Rattle.archive_read.specs.declared.records.FileRead.{FileRead}
 use Rattle.archive_read.specs.declared.records.FileRead.the-variants.{FileIs, NoFile}
 use Rattle.archive_read.specs.declared.files.Totals.{Totals}
 use Rattle.archive_read.specs.declared.files.Summed.{Summed}
-use Rattle.archive_read.specs.declared.files.Summed.the-variants.{Sums, Broken}
+use Rattle.archive_read.specs.declared.files.Summed.the-variants.{Sums, Refused}
 use Rattle.archive.proofs.Back.{length-several}
 
 -- ── a file's counts are the lengths of its columns ───────────────────────────────────────────
@@ -83,7 +84,7 @@ same-sums a b c d e f g h i a′ b′ c′ d′ e′ f′ g′ h′ i′ p q r s
 
 plus-none : (c : Summed) → c ≡ plus none-yet c
 unfolding plus
-plus-none Broken = refl
+plus-none (Refused r) = refl
 plus-none (Sums u) = same-sums _ _ _ _ _ _ _ _ _ _ _ _ _ _ _ _ _ _ (omega arith) (omega arith) (omega arith) (omega arith) (omega arith) (omega arith) (omega arith) (omega arith) (omega arith)
 
 pub sums-start : (l : List ℕ) → totalsOf (parse l) ≡ plus none-yet (totalsOf (files (length l - 0) l 0))
@@ -123,7 +124,7 @@ module _ {s : Summed} (l : List ℕ) (t : Totals) (p : ℕ) (e : s ≡ plus t (t
     z : length l - t .files ≡ suc (length l - (t .files + 1))
     z = omega arith
 
-    pub sums-broken : x ≡ NoFile → Broken ≡ s
+    pub sums-broken : x ≡ NoFile → Refused RecordBroken ≡ s
     unfolding files plus totalsOf _>>=_
     sums-broken f = rw (e, z, lt-leb (length l) p h, ← d, f)
 

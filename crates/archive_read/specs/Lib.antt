@@ -1,4 +1,3 @@
 pub mod Layout
 pub mod Sums
 pub mod bodies
-pub mod groups

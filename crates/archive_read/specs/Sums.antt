@@ -4,12 +4,13 @@ use mathlib.Core.Option.{Option, none, some}
 use Prim.Native.Nat.{ℕ, _+_, _≤_}
 use lib.ListN.{length}
 use Rattle.lists.specs.Lists.{sum}
+use Rattle.columns.specs.declared.refusal.Refusal.the-variants.{RecordBroken}
 use Rattle.archive.specs.Reader.{Parsed, broken, got}
 use Rattle.archive.specs.File.{CoverColumns, File}
 use Rattle.archive_read.specs.declared.records.FileAt.{FileAt}
 use Rattle.archive_read.specs.declared.files.Totals.{Totals}
 use Rattle.archive_read.specs.declared.files.Summed.{Summed}
-use Rattle.archive_read.specs.declared.files.Summed.the-variants.{Sums, Broken}
+use Rattle.archive_read.specs.declared.files.Summed.the-variants.{Sums, Refused}
 
 abbrev pub rangesIn : Option CoverColumns → ℕ
 rangesIn none = 0
@@ -34,7 +35,7 @@ totals fs = record {
 
 -- what an archive's bytes come to: 23, or the sums over its files
 unfoldable pub totalsOf : Parsed (List File) → Summed
-totalsOf broken = Broken
+totalsOf broken = Refused RecordBroken
 totalsOf (got fs p) = Sums (totals fs)
 
 -- the sums with one file more, by the counts that the reader found
@@ -58,7 +59,7 @@ Below t p =
     × (t .forward ≤ p) × (t .reverse ≤ p) × (t .inbound ≤ p)
 
 unfoldable pub plus : Totals → Summed → Summed
-plus t Broken = Broken
+plus t (Refused r) = Refused r
 plus t (Sums u) = Sums (record {
   files = t .files + u .files;
   events = t .events + u .events;

@@ -2,6 +2,7 @@
 use crate::records::FileAt;
 use crate::records::FileRead;
 use crate::records::file_at;
+use columns::refusal::Refusal;
 ghost use mathlib.Core.Path.{_≡_};
 ghost use Prim.Native.Nat.{_<_, _^_};
 ghost use Rattle.archive.specs.Parse.{parse};
@@ -23,7 +24,7 @@ pub struct Totals {
 
 pub enum Summed {
     Sums(Totals),
-    Broken,
+    Refused(Refusal),
 }
 
 // The sums with one file more, which starts at `p`.
@@ -69,7 +70,7 @@ pub fn sum_up(bytes: &[u8]) -> Summed
     while p < bytes.len() {
         let x = file_at(bytes, p);
         let FileRead::FileIs(f) = x else {
-            return Summed::Broken;
+            return Summed::Refused(Refusal::RecordBroken);
         };
         t = with_file(t, f, p);
         let e = f.tail;

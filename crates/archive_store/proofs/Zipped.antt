@@ -1,12 +1,12 @@
 -- Columns side by side: one turn of each loop that stores a table, and its end.
 use mathlib.Core.Path.{_≡_, refl, sym, _∙_, ap}
-use mathlib.Core.List.{List, [], _∷_, _++_, append-assoc}
+use mathlib.Core.List.{List, [], _∷_, _++_, map, append-assoc}
 use Prim.Native.Nat.{ℕ, _≤_, _<_, _+_, _*_}
 use native.Mathlib.Numerals.{add-one}
 use native.Mathlib.Omega.{arith}
 use lib.ListN.{length, getD, drop, drop-of-length-le, length-append}
 use lib.Seq.{sets, drop-cons}
-use Rattle.lists.specs.Lists.{flat}
+use Rattle.lists.specs.Lists.{Each, flat}
 use Rattle.lists.proofs.Slices.{sets-append}
 use Rattle.archive_bytes.specs.Bytes.{bytesOf}
 use Rattle.cover.specs.Cover.{LinkColumns}
@@ -27,6 +27,35 @@ length-zip3 f [] ys zs h k = refl
 length-zip3 f (x ∷ xs) [] zs h k = absurd (omega arith)
 length-zip3 f (x ∷ xs) (y ∷ ys) [] h k = absurd (omega arith)
 length-zip3 f (x ∷ xs) (y ∷ ys) (z ∷ zs) h k = rw (length-zip3 f xs ys zs (omega arith) (omega arith))
+
+-- what holds of each number of the columns holds of what is made of them
+pub each-zip2 : {A : Type 0} (f : ℕ → ℕ → A) (P Q : ℕ → Type 0) (R : A → Type 0) → ((x y : ℕ) → P x → Q y → R (f x y)) → (xs ys : List ℕ) → Each P xs → Each Q ys → Each R (zip2 f xs ys)
+unfolding zip2
+each-zip2 f P Q R one [] ys h k = tt
+each-zip2 f P Q R one (x ∷ xs) [] h k = tt
+each-zip2 f P Q R one (x ∷ xs) (y ∷ ys) h k = (one x y (h .0) (k .0), each-zip2 f P Q R one xs ys (h .1) (k .1))
+
+pub each-zip3 : {A : Type 0} (f : ℕ → ℕ → ℕ → A) (P Q S : ℕ → Type 0) (R : A → Type 0) → ((x y z : ℕ) → P x → Q y → S z → R (f x y z)) → (xs ys zs : List ℕ)
+    → Each P xs → Each Q ys → Each S zs → Each R (zip3 f xs ys zs)
+unfolding zip3
+each-zip3 f P Q S R one [] ys zs h k m = tt
+each-zip3 f P Q S R one (x ∷ xs) [] zs h k m = tt
+each-zip3 f P Q S R one (x ∷ xs) (y ∷ ys) [] h k m = tt
+each-zip3 f P Q S R one (x ∷ xs) (y ∷ ys) (z ∷ zs) h k m = (one x y z (h .0) (k .0) (m .0), each-zip3 f P Q S R one xs ys zs (h .1) (k .1) (m .1))
+
+-- the first column, taken out again
+pub rows-again : (xs ys : List ℕ) → length ys ≡ length xs → map (λ r. r .row) (zip2 rootFrom xs ys) ≡ xs
+unfolding zip2 rootFrom
+rows-again [] ys h = refl
+rows-again (x ∷ xs) [] h = absurd (omega arith)
+rows-again (x ∷ xs) (y ∷ ys) h = rw (rows-again xs ys (omega arith))
+
+pub children-again : (xs ys zs : List ℕ) → length ys ≡ length xs → length zs ≡ length xs → map (λ u. u .child) (zip3 unresolvedFrom xs ys zs) ≡ xs
+unfolding zip3 unresolvedFrom
+children-again [] ys zs h k = refl
+children-again (x ∷ xs) [] zs h k = absurd (omega arith)
+children-again (x ∷ xs) (y ∷ ys) [] h k = absurd (omega arith)
+children-again (x ∷ xs) (y ∷ ys) (z ∷ zs) h k = rw (children-again xs ys zs (omega arith) (omega arith))
 
 -- ── two columns ──────────────────────────────────────────────────────────────────────────────
 

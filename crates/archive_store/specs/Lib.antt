@@ -1,2 +1,4 @@
 pub mod Lent
+pub mod LentFile
 pub mod records
+pub mod sizes

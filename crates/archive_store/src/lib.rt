@@ -1,6 +1,9 @@
-// The parts of an archive's records stored in lent bytes, each from a place on. Whoever calls has seen that there is room.
+// The parts of an archive's records stored in lent bytes, each from a place on, and how many bytes they have. Whoever calls has seen that
+// there is room.
 pub mod covers;
 pub mod edges;
 pub mod heads;
+pub mod order;
 pub mod records;
+pub mod sizes;
 pub mod tables;

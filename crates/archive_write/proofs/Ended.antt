@@ -1,5 +1,5 @@
 -- Each call that writes a record: what its worker asks for holds where no rule refuses, and what the call answers.
-use mathlib.Core.Path.{_≡_, sym, _∙_}
+use mathlib.Core.Path.{_≡_}
 use mathlib.Core.List.{List, [], _∷_}
 use mathlib.Core.Option.{Option}
 use Prim.Native.Nat.{ℕ, _<_, _+_, _*_, _^_}
@@ -8,41 +8,44 @@ use lib.IntN.{ℤ}
 use lib.ListN.{length}
 use borrow.Author.Tests.{eqb-true}
 use Rattle.lists.specs.Lists.{flat}
+use Rattle.columns.specs.Answers.{ruling}
 use Rattle.columns.specs.declared.refusal.Refusal.{Refusal}
+use Rattle.columns.specs.declared.refusal.Ruling.{Ruling}
+use Rattle.columns.specs.declared.refusal.Ruling.the-variants.{Kept, Broken}
+use Rattle.columns.proofs.Told.{told, told-kept}
+use Rattle.archive_bytes.specs.After.{left}
 use Rattle.archive.specs.Encode.{recordBytes, setsBytes, rowBytes, unresolvedBytes, rootBytes, coverBytes, countedBytes}
 use Rattle.archive.proofs.Lengths.{length-record}
 use Rattle.archive_store.specs.Lent.{zip2, zip3, headFrom, setFrom, rowFrom, unresolvedFrom, rootFrom, rangeFrom, linksFrom, coverFrom}
 use Rattle.archive_store.specs.declared.heads.HeadOut.{HeadOut}
 use Rattle.archive_store.specs.records.Sizes.{headSize, setsSize, rowsSize, unresolvedSize, rootsSize, coverBody}
 use Rattle.archive_store.proofs.records.Whole.{head-size, sets-size, rows-size, unresolved-size, roots-size, cover-size}
-use Rattle.archive_write.specs.Writes.{headRules, edgesRules, rowsRules, unresolvedRules, rootsRules, coverRules, asked, wrote, left}
-use Rattle.archive_write.specs.declared.rules.Asked.{Asked}
-use Rattle.archive_write.specs.declared.rules.Asked.the-variants.{Fine, No}
+use Rattle.archive_write.specs.Writes.{headRules, edgesRules, rowsRules, unresolvedRules, rootsRules, coverRules, wrote}
 use Rattle.archive_write.specs.declared.writer.Wrote.the-variants.{Ends, Refused}
-use Rattle.archive_write.proofs.Judged.{three-same, ranges-same, subject-small, few-first-of, sets-fit, cover-fits, fine-ok, fine-records, fine-numbers, is-none, is-some}
+use Rattle.archive_write.proofs.Judged.{three-same, cover-even, subject-small, few-first-of, sets-fit, cover-fits, unresolved-whole, roots-whole, fine-ok, fine-records, fine-numbers}
 
 -- ── answers ──────────────────────────────────────────────────────────────────────────────────
 
-module _ (r : Option Refusal) (v : Asked) (d : v ≡ asked r) where
-  pub refused-told : {x : Refusal} (end : ℕ) → v ≡ No x → Refused x ≡ wrote r end
+module _ (r : Option Refusal) (v : Ruling) (d : v ≡ ruling r) where
+  pub refused-told : {x : Refusal} (end : ℕ) → v ≡ Broken x → Refused x ≡ wrote r end
   unfolding wrote
-  refused-told {x} end e = rw (is-some {x = x} r (sym e ∙ d))
+  refused-told end e = rw (told r d e)
 
-  pub refused-kept : {x : Refusal} (old new : List ℕ) → v ≡ No x → old ≡ left r old new
+  pub refused-kept : {x : Refusal} (old new : List ℕ) → v ≡ Broken x → old ≡ left r old new
   unfolding left
-  refused-kept {x} old new e = rw (is-some {x = x} r (sym e ∙ d))
+  refused-kept old new e = rw (told r d e)
 
-  pub ended : (e : v ≡ Fine) (end end′ : ℕ) → end ≡ end′ → Ends end ≡ wrote r end′
+  pub ended : (e : v ≡ Kept) (end end′ : ℕ) → end ≡ end′ → Ends end ≡ wrote r end′
   unfolding wrote
-  ended e end end′ h = rw (is-none r (sym e ∙ d), h)
+  ended e end end′ h = rw (told-kept r d e, h)
 
-  pub written : {k : List ℕ} → v ≡ Fine → (old new : List ℕ) → k ≡ new → k ≡ left r old new
+  pub written : {k : List ℕ} → v ≡ Kept → (old new : List ℕ) → k ≡ new → k ≡ left r old new
   unfolding left
-  written e old new h = rw (is-none r (sym e ∙ d)) h
+  written e old new h = rw (told-kept r d e) h
 
 -- ── 1 file ───────────────────────────────────────────────────────────────────────────────────
 
-module _ {v : Asked} (h : HeadOut) (s : List ℕ) (len at : ℕ) (d : v ≡ asked (headRules (h .rows) (length s) len at)) (e : v ≡ Fine) where
+module _ {v : Ruling} (h : HeadOut) (s : List ℕ) (len at : ℕ) (d : v ≡ ruling (headRules (h .rows) (length s) len at)) (e : v ≡ Kept) where
   pub subject-fits : length s < 256
   subject-fits = let k = subject-small (length s) (fine-ok _ _ _ _ _ _ _ v d e) in omega arith
 
@@ -51,8 +54,8 @@ module _ {v : Asked} (h : HeadOut) (s : List ℕ) (len at : ℕ) (d : v ≡ aske
 
 -- ── 2 edges ──────────────────────────────────────────────────────────────────────────────────
 
-module _ {v : Asked} (fo ro io : List ℕ) (fd rd id : List ℤ) (len at : ℕ)
-    (d : v ≡ asked (edgesRules (length fo) (length fd) (length ro) (length rd) (length io) (length id) len at)) (e : v ≡ Fine) where
+module _ {v : Ruling} (fo ro io : List ℕ) (fd rd id : List ℤ) (len at : ℕ)
+    (d : v ≡ ruling (edgesRules (length fo) (length fd) (length ro) (length rd) (length io) (length id) len at)) (e : v ≡ Kept) where
   pub edges-short : 2 + setsSize (length fo) (length fd) (length ro) (length rd) (length io) (length id) < 2 ^ 32
   edges-short = sets-fit _ _ _ _ _ _ (fine-numbers _ _ _ _ _ _ _ v d e)
 
@@ -64,7 +67,7 @@ module _ {v : Asked} (fo ro io : List ℕ) (fd rd id : List ℤ) (len at : ℕ)
 
 -- ── 3 rows ───────────────────────────────────────────────────────────────────────────────────
 
-module _ {v : Asked} (flags tags : List ℕ) (len at : ℕ) (d : v ≡ asked (rowsRules (length flags) (length tags) len at)) (e : v ≡ Fine) where
+module _ {v : Ruling} (flags tags : List ℕ) (len at : ℕ) (d : v ≡ ruling (rowsRules (length flags) (length tags) len at)) (e : v ≡ Kept) where
   pub rows-even : length flags ≡ length tags
   rows-even = eqb-true _ _ (fine-ok _ _ _ _ _ _ _ v d e)
 
@@ -78,9 +81,9 @@ module _ {v : Asked} (flags tags : List ℕ) (len at : ℕ) (d : v ≡ asked (ro
 
 -- ── 4 unresolved ─────────────────────────────────────────────────────────────────────────────
 
-module _ {v : Asked} (children kinds handles : List ℕ) (len at : ℕ) (d : v ≡ asked (unresolvedRules (length children) (length kinds) (length handles) len at)) (e : v ≡ Fine) where
+module _ {v : Ruling} (children kinds handles : List ℕ) (len at : ℕ) (d : v ≡ ruling (unresolvedRules children (length kinds) (length handles) len at)) (e : v ≡ Kept) where
   unresolved-even : (length kinds ≡ length children) × (length handles ≡ length children)
-  unresolved-even = three-same _ _ _ (fine-ok _ _ _ _ _ _ _ v d e)
+  unresolved-even = three-same _ _ _ (unresolved-whole children _ _ (fine-ok _ _ _ _ _ _ _ v d e) .0)
 
   pub kinds-even : length kinds ≡ length children
   kinds-even = unresolved-even .0
@@ -92,37 +95,34 @@ module _ {v : Asked} (children kinds handles : List ℕ) (len at : ℕ) (d : v �
   unresolved-short = let k = few-first-of (length children) (length kinds ∷ length handles ∷ []) (fine-records _ _ _ _ _ _ _ v d e) in omega arith
 
   pub unresolved-end : {r : ℕ} → r ≡ at + unresolvedSize (length children)
-      → Ends r ≡ wrote (unresolvedRules (length children) (length kinds) (length handles) len at) (at + length (recordBytes 4 (countedBytes unresolvedBytes (zip3 unresolvedFrom children kinds handles))))
+      → Ends r ≡ wrote (unresolvedRules children (length kinds) (length handles) len at) (at + length (recordBytes 4 (countedBytes unresolvedBytes (zip3 unresolvedFrom children kinds handles))))
   unresolved-end {r} f =
-      ended (unresolvedRules (length children) (length kinds) (length handles) len at) v d e r _
+      ended (unresolvedRules children (length kinds) (length handles) len at) v d e r _
       (omega (arith, length-record 4 (countedBytes unresolvedBytes (zip3 unresolvedFrom children kinds handles)), unresolved-size children kinds handles kinds-even handles-even))
 
 -- ── 5 roots ──────────────────────────────────────────────────────────────────────────────────
 
-module _ {v : Asked} (rows handles : List ℕ) (len at : ℕ) (d : v ≡ asked (rootsRules (length rows) (length handles) len at)) (e : v ≡ Fine) where
+module _ {v : Ruling} (rows handles : List ℕ) (len at : ℕ) (d : v ≡ ruling (rootsRules rows (length handles) len at)) (e : v ≡ Kept) where
   pub roots-even : length handles ≡ length rows
-  roots-even = eqb-true _ _ (fine-ok _ _ _ _ _ _ _ v d e)
+  roots-even = roots-whole rows _ (fine-ok _ _ _ _ _ _ _ v d e) .0
 
   pub roots-short : 2 + (4 + length rows * 16) < 2 ^ 32
   roots-short = let k = few-first-of (length rows) (length handles ∷ []) (fine-records _ _ _ _ _ _ _ v d e) in omega arith
 
   pub roots-end : {r : ℕ} → r ≡ at + rootsSize (length rows)
-      → Ends r ≡ wrote (rootsRules (length rows) (length handles) len at) (at + length (recordBytes 5 (countedBytes rootBytes (zip2 rootFrom rows handles))))
+      → Ends r ≡ wrote (rootsRules rows (length handles) len at) (at + length (recordBytes 5 (countedBytes rootBytes (zip2 rootFrom rows handles))))
   roots-end {r} f =
-      ended (rootsRules (length rows) (length handles) len at) v d e r _ (omega (arith, length-record 5 (countedBytes rootBytes (zip2 rootFrom rows handles)), roots-size rows handles roots-even))
+      ended (rootsRules rows (length handles) len at) v d e r _ (omega (arith, length-record 5 (countedBytes rootBytes (zip2 rootFrom rows handles)), roots-size rows handles roots-even))
 
 -- ── 6 cover ──────────────────────────────────────────────────────────────────────────────────
 
-module _ {v : Asked} (chains seqs ids minima maxima a b c f : List ℕ) (len at : ℕ)
-    (d : v ≡ asked (coverRules (length chains) (length seqs) (length ids) (length minima) (length maxima) (length a) (length b) (length c) (length f) len at)) (e : v ≡ Fine) where
-  ranges-even : (length minima ≡ length ids) × (length maxima ≡ length ids)
-  ranges-even = ranges-same _ _ _ _ _ _ _ _ _ (fine-ok _ _ _ _ _ _ _ v d e)
-
+module _ {v : Ruling} (chains seqs ids minima maxima a b c f : List ℕ) (len at : ℕ)
+    (d : v ≡ ruling (coverRules (length chains) (length seqs) (length ids) (length minima) (length maxima) (length a) (length b) (length c) (length f) len at)) (e : v ≡ Kept) where
   pub minima-even : length minima ≡ length ids
-  minima-even = ranges-even .0
+  minima-even = cover-even _ _ _ _ _ _ _ _ _ (fine-ok _ _ _ _ _ _ _ v d e) .least
 
   pub maxima-even : length maxima ≡ length ids
-  maxima-even = ranges-even .1
+  maxima-even = cover-even _ _ _ _ _ _ _ _ _ (fine-ok _ _ _ _ _ _ _ v d e) .greatest
 
   pub cover-short : 2 + coverBody (length chains) (length seqs) (length ids) (length a) (length b) (length c) (length f) < 2 ^ 32
   cover-short = cover-fits _ _ _ _ _ _ _ _ _ (fine-records _ _ _ _ _ _ _ v d e)

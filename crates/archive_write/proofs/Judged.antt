@@ -1,35 +1,29 @@
 -- The rules of a call that writes a record: which refusal comes first, and what holds where there is none.
 use mathlib.Core.Path.{_≡_, refl, sym, _∙_}
-use mathlib.Core.Bool.{Bool, true, false, not, _&&_, _||_, and-eq-true-iff}
+use mathlib.Core.Bool.{Bool, true, false, not, _&&_, and-eq-true-iff}
 use mathlib.Core.List.{List, [], _∷_}
-use mathlib.Core.Option.{Option, none, some}
-use Prim.Native.Nat.{ℕ, _≤_, _<_, _+_, _-_, _^_}
+use mathlib.Core.Option.{none}
+use Prim.Native.Nat.{ℕ, _≤_, _<_, _+_, _-_, _*_, _/_, _^_}
 use native.Mathlib.Omega.{arith}
 use lib.Dec.{ltb, leb, eqb}
+use lib.ListN.{length, take}
+use lib.Seq.{take-length}
 use borrow.Author.Tests.{lt-ltb, le-ltb, ltb-false, ltb-true, leb-true, eqb-true, eq-eqb, ne-eqb, not-true, not-false}
 use Rattle.lists.specs.Lists.{any}
+use Rattle.lists.specs.Order.{rising, notFalling}
 use Rattle.columns.specs.Limits.{maxRecords, maxNumbers}
-use Rattle.columns.specs.Refusal.{refuse, firstOf, Lent, short, limits}
+use Rattle.columns.specs.Refusal.{refuse, firstOf, limits}
+use Rattle.columns.specs.Answers.{ruling}
 use Rattle.columns.specs.declared.refusal.Refusal.{Refusal}
 use Rattle.columns.specs.declared.refusal.Refusal.the-variants.{SliceShort, OverRecords, OverNumbers}
-use Rattle.columns.proofs.FirstBroken.{each-none, not-refused, passed, passes}
+use Rattle.columns.specs.declared.refusal.Ruling.{Ruling}
+use Rattle.columns.specs.declared.refusal.Ruling.the-variants.{Kept, Broken}
+use Rattle.columns.proofs.FirstBroken.{each-none, not-refused, passed}
+use Rattle.columns.proofs.Told.{told-kept}
 use Rattle.cover_rows.proofs.limits.Anyone.{any-nil, few-first}
-use Rattle.cover_rows.proofs.limits.Verdicts.{limits-records, limits-numbers, limits-short, limits-none, refuse-not}
+use Rattle.cover_rows.proofs.limits.Verdicts.{limits-records, limits-numbers, limits-none}
 use Rattle.archive_store.specs.records.Sizes.{setsSize, coverBody}
-use Rattle.archive_write.specs.Writes.{writeRules, even3, evenCover, subjectFits, asked}
-use Rattle.archive_write.specs.declared.rules.Asked.{Asked}
-use Rattle.archive_write.specs.declared.rules.Asked.the-variants.{Fine, No}
-
-abbrev room : ℕ → ℕ → ℕ → List Lent
-room len at n = record { has = len; needs = at + n } ∷ []
-
-is-short : (len at n : ℕ) → any short (room len at n) ≡ ltb len (at + n)
-unfolding any short
-is-short len at n = go (ltb len (at + n))
-  where
-    go : (b : Bool) → (b || false) ≡ b
-    go true = refl
-    go false = refl
+use Rattle.archive_write.specs.Writes.{writeRules, even3, evenCover, subjectFits, wholeSets, wholeUnresolved, wholeRoots}
 
 -- ── low ──────────────────────────────────────────────────────────────────────────────────────
 
@@ -77,12 +71,73 @@ module _ (chains seqs ids minima maxima a b c d : ℕ) where
       unfolding evenCover
       links-same k g = rw (eq-eqb seqs chains h, ← e, not-false r f, eq-eqb b a k) g
 
-  pub ranges-same : evenCover chains seqs ids minima maxima a b c d ≡ true → (minima ≡ ids) × (maxima ≡ ids)
+  pub record CoverEven : Type 0 where
+    pub labels : seqs ≡ chains
+    pub least : minima ≡ ids
+    pub greatest : maxima ≡ ids
+    pub second : b ≡ a
+    pub third : c ≡ a
+    pub fourth : d ≡ a
+
+  pub cover-even : evenCover chains seqs ids minima maxima a b c d ≡ true → CoverEven
   unfolding evenCover
-  ranges-same e =
+  cover-even e =
       let p = and-eq-true-iff (eqb seqs chains) (even3 ids minima maxima && (eqb b a && even3 a c d)) .0 e in
       let q = and-eq-true-iff (even3 ids minima maxima) (eqb b a && even3 a c d) .0 (p .1) in
-      three-same ids minima maxima (q .0)
+      let s = and-eq-true-iff (eqb b a) (even3 a c d) .0 (q .1) in
+      let t = three-same ids minima maxima (q .0) in
+      let u = three-same a c d (s .1) in
+      record { labels = eqb-true seqs chains (p .0); least = t .0; greatest = t .1; second = eqb-true b a (s .0); third = u .0; fourth = u .1 }
+
+-- ── whole ────────────────────────────────────────────────────────────────────────────────────
+
+module _ (fo ro io : ℕ) where
+  pub rows-differ : (fo ≡ 2 * (fo / 2) + 1 → ⊥) → false ≡ wholeSets fo ro io
+  unfolding wholeSets
+  rows-differ h = rw (ne-eqb fo (2 * (fo / 2) + 1) h)
+
+  pub rows-agree : {r : Bool} → fo ≡ 2 * (fo / 2) + 1 → r ≡ even3 fo ro io → r ≡ wholeSets fo ro io
+  unfolding wholeSets
+  rows-agree h e = rw (eq-eqb fo (2 * (fo / 2) + 1) h) e
+
+  pub record SetsWhole : Type 0 where
+    pub forward : fo ≡ 2 * (fo / 2) + 1
+    pub reverse : ro ≡ fo
+    pub inbound : io ≡ fo
+
+  pub sets-whole : wholeSets fo ro io ≡ true → SetsWhole
+  unfolding wholeSets
+  sets-whole e =
+      let p = and-eq-true-iff (eqb fo (2 * (fo / 2) + 1)) (even3 fo ro io) .0 e in
+      let q = three-same fo ro io (p .1) in
+      record { forward = eqb-true fo (2 * (fo / 2) + 1) (p .0); reverse = q .0; inbound = q .1 }
+
+module _ (children : List ℕ) (kinds handles : ℕ) where
+  module _ {s : Bool} (d : s ≡ even3 (length children) kinds handles) where
+    pub parts-differ : not s ≡ true → false ≡ wholeUnresolved children kinds handles
+    unfolding wholeUnresolved
+    parts-differ h = rw (← d, not-true s h)
+
+    pub parts-agree : {r : Bool} → not s ≡ false → r ≡ notFalling (take (length children) children) → r ≡ wholeUnresolved children kinds handles
+    unfolding wholeUnresolved
+    parts-agree h e = rw (← d, not-false s h) (e ∙ rw (take-length children))
+
+  pub unresolved-whole : wholeUnresolved children kinds handles ≡ true → (even3 (length children) kinds handles ≡ true) × (notFalling children ≡ true)
+  unfolding wholeUnresolved
+  unresolved-whole e = and-eq-true-iff (even3 (length children) kinds handles) (notFalling children) .0 e
+
+module _ (rows : List ℕ) (handles : ℕ) where
+  pub handles-differ : (handles ≡ length rows → ⊥) → false ≡ wholeRoots rows handles
+  unfolding wholeRoots
+  handles-differ h = rw (ne-eqb handles (length rows) h)
+
+  pub handles-agree : {r : Bool} → handles ≡ length rows → r ≡ rising (take (length rows) rows) → r ≡ wholeRoots rows handles
+  unfolding wholeRoots
+  handles-agree h e = rw (eq-eqb handles (length rows) h) (e ∙ rw (take-length rows))
+
+  pub roots-whole : wholeRoots rows handles ≡ true → (handles ≡ length rows) × (rising rows ≡ true)
+  unfolding wholeRoots
+  roots-whole e = let p = and-eq-true-iff (eqb handles (length rows)) (rising rows) .0 e in (eqb-true handles (length rows) (p .0), p .1)
 
 -- ── a subject ────────────────────────────────────────────────────────────────────────────────
 
@@ -101,59 +156,54 @@ pub subject-small : (n : ℕ) → subjectFits n ≡ true → n ≤ 255
 unfolding subjectFits
 subject-small n e = leb-true n 255 (and-eq-true-iff (ltb 0 n) (leb n 255) .0 e .1)
 
+pub subject-few : {r : Bool} (n : ℕ) → r ≡ subjectFits n → not r ≡ false → n ≤ 255
+subject-few {r} n e h = subject-small n (sym e ∙ not-false r h)
+
 -- ── tests in order ───────────────────────────────────────────────────────────────────────────
 
-module _ (records columns : List ℕ) (len at n : ℕ) (x : Refusal) (ok : Bool) where
-  stops : {r : Refusal} → limits records columns (room len at n) ≡ some r → No r ≡ asked (writeRules records columns len at n x ok)
-  unfolding writeRules firstOf asked
-  stops e = rw e
+module _ (records columns : List ℕ) (x : Refusal) (ok : Bool) (len at n : ℕ) {b : Bool} (d : b ≡ any (ltb maxRecords) records) where
+  pub many-rows : b ≡ true → Broken OverRecords ≡ ruling (writeRules records columns x ok len at n)
+  unfolding writeRules firstOf
+  many-rows e = rw (limits-records records columns [] (sym d ∙ e))
 
-  module _ (e : limits records columns (room len at n) ≡ none) {u : Bool} (k : u ≡ ok) where
-    not-ok : not u ≡ true → No x ≡ asked (writeRules records columns len at n x ok)
-    unfolding writeRules firstOf asked
-    not-ok f = rw (e, refuse-not x ok (sym k ∙ not-true u f))
+  module _ (e : b ≡ false) {m : Bool} (f : m ≡ any (ltb maxNumbers) columns) where
+    pub many : m ≡ true → Broken OverNumbers ≡ ruling (writeRules records columns x ok len at n)
+    unfolding writeRules firstOf
+    many g = rw (limits-numbers records columns [] (sym d ∙ e) (sym f ∙ g))
 
-    all-fine : not u ≡ false → Fine ≡ asked (writeRules records columns len at n x ok)
-    unfolding writeRules firstOf asked
-    all-fine f = rw (e, passes x ok (sym k ∙ not-false u f))
+    module _ (g : m ≡ false) {u : Bool} (k : u ≡ ok) where
+      within : limits records columns [] ≡ none
+      unfolding any
+      within = limits-none records columns [] (sym d ∙ e) (sym f ∙ g) refl
 
--- columns of records
-module _ (records : List ℕ) (len at n : ℕ) (x : Refusal) (ok : Bool) {b : Bool} (d : b ≡ any (ltb maxRecords) records) where
-  pub over : b ≡ true → No OverRecords ≡ asked (writeRules records [] len at n x ok)
-  over e = stops records [] len at n x ok (limits-records records [] (room len at n) (sym d ∙ e))
+      pub broken : not u ≡ true → Broken x ≡ ruling (writeRules records columns x ok len at n)
+      unfolding writeRules firstOf
+      broken h = rw (within, ← k, not-true u h)
 
-  module _ (e : b ≡ false) {s : Bool} (f : s ≡ ltb len (at + n)) where
-    pub too-low : s ≡ true → No SliceShort ≡ asked (writeRules records [] len at n x ok)
-    too-low g = stops records [] len at n x ok (limits-short records [] (room len at n) (sym d ∙ e) (any-nil (ltb maxNumbers)) (is-short len at n ∙ sym f ∙ g))
+      module _ (h : not u ≡ false) {s : Bool} (i : s ≡ ltb len (at + n)) where
+        pub no-room : s ≡ true → Broken SliceShort ≡ ruling (writeRules records columns x ok len at n)
+        unfolding writeRules firstOf
+        no-room j = rw (within, ← k, not-false u h, ← i, j)
 
-    module _ (g : s ≡ false) {u : Bool} (k : u ≡ ok) where
-      within : limits records [] (room len at n) ≡ none
-      within = limits-none records [] (room len at n) (sym d ∙ e) (any-nil (ltb maxNumbers)) (is-short len at n ∙ sym f ∙ g)
+        pub none-broken : s ≡ false → Kept ≡ ruling (writeRules records columns x ok len at n)
+        unfolding writeRules firstOf
+        none-broken j = rw (within, ← k, not-false u h, ← i, j)
 
-      pub unfit : not u ≡ true → No x ≡ asked (writeRules records [] len at n x ok)
-      unfit h = not-ok records [] len at n x ok within k h
+-- a record of no other columns
+module _ (records : List ℕ) (x : Refusal) (ok : Bool) (len at n : ℕ) {b : Bool} (d : b ≡ any (ltb maxRecords) records) where
+  pub over : b ≡ true → Broken OverRecords ≡ ruling (writeRules records [] x ok len at n)
+  over e = many-rows records [] x ok len at n d e
 
-      pub fit : not u ≡ false → Fine ≡ asked (writeRules records [] len at n x ok)
-      fit h = all-fine records [] len at n x ok within k h
+  module _ (e : b ≡ false) {u : Bool} (k : u ≡ ok) where
+    pub unfit : not u ≡ true → Broken x ≡ ruling (writeRules records [] x ok len at n)
+    unfit h = broken records [] x ok len at n d e (sym (any-nil (ltb maxNumbers))) refl k h
 
--- columns of numbers
-module _ (columns : List ℕ) (len at n : ℕ) (x : Refusal) (ok : Bool) {b : Bool} (d : b ≡ any (ltb maxNumbers) columns) where
-  pub many : b ≡ true → No OverNumbers ≡ asked (writeRules [] columns len at n x ok)
-  many e = stops [] columns len at n x ok (limits-numbers [] columns (room len at n) (any-nil (ltb maxRecords)) (sym d ∙ e))
+    module _ (h : not u ≡ false) {s : Bool} (i : s ≡ ltb len (at + n)) where
+      pub too-low : s ≡ true → Broken SliceShort ≡ ruling (writeRules records [] x ok len at n)
+      too-low j = no-room records [] x ok len at n d e (sym (any-nil (ltb maxNumbers))) refl k h i j
 
-  module _ (e : b ≡ false) {s : Bool} (f : s ≡ ltb len (at + n)) where
-    pub low-numbers : s ≡ true → No SliceShort ≡ asked (writeRules [] columns len at n x ok)
-    low-numbers g = stops [] columns len at n x ok (limits-short [] columns (room len at n) (any-nil (ltb maxRecords)) (sym d ∙ e) (is-short len at n ∙ sym f ∙ g))
-
-    module _ (g : s ≡ false) {u : Bool} (k : u ≡ ok) where
-      passed-numbers : limits [] columns (room len at n) ≡ none
-      passed-numbers = limits-none [] columns (room len at n) (any-nil (ltb maxRecords)) (sym d ∙ e) (is-short len at n ∙ sym f ∙ g)
-
-      pub unfit-numbers : not u ≡ true → No x ≡ asked (writeRules [] columns len at n x ok)
-      unfit-numbers h = not-ok [] columns len at n x ok passed-numbers k h
-
-      pub fit-numbers : not u ≡ false → Fine ≡ asked (writeRules [] columns len at n x ok)
-      fit-numbers h = all-fine [] columns len at n x ok passed-numbers k h
+      pub fit : s ≡ false → Kept ≡ ruling (writeRules records [] x ok len at n)
+      fit j = none-broken records [] x ok len at n d e (sym (any-nil (ltb maxNumbers))) refl k h i j
 
 -- ── few enough ───────────────────────────────────────────────────────────────────────────────
 
@@ -205,37 +255,40 @@ sized len at k e f = rw (← e) f
 
 -- ── where nothing refuses ────────────────────────────────────────────────────────────────────
 
-pub is-none : (r : Option Refusal) → Fine ≡ asked r → r ≡ none
-unfolding asked
-is-none none e = refl
-is-none (some x) e = let z : _≡_ {A = ℕ} 0 1 = cc in absurd (omega arith)
-
-pub is-some : {x : Refusal} (r : Option Refusal) → No x ≡ asked r → r ≡ some x
-unfolding asked
-is-some none e = let z : _≡_ {A = ℕ} 0 1 = cc in absurd (omega arith)
-is-some (some y) e = cc
-
-module _ (records columns : List ℕ) (len at n : ℕ) (x : Refusal) (ok : Bool) (v : Asked) (d : v ≡ asked (writeRules records columns len at n x ok)) (e : v ≡ Fine) where
-  tests : (limits records columns (room len at n) ≡ none) × (refuse x (not ok) ≡ none)
+module _ (records columns : List ℕ) (x : Refusal) (ok : Bool) (len at n : ℕ) (e : writeRules records columns x ok len at n ≡ none) where
+  tests : (limits records columns [] ≡ none) × (refuse x (not ok) ≡ none) × (refuse SliceShort (ltb len (at + n)) ≡ none)
   unfolding writeRules
-  tests =
-      let h = each-none (limits records columns (room len at n) ∷ refuse x (not ok) ∷ []) (is-none (writeRules records columns len at n x ok) (sym e ∙ d)) in
-      (h .0, h .1 .0)
+  tests = let h = each-none (limits records columns [] ∷ refuse x (not ok) ∷ refuse SliceShort (ltb len (at + n)) ∷ []) e in (h .0, h .1 .0, h .1 .1 .0)
 
-  three : (any (ltb maxRecords) records ≡ false) × (any (ltb maxNumbers) columns ≡ false) × (any short (room len at n) ≡ false)
+  few : (any (ltb maxRecords) records ≡ false) × (any (ltb maxNumbers) columns ≡ false)
   unfolding limits
-  three =
-      let h = each-none (refuse OverRecords (any (ltb maxRecords) records) ∷ refuse OverNumbers (any (ltb maxNumbers) columns) ∷ refuse SliceShort (any short (room len at n)) ∷ []) (tests .0) in
-      (not-refused _ _ (h .0), not-refused _ _ (h .1 .0), not-refused _ _ (h .1 .1 .0))
+  few = let h = each-none (refuse OverRecords (any (ltb maxRecords) records) ∷ refuse OverNumbers (any (ltb maxNumbers) columns) ∷ _) (tests .0) in (not-refused _ _ (h .0), not-refused _ _ (h .1 .0))
+
+  pub has-room : at + n ≤ len
+  has-room = ltb-false len (at + n) (not-refused SliceShort _ (tests .2))
+
+  pub is-ok : ok ≡ true
+  is-ok = passed x ok (tests .1)
+
+  pub few-records : any (ltb maxRecords) records ≡ false
+  few-records = few .0
+
+  pub few-numbers : any (ltb maxNumbers) columns ≡ false
+  few-numbers = few .1
+
+-- the same, as the code tells it
+module _ (records columns : List ℕ) (x : Refusal) (ok : Bool) (len at n : ℕ) (v : Ruling) (d : v ≡ ruling (writeRules records columns x ok len at n)) (e : v ≡ Kept) where
+  kept : writeRules records columns x ok len at n ≡ none
+  kept = told-kept (writeRules records columns x ok len at n) d e
 
   pub fine-room : at + n ≤ len
-  fine-room = ltb-false len (at + n) (sym (is-short len at n) ∙ three .2)
+  fine-room = has-room records columns x ok len at n kept
 
   pub fine-ok : ok ≡ true
-  fine-ok = passed x ok (tests .1)
+  fine-ok = is-ok records columns x ok len at n kept
 
   pub fine-records : any (ltb maxRecords) records ≡ false
-  fine-records = three .0
+  fine-records = few-records records columns x ok len at n kept
 
   pub fine-numbers : any (ltb maxNumbers) columns ≡ false
-  fine-numbers = three .1
+  fine-numbers = few-numbers records columns x ok len at n kept

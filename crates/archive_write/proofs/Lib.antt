@@ -1,3 +1,3 @@
 pub mod Judged
 pub mod Ended
-pub mod Files
+pub mod ReadBack

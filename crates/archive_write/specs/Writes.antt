@@ -1,71 +1,82 @@
--- Document 01, "Refused for the state" and "Archive records": what a call that writes one record answers, and what the lent bytes hold after it.
+-- Document 01, "Refused for the state", "Order" and "Archive records": what a call that writes one record answers, and what the lent bytes hold after it.
 use mathlib.Core.Bool.{Bool, not, _&&_}
 use mathlib.Core.List.{List, [], _∷_}
 use mathlib.Core.Option.{Option, none, some}
-use Prim.Native.Nat.{ℕ, _+_}
+use Prim.Native.Nat.{ℕ, _+_, _/_}
 use lib.Dec.{eqb, ltb, leb}
-use Rattle.columns.specs.Limits.{maxSubject}
+use lib.ListN.{length}
+use Rattle.lists.specs.Order.{rising, notFalling}
+use Rattle.columns.specs.Limits.{kinds, maxSubject}
 use Rattle.columns.specs.Refusal.{refuse, firstOf, limits}
 use Rattle.columns.specs.declared.refusal.Refusal.{Refusal}
-use Rattle.columns.specs.declared.refusal.Refusal.the-variants.{SubjectLength, CoverForm, RecordBroken}
+use Rattle.columns.specs.declared.refusal.Refusal.the-variants.{SubjectLength, CoverForm, RecordBroken, SliceShort}
 use Rattle.archive_store.specs.records.Sizes.{headSize, setsSize, rowsSize, unresolvedSize, rootsSize, coverBody}
-use Rattle.archive_write.specs.declared.rules.Asked.{Asked}
-use Rattle.archive_write.specs.declared.rules.Asked.the-variants.{Fine, No}
+use Rattle.archive_store.specs.sizes.FileSize.{offsetsOf}
 use Rattle.archive_write.specs.declared.writer.Wrote.{Wrote}
 use Rattle.archive_write.specs.declared.writer.Wrote.the-variants.{Ends, Refused}
 
 -- ── rules ────────────────────────────────────────────────────────────────────────────────────
 
--- 42 and 43 of the columns, 41 where fewer than n bytes are left from the place on, then x unless the record can be made
-unfoldable pub writeRules : List ℕ → List ℕ → ℕ → ℕ → ℕ → Refusal → Bool → Option Refusal
-writeRules records columns len at n x ok = firstOf (limits records columns (record { has = len; needs = at + n } ∷ []) ∷ refuse x (not ok) ∷ [])
+-- 42 and 43 of what is lent; then x, unless the record would be read back; last 41, where fewer than n bytes are left from the place on
+unfoldable pub writeRules : List ℕ → List ℕ → Refusal → Bool → ℕ → ℕ → ℕ → Option Refusal
+writeRules records columns x ok len at n = firstOf (limits records columns [] ∷ refuse x (not ok) ∷ refuse SliceShort (ltb len (at + n)) ∷ [])
 
 -- columns of a record are equal in number
 unfoldable pub even3 : ℕ → ℕ → ℕ → Bool
 even3 a b c = eqb b a && eqb c a
-
-unfoldable pub evenCover : ℕ → ℕ → ℕ → ℕ → ℕ → ℕ → ℕ → ℕ → ℕ → Bool
-evenCover chains seqs ids minima maxima a b c d = eqb seqs chains && (even3 ids minima maxima && (eqb b a && even3 a c d))
 
 -- 1: a subject of 1 to 255 bytes
 unfoldable pub subjectFits : ℕ → Bool
 subjectFits n = ltb 0 n && leb n maxSubject
 
 abbrev pub headRules : ℕ → ℕ → ℕ → ℕ → Option Refusal
-headRules rows subject len at = writeRules (rows ∷ []) [] len at (headSize subject) SubjectLength (subjectFits subject)
+headRules rows subject len at = writeRules (rows ∷ []) [] SubjectLength (subjectFits subject) len at (headSize subject)
 
--- 2: the offset columns of a record's sets are equal in number
+-- 2: the rows that a set of so many offsets is of
+abbrev pub rowsOf : ℕ → ℕ
+rowsOf offsets = offsets / kinds
+
+-- a record's three sets are of the same rows, with as many offsets as a set of that many rows has
+unfoldable pub wholeSets : ℕ → ℕ → ℕ → Bool
+wholeSets fo ro io = eqb fo (offsetsOf (rowsOf fo)) && even3 fo ro io
+
 abbrev pub edgesRules : ℕ → ℕ → ℕ → ℕ → ℕ → ℕ → ℕ → ℕ → Option Refusal
 edgesRules fo fd ro rd io id len at =
-    writeRules [] (fo ∷ fd ∷ ro ∷ rd ∷ io ∷ id ∷ []) len at (6 + setsSize fo fd ro rd io id) RecordBroken (even3 fo ro io)
+    writeRules (rowsOf fo ∷ rowsOf ro ∷ rowsOf io ∷ []) (fo ∷ fd ∷ ro ∷ rd ∷ io ∷ id ∷ []) RecordBroken (wholeSets fo ro io) len at
+    (6 + setsSize fo fd ro rd io id)
 
+-- 3
 abbrev pub rowsRules : ℕ → ℕ → ℕ → ℕ → Option Refusal
-rowsRules flags tags len at = writeRules (flags ∷ tags ∷ []) [] len at (rowsSize tags) RecordBroken (eqb flags tags)
+rowsRules flags tags len at = writeRules (flags ∷ tags ∷ []) [] RecordBroken (eqb flags tags) len at (rowsSize tags)
 
-abbrev pub unresolvedRules : ℕ → ℕ → ℕ → ℕ → ℕ → Option Refusal
+-- 4: children do not fall
+unfoldable pub wholeUnresolved : List ℕ → ℕ → ℕ → Bool
+wholeUnresolved children kinds handles = even3 (length children) kinds handles && notFalling children
+
+abbrev pub unresolvedRules : List ℕ → ℕ → ℕ → ℕ → ℕ → Option Refusal
 unresolvedRules children kinds handles len at =
-    writeRules (children ∷ kinds ∷ handles ∷ []) [] len at (unresolvedSize children) RecordBroken (even3 children kinds handles)
+    writeRules (length children ∷ kinds ∷ handles ∷ []) [] RecordBroken (wholeUnresolved children kinds handles) len at
+    (unresolvedSize (length children))
 
-abbrev pub rootsRules : ℕ → ℕ → ℕ → ℕ → Option Refusal
-rootsRules rows handles len at = writeRules (rows ∷ handles ∷ []) [] len at (rootsSize rows) RecordBroken (eqb handles rows)
+-- 5: rows rise
+unfoldable pub wholeRoots : List ℕ → ℕ → Bool
+wholeRoots rows handles = eqb handles (length rows) && rising rows
+
+abbrev pub rootsRules : List ℕ → ℕ → ℕ → ℕ → Option Refusal
+rootsRules rows handles len at = writeRules (length rows ∷ handles ∷ []) [] RecordBroken (wholeRoots rows handles) len at (rootsSize (length rows))
+
+-- 6
+unfoldable pub evenCover : ℕ → ℕ → ℕ → ℕ → ℕ → ℕ → ℕ → ℕ → ℕ → Bool
+evenCover chains seqs ids minima maxima a b c d = eqb seqs chains && (even3 ids minima maxima && (eqb b a && even3 a c d))
 
 abbrev pub coverRules : ℕ → ℕ → ℕ → ℕ → ℕ → ℕ → ℕ → ℕ → ℕ → ℕ → ℕ → Option Refusal
 coverRules chains seqs ids minima maxima a b c d len at =
-    writeRules (chains ∷ seqs ∷ ids ∷ minima ∷ maxima ∷ a ∷ b ∷ c ∷ d ∷ []) [] len at (6 + coverBody chains seqs ids a b c d) CoverForm
-    (evenCover chains seqs ids minima maxima a b c d)
+    writeRules (chains ∷ seqs ∷ ids ∷ minima ∷ maxima ∷ a ∷ b ∷ c ∷ d ∷ []) [] CoverForm (evenCover chains seqs ids minima maxima a b c d) len at
+    (6 + coverBody chains seqs ids a b c d)
 
 -- ── answers ──────────────────────────────────────────────────────────────────────────────────
-
-unfoldable pub asked : Option Refusal → Asked
-asked none = Fine
-asked (some r) = No r
 
 -- the refusal, or the place after the record
 unfoldable pub wrote : Option Refusal → ℕ → Wrote
 wrote none end = Ends end
 wrote (some r) end = Refused r
-
--- the bytes after a call: as they were where it is refused
-unfoldable pub left : Option Refusal → List ℕ → List ℕ → List ℕ
-left none old new = new
-left (some r) old new = old

@@ -1,4 +1,3 @@
 // The writer of archive records: one call for each of a file's six records, from lent columns. specs/ says what each answer is.
-pub mod rules;
-pub mod sizes;
+mod rules;
 pub mod writer;

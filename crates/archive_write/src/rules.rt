@@ -1,23 +1,22 @@
-// Whether a record can be written, by its counts, the length of the lent bytes and the place.
+// Whether a record can be written: 42 and 43 of its columns, then what would break it, and last whether there is room for it from a place on.
+use archive_store::order::is_level;
+use archive_store::order::rises;
 use archive_store::records::cover_body;
 use archive_store::records::sets_size;
 use columns::refusal::Refusal;
+use columns::refusal::Ruling;
 use cover_rows::limits::seven_over;
 use cover_rows::limits::three_over;
 ghost use mathlib.Core.Path.{_≡_};
 ghost use mathlib.Core.Bool.{false};
 ghost use mathlib.Core.List.{[], _∷_};
-ghost use Prim.Native.Nat.{_+_, _≤_, _<_, _^_};
+ghost use Prim.Native.Nat.{_+_, _≤_};
 ghost use lib.Dec.{ltb, eqb};
 ghost use Rattle.lists.specs.Lists.{any};
+ghost use Rattle.columns.specs.Answers.{ruling};
 ghost use Rattle.columns.specs.Limits.{maxRecords, maxNumbers};
-ghost use Rattle.archive_store.specs.records.Sizes.{setsSize, rowsSize, unresolvedSize, rootsSize, coverBody};
-ghost use Rattle.archive_write.specs.Writes.{even3, evenCover, subjectFits, asked, headRules, edgesRules, rowsRules, unresolvedRules, rootsRules, coverRules};
-
-pub enum Asked {
-    Fine,
-    No(Refusal),
-}
+ghost use Rattle.archive_store.specs.records.Sizes.{headSize, setsSize, rowsSize, unresolvedSize, rootsSize, coverBody};
+ghost use Rattle.archive_write.specs.Writes.{even3, evenCover, subjectFits, wholeSets, wholeUnresolved, wholeRoots, headRules, edgesRules, rowsRules, unresolvedRules, rootsRules, coverRules};
 
 // Whether fewer than n bytes are left from `at` on.
 fn low(len: usize, at: usize, n: usize) -> bool
@@ -143,7 +142,42 @@ fn same_two(a: usize, b: usize) -> bool
     a == b
 }
 
-// Whether fewer bytes are left than the records of so many rows, references and roots have.
+// Three sets of the same rows, with two offsets for each row and one more.
+fn whole_sets(fo: usize, ro: usize, io: usize) -> bool
+    ensures { λ r. ⌜ r ≡ wholeSets fo ro io ⌝ }
+{
+    if fo != 2 * (fo / 2) + 1 {
+        return false;
+    }
+    same_three(fo, ro, io)
+}
+
+fn whole_unresolved(children: &[u64], kinds: usize, handles: usize) -> bool
+    ensures { λ r. ⌜ r ≡ wholeUnresolved (now (children .entry)) kinds handles ⌝ }
+{
+    if !same_three(children.len(), kinds, handles) {
+        return false;
+    }
+    is_level(children, children.len())
+}
+
+fn whole_roots(rows: &[u64], handles: usize) -> bool
+    ensures { λ r. ⌜ r ≡ wholeRoots (now (rows .entry)) handles ⌝ }
+{
+    if handles != rows.len() {
+        return false;
+    }
+    rises(rows, rows.len())
+}
+
+// Whether fewer bytes are left than the record of such a subject, of so many rows, references and roots has.
+fn low_head(n: usize, len: usize, at: usize) -> bool
+    requires { ⌜ n ≤ 255 ⌝ }
+    ensures { λ r. ⌜ r ≡ ltb len (at + headSize n) ⌝ }
+{
+    low(len, at, 6 + (31 + n))
+}
+
 fn low_rows(n: usize, len: usize, at: usize) -> bool
     requires { ⌜ n ≤ 1024 ⌝ }
     ensures { λ r. ⌜ r ≡ ltb len (at + rowsSize n) ⌝ }
@@ -202,20 +236,19 @@ fn low_cover(
     low(len, at, 6 + n)
 }
 
-pub fn head_rules(rows: u32, subject: usize, len: usize, at: usize) -> Asked
-    requires { ⌜ subject < 2 ^ 63 ⌝ }
-    ensures { λ r. ⌜ r ≡ asked (headRules rows subject len at) ⌝ }
+pub fn head_rules(rows: u32, subject: usize, len: usize, at: usize) -> Ruling
+    ensures { λ r. ⌜ r ≡ ruling (headRules rows subject len at) ⌝ }
 {
     if one_over(rows as usize) {
-        return Asked::No(Refusal::OverRecords);
-    }
-    if low(len, at, 6 + (31 + subject)) {
-        return Asked::No(Refusal::SliceShort);
+        return Ruling::Broken(Refusal::OverRecords);
     }
     if !subject_fits(subject) {
-        return Asked::No(Refusal::SubjectLength);
+        return Ruling::Broken(Refusal::SubjectLength);
     }
-    Asked::Fine
+    if low_head(subject, len, at) {
+        return Ruling::Broken(Refusal::SliceShort);
+    }
+    Ruling::Kept
 }
 
 pub fn edges_rules(
@@ -227,70 +260,73 @@ pub fn edges_rules(
     id: usize,
     len: usize,
     at: usize,
-) -> Asked
-    ensures { λ r. ⌜ r ≡ asked (edgesRules fo fd ro rd io id len at) ⌝ }
+) -> Ruling
+    ensures { λ r. ⌜ r ≡ ruling (edgesRules fo fd ro rd io id len at) ⌝ }
 {
+    if three_over(fo / 2, ro / 2, io / 2) {
+        return Ruling::Broken(Refusal::OverRecords);
+    }
     if six_many(fo, fd, ro, rd, io, id) {
-        return Asked::No(Refusal::OverNumbers);
+        return Ruling::Broken(Refusal::OverNumbers);
+    }
+    if !whole_sets(fo, ro, io) {
+        return Ruling::Broken(Refusal::RecordBroken);
     }
     if low_sets(fo, fd, ro, rd, io, id, len, at) {
-        return Asked::No(Refusal::SliceShort);
+        return Ruling::Broken(Refusal::SliceShort);
     }
-    if !same_three(fo, ro, io) {
-        return Asked::No(Refusal::RecordBroken);
-    }
-    Asked::Fine
+    Ruling::Kept
 }
 
-pub fn rows_rules(flags: usize, tags: usize, len: usize, at: usize) -> Asked
-    ensures { λ r. ⌜ r ≡ asked (rowsRules flags tags len at) ⌝ }
+pub fn rows_rules(flags: usize, tags: usize, len: usize, at: usize) -> Ruling
+    ensures { λ r. ⌜ r ≡ ruling (rowsRules flags tags len at) ⌝ }
 {
     if two_over(flags, tags) {
-        return Asked::No(Refusal::OverRecords);
-    }
-    if low_rows(tags, len, at) {
-        return Asked::No(Refusal::SliceShort);
+        return Ruling::Broken(Refusal::OverRecords);
     }
     if !same_two(flags, tags) {
-        return Asked::No(Refusal::RecordBroken);
+        return Ruling::Broken(Refusal::RecordBroken);
     }
-    Asked::Fine
+    if low_rows(tags, len, at) {
+        return Ruling::Broken(Refusal::SliceShort);
+    }
+    Ruling::Kept
 }
 
 pub fn unresolved_rules(
-    children: usize,
+    children: &[u64],
     kinds: usize,
     handles: usize,
     len: usize,
     at: usize,
-) -> Asked
-    ensures { λ r. ⌜ r ≡ asked (unresolvedRules children kinds handles len at) ⌝ }
+) -> Ruling
+    ensures { λ r. ⌜ r ≡ ruling (unresolvedRules (now (children .entry)) kinds handles len at) ⌝ }
 {
-    if three_over(children, kinds, handles) {
-        return Asked::No(Refusal::OverRecords);
+    if three_over(children.len(), kinds, handles) {
+        return Ruling::Broken(Refusal::OverRecords);
     }
-    if low_unresolved(children, len, at) {
-        return Asked::No(Refusal::SliceShort);
+    if !whole_unresolved(children, kinds, handles) {
+        return Ruling::Broken(Refusal::RecordBroken);
     }
-    if !same_three(children, kinds, handles) {
-        return Asked::No(Refusal::RecordBroken);
+    if low_unresolved(children.len(), len, at) {
+        return Ruling::Broken(Refusal::SliceShort);
     }
-    Asked::Fine
+    Ruling::Kept
 }
 
-pub fn roots_rules(rows: usize, handles: usize, len: usize, at: usize) -> Asked
-    ensures { λ r. ⌜ r ≡ asked (rootsRules rows handles len at) ⌝ }
+pub fn roots_rules(rows: &[u64], handles: usize, len: usize, at: usize) -> Ruling
+    ensures { λ r. ⌜ r ≡ ruling (rootsRules (now (rows .entry)) handles len at) ⌝ }
 {
-    if two_over(rows, handles) {
-        return Asked::No(Refusal::OverRecords);
+    if two_over(rows.len(), handles) {
+        return Ruling::Broken(Refusal::OverRecords);
     }
-    if low_roots(rows, len, at) {
-        return Asked::No(Refusal::SliceShort);
+    if !whole_roots(rows, handles) {
+        return Ruling::Broken(Refusal::RecordBroken);
     }
-    if !same_two(handles, rows) {
-        return Asked::No(Refusal::RecordBroken);
+    if low_roots(rows.len(), len, at) {
+        return Ruling::Broken(Refusal::SliceShort);
     }
-    Asked::Fine
+    Ruling::Kept
 }
 
 pub fn cover_rules(
@@ -305,17 +341,17 @@ pub fn cover_rules(
     d: usize,
     len: usize,
     at: usize,
-) -> Asked
-    ensures { λ r. ⌜ r ≡ asked (coverRules chains seqs ids minima maxima a b c d len at) ⌝ }
+) -> Ruling
+    ensures { λ r. ⌜ r ≡ ruling (coverRules chains seqs ids minima maxima a b c d len at) ⌝ }
 {
     if nine_over(chains, seqs, ids, minima, maxima, a, b, c, d) {
-        return Asked::No(Refusal::OverRecords);
-    }
-    if low_cover(chains, seqs, ids, minima, maxima, a, b, c, d, len, at) {
-        return Asked::No(Refusal::SliceShort);
+        return Ruling::Broken(Refusal::OverRecords);
     }
     if !same_cover(chains, seqs, ids, minima, maxima, a, b, c, d) {
-        return Asked::No(Refusal::CoverForm);
+        return Ruling::Broken(Refusal::CoverForm);
     }
-    Asked::Fine
+    if low_cover(chains, seqs, ids, minima, maxima, a, b, c, d, len, at) {
+        return Ruling::Broken(Refusal::SliceShort);
+    }
+    Ruling::Kept
 }

@@ -1,5 +1,4 @@
 // Each of a file's six records, written into lent bytes at a place: the place after it, or a refusal that leaves the bytes as they were.
-use crate::rules::Asked;
 use crate::rules::cover_rules;
 use crate::rules::edges_rules;
 use crate::rules::head_rules;
@@ -14,14 +13,16 @@ use archive_store::records::record_roots;
 use archive_store::records::record_rows;
 use archive_store::records::record_unresolved;
 use columns::refusal::Refusal;
+use columns::refusal::Ruling;
 ghost use mathlib.Core.Path.{_≡_};
 ghost use Prim.Native.Nat.{_+_};
 ghost use lib.ListN.{length};
 ghost use lib.Seq.{sets};
 ghost use Rattle.lists.specs.Lists.{flat};
+ghost use Rattle.archive_bytes.specs.After.{left};
 ghost use Rattle.archive.specs.Encode.{recordBytes, setsBytes, rowBytes, unresolvedBytes, rootBytes, coverBytes, countedBytes};
 ghost use Rattle.archive_store.specs.Lent.{zip2, zip3, headFrom, setFrom, rowFrom, unresolvedFrom, rootFrom, rangeFrom, linksFrom, coverFrom};
-ghost use Rattle.archive_write.specs.Writes.{headRules, edgesRules, rowsRules, unresolvedRules, rootsRules, coverRules, wrote, left};
+ghost use Rattle.archive_write.specs.Writes.{headRules, edgesRules, rowsRules, unresolvedRules, rootsRules, coverRules, wrote};
 
 pub enum Wrote {
     Ends(usize),
@@ -35,8 +36,8 @@ pub fn write_head(out: &mut [u8], at: usize, h: HeadOut, s: &[u8]) -> Wrote
 {
     let v = head_rules(h.rows, s.len(), out.len(), at);
     match v {
-        Asked::No(x) => Wrote::Refused(x),
-        Asked::Fine => Wrote::Ends(record_head(out, at, h, s)),
+        Ruling::Broken(x) => Wrote::Refused(x),
+        Ruling::Kept => Wrote::Ends(record_head(out, at, h, s)),
     }
 }
 
@@ -65,8 +66,8 @@ pub fn write_edges(
         at,
     );
     match v {
-        Asked::No(x) => Wrote::Refused(x),
-        Asked::Fine => Wrote::Ends(record_edges(out, at, fo, fd, ro, rd, io, id)),
+        Ruling::Broken(x) => Wrote::Refused(x),
+        Ruling::Kept => Wrote::Ends(record_edges(out, at, fo, fd, ro, rd, io, id)),
     }
 }
 
@@ -77,8 +78,8 @@ pub fn write_rows(out: &mut [u8], at: usize, flags: &[u8], tags: &[u64]) -> Wrot
 {
     let v = rows_rules(flags.len(), tags.len(), out.len(), at);
     match v {
-        Asked::No(x) => Wrote::Refused(x),
-        Asked::Fine => Wrote::Ends(record_rows(out, at, flags, tags)),
+        Ruling::Broken(x) => Wrote::Refused(x),
+        Ruling::Kept => Wrote::Ends(record_rows(out, at, flags, tags)),
     }
 }
 
@@ -90,25 +91,25 @@ pub fn write_unresolved(
     kinds: &[u8],
     handles: &[u32],
 ) -> Wrote
-    ensures { λ r. ⌜ r ≡ wrote (unresolvedRules (length (now (children .entry))) (length (now (kinds .entry))) (length (now (handles .entry))) (length (now (out .entry))) at) (at + length (recordBytes 4 (countedBytes unresolvedBytes (zip3 unresolvedFrom (now (children .entry)) (now (kinds .entry)) (now (handles .entry)))))) ⌝ }
-    ensures { λ _. ⌜ now (out .exit) ≡ left (unresolvedRules (length (now (children .entry))) (length (now (kinds .entry))) (length (now (handles .entry))) (length (now (out .entry))) at) (now (out .entry)) (sets (now (out .entry)) at (recordBytes 4 (countedBytes unresolvedBytes (zip3 unresolvedFrom (now (children .entry)) (now (kinds .entry)) (now (handles .entry)))))) ⌝ }
+    ensures { λ r. ⌜ r ≡ wrote (unresolvedRules (now (children .entry)) (length (now (kinds .entry))) (length (now (handles .entry))) (length (now (out .entry))) at) (at + length (recordBytes 4 (countedBytes unresolvedBytes (zip3 unresolvedFrom (now (children .entry)) (now (kinds .entry)) (now (handles .entry)))))) ⌝ }
+    ensures { λ _. ⌜ now (out .exit) ≡ left (unresolvedRules (now (children .entry)) (length (now (kinds .entry))) (length (now (handles .entry))) (length (now (out .entry))) at) (now (out .entry)) (sets (now (out .entry)) at (recordBytes 4 (countedBytes unresolvedBytes (zip3 unresolvedFrom (now (children .entry)) (now (kinds .entry)) (now (handles .entry)))))) ⌝ }
 {
-    let v = unresolved_rules(children.len(), kinds.len(), handles.len(), out.len(), at);
+    let v = unresolved_rules(children, kinds.len(), handles.len(), out.len(), at);
     match v {
-        Asked::No(x) => Wrote::Refused(x),
-        Asked::Fine => Wrote::Ends(record_unresolved(out, at, children, kinds, handles)),
+        Ruling::Broken(x) => Wrote::Refused(x),
+        Ruling::Kept => Wrote::Ends(record_unresolved(out, at, children, kinds, handles)),
     }
 }
 
 // 5: state roots, each of a row and a handle.
 pub fn write_roots(out: &mut [u8], at: usize, rows: &[u64], handles: &[u64]) -> Wrote
-    ensures { λ r. ⌜ r ≡ wrote (rootsRules (length (now (rows .entry))) (length (now (handles .entry))) (length (now (out .entry))) at) (at + length (recordBytes 5 (countedBytes rootBytes (zip2 rootFrom (now (rows .entry)) (now (handles .entry)))))) ⌝ }
-    ensures { λ _. ⌜ now (out .exit) ≡ left (rootsRules (length (now (rows .entry))) (length (now (handles .entry))) (length (now (out .entry))) at) (now (out .entry)) (sets (now (out .entry)) at (recordBytes 5 (countedBytes rootBytes (zip2 rootFrom (now (rows .entry)) (now (handles .entry)))))) ⌝ }
+    ensures { λ r. ⌜ r ≡ wrote (rootsRules (now (rows .entry)) (length (now (handles .entry))) (length (now (out .entry))) at) (at + length (recordBytes 5 (countedBytes rootBytes (zip2 rootFrom (now (rows .entry)) (now (handles .entry)))))) ⌝ }
+    ensures { λ _. ⌜ now (out .exit) ≡ left (rootsRules (now (rows .entry)) (length (now (handles .entry))) (length (now (out .entry))) at) (now (out .entry)) (sets (now (out .entry)) at (recordBytes 5 (countedBytes rootBytes (zip2 rootFrom (now (rows .entry)) (now (handles .entry)))))) ⌝ }
 {
-    let v = roots_rules(rows.len(), handles.len(), out.len(), at);
+    let v = roots_rules(rows, handles.len(), out.len(), at);
     match v {
-        Asked::No(x) => Wrote::Refused(x),
-        Asked::Fine => Wrote::Ends(record_roots(out, at, rows, handles)),
+        Ruling::Broken(x) => Wrote::Refused(x),
+        Ruling::Kept => Wrote::Ends(record_roots(out, at, rows, handles)),
     }
 }
 
@@ -143,8 +144,8 @@ pub fn write_cover(
         at,
     );
     match v {
-        Asked::No(x) => Wrote::Refused(x),
-        Asked::Fine => Wrote::Ends(record_cover(
+        Ruling::Broken(x) => Wrote::Refused(x),
+        Ruling::Kept => Wrote::Ends(record_cover(
             out,
             at,
             chains,

@@ -4,6 +4,7 @@ use archive_read::files::Summed;
 use archive_read::files::sum_up;
 use columns::refusal::Refusal;
 use libc::STDOUT_FILENO;
+use messages::input::read_whole;
 use run_state::Writing;
 
 enum Outcome {
@@ -17,7 +18,7 @@ fn events_of(bytes: &[u8]) -> usize {
     let x = sum_up(bytes);
     match x {
         Summed::Sums(t) => t.events,
-        Summed::Broken => 0,
+        Summed::Refused(_) => 0,
     }
 }
 
@@ -25,7 +26,7 @@ fn files_of(bytes: &[u8]) -> usize {
     let x = sum_up(bytes);
     match x {
         Summed::Sums(t) => t.files,
-        Summed::Broken => 0,
+        Summed::Refused(_) => 0,
     }
 }
 
@@ -63,11 +64,20 @@ fn check_bytes(bytes: &[u8]) -> Outcome {
     }
 }
 
+fn unread() -> Outcome {
+    io::write_all(STDOUT_FILENO, b"cannot be read\n");
+    Outcome::Unread
+}
+
 // Reads an open file, of at most 655,360 bytes, and checks it.
 fn check_file(fd: i32) -> Outcome {
     let mut input = messages::input_room();
-    let n = io::read_full(fd, &mut input);
+    let r = read_whole(fd, &mut input);
     libc::close(fd);
+    if r.is_failed {
+        return unread();
+    }
+    let n = r.count;
     if 655360 < n {
         messages::tell_refusal(STDOUT_FILENO, Refusal::SliceShort);
         return Outcome::Refused;
@@ -80,8 +90,7 @@ fn check_named(path: &[u8]) -> Outcome {
     io::write_all(STDOUT_FILENO, b": ");
     let fd = os::open_read(path);
     if fd < 0 {
-        io::write_all(STDOUT_FILENO, b"cannot be read\n");
-        return Outcome::Unread;
+        return unread();
     }
     check_file(fd)
 }

@@ -1,9 +1,10 @@
 // Cleans an archive: its bytes come on standard input, the cleaned archive goes to standard output. A refusal writes nothing there, and one line to
-// standard error.
+// standard error; an input that cannot be read to its end is told so there too, and nothing is cleaned of it.
 use columns::refusal::Refusal;
 use libc::STDERR_FILENO;
 use libc::STDIN_FILENO;
 use libc::STDOUT_FILENO;
+use messages::input::read_whole;
 use run_state::Writing;
 
 // Cleans bytes, and writes what they are cleaned to.
@@ -25,7 +26,12 @@ fn clean(bytes: &[u8]) {
 // An archive of more than 655,360 bytes is refused with 41.
 fn main() {
     let mut input = messages::input_room();
-    let n = io::read_full(STDIN_FILENO, &mut input);
+    let r = read_whole(STDIN_FILENO, &mut input);
+    if r.is_failed {
+        os::fail(b"standard input cannot be read");
+        return;
+    }
+    let n = r.count;
     if 655360 < n {
         messages::tell_refusal(STDERR_FILENO, Refusal::SliceShort);
         return;

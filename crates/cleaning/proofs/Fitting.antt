@@ -1,14 +1,14 @@
 -- What a file's form and 22 give of its source, and what 42 gives of all: numbers within their bits, as many labels as rows, figures within the limits.
 use mathlib.Core.Path.{_≡_, refl, sym, _∙_}
 use mathlib.Core.Bool.{true, false, _&&_, _||_}
-use mathlib.Core.List.{List, [], _∷_, map, map-map}
+use mathlib.Core.List.{List, [], _∷_, _++_, map, map-map, map-append}
 use mathlib.Core.Option.{Option, none, some}
 use Prim.Native.Nat.{ℕ, _+_, _≤_, _<_, _^_}
 use native.Mathlib.Omega.{arith}
 use lib.Dec.{ltb}
 use lib.ListN.{length}
 use borrow.Author.Tests.{ltb-true, ltb-false}
-use Rattle.lists.specs.Lists.{all, sum, once, Each}
+use Rattle.lists.specs.Lists.{all, sum, once, last, Each}
 use Rattle.lists.proofs.Tests.{both, all-each}
 use Rattle.lists.proofs.Each.{each-imp}
 use Rattle.lists.proofs.Once.{or-is-false}
@@ -20,11 +20,12 @@ use Rattle.cover.proofs.Stored.{length-sums}
 use Rattle.columns.specs.declared.refusal.Refusal.the-variants.{CoverForm}
 use Rattle.archive.specs.File.{CoverColumns, File}
 use Rattle.archive.specs.Fits.{Wide, DepthFits, UnresolvedFits, RootFits, LinksFit, CoverFitsIn, FileFits}
-use Rattle.cleaning.specs.Source.{SourceCover, Source, coverRead, sourceOf, linkCount}
+use Rattle.cleaning.specs.Source.{SourceCover, Source, coverRead, sourceOf, rangeCount, linkCount}
 use Rattle.cleaning.specs.Taking.{total, groupCount, storedRanges, storedLinkCount, overRecords, coverRules, fileRules, filesRules}
 use Rattle.cleaning.proofs.Good.{LinkFits}
 use Rattle.columns.proofs.FirstBroken.{each-none, passed}
 use Rattle.cleaning.proofs.Taken.{cover-rules}
+use Rattle.lists.proofs.Flat.{sum-append}
 use Rattle.lists.proofs.Sums.{sum-map, sum-ext}
 
 abbrev pub LabelFits : Label → Type 0
@@ -126,31 +127,45 @@ links-taken before (f ∷ fs) e h =
     let r = each-none (fileRules before f ∷ filesRules (some (sourceOf f)) fs ∷ []) e in
     (same-links (length (f .rows)) (f .cover) (cover-rules before f (r .0)) (h .0 .cover), links-taken (some (sourceOf f)) fs (r .1 .0) (h .1))
 
-within : (limit a : ℕ) → ltb limit (0 + a) ≡ false → a ≤ limit
-within limit a e = omega (arith, ltb-false limit (0 + a) e)
-
-pub limited-taken : (fs : List File) → filesRules none fs ≡ none → Each FileFits fs → overRecords [] fs ≡ false → Limited (map sourceOf fs)
-unfolding overRecords total groupCount sum sourceOf
-limited-taken fs r h e =
-    let rows = ltb maxRecords (0 + sum (λ f. length (f .rows)) fs) in
-    let roots = ltb maxRecords (0 + sum (λ f. length (f .roots)) fs) in
-    let unresolved = ltb maxRecords (0 + sum (λ f. length (f .unresolved)) fs) in
-    let ranges = ltb maxRecords (0 + sum (λ f. storedRanges (f .cover)) fs) in
-    let links = ltb maxRecords (0 + sum (λ f. storedLinkCount (f .cover)) fs) in
-    let groups = ltb maxGroups (groupCount [] fs) in
+-- of the sources of a run and the files that it takes
+pub limited-more : (ss : List Source) (fs : List File) → filesRules (last ss) fs ≡ none → Each FileFits fs → overRecords ss fs ≡ false
+    → Limited (ss ++ map sourceOf fs)
+unfolding overRecords total groupCount sourceOf
+limited-more ss fs r h e =
+    let rows = ltb maxRecords (sum (λ s. length (s .rows)) ss + sum (λ f. length (f .rows)) fs) in
+    let roots = ltb maxRecords (sum (λ s. length (s .roots)) ss + sum (λ f. length (f .roots)) fs) in
+    let unresolved = ltb maxRecords (sum (λ s. length (s .unresolved)) ss + sum (λ f. length (f .unresolved)) fs) in
+    let ranges = ltb maxRecords (sum (λ s. rangeCount (s .cover)) ss + sum (λ f. storedRanges (f .cover)) fs) in
+    let links = ltb maxRecords (sum (λ s. linkCount (s .cover)) ss + sum (λ f. storedLinkCount (f .cover)) fs) in
+    let groups = ltb maxGroups (groupCount ss fs) in
     let t5 = or-is-false (rows || roots || unresolved || ranges || links) groups e in
     let t4 = or-is-false (rows || roots || unresolved || ranges) links (t5 .0) in
     let t3 = or-is-false (rows || roots || unresolved) ranges (t4 .0) in
     let t2 = or-is-false (rows || roots) unresolved (t3 .0) in
     let t1 = or-is-false rows roots (t2 .0) in
     record {
-      events = omega (arith, within maxRecords (sum (λ f. length (f .rows)) fs) (t1 .0), sum-map (λ s. length (s .rows)) sourceOf fs);
-      references = omega (arith, within maxRecords (sum (λ f. length (f .unresolved)) fs) (t2 .1), sum-map (λ s. length (s .unresolved)) sourceOf fs);
+      events = omega (
+        arith,
+        ltb-false maxRecords (sum (λ s. length (s .rows)) ss + sum (λ f. length (f .rows)) fs) (t1 .0),
+        sum-append (λ s. length (s .rows)) ss (map sourceOf fs),
+        sum-map (λ s. length (s .rows)) sourceOf fs,
+      );
+      references = omega (
+        arith,
+        ltb-false maxRecords (sum (λ s. length (s .unresolved)) ss + sum (λ f. length (f .unresolved)) fs) (t2 .1),
+        sum-append (λ s. length (s .unresolved)) ss (map sourceOf fs),
+        sum-map (λ s. length (s .unresolved)) sourceOf fs,
+      );
       links = omega (
         arith,
-        within maxRecords (sum (λ f. storedLinkCount (f .cover)) fs) (t4 .1),
+        ltb-false maxRecords (sum (λ s. linkCount (s .cover)) ss + sum (λ f. storedLinkCount (f .cover)) fs) (t4 .1),
+        sum-append (λ s. linkCount (s .cover)) ss (map sourceOf fs),
         sum-map (λ s. linkCount (s .cover)) sourceOf fs,
-        sum-ext (λ f. linkCount ((sourceOf f) .cover)) (λ f. storedLinkCount (f .cover)) fs (links-taken none fs r h),
+        sum-ext (λ f. linkCount ((sourceOf f) .cover)) (λ f. storedLinkCount (f .cover)) fs (links-taken (last ss) fs r h),
       );
-      groups = rw (map-map (λ s. s .group) sourceOf fs) (ltb-false maxGroups (groupCount [] fs) (t5 .1));
+      groups = rw (map-append (λ s. s .group) ss (map sourceOf fs), map-map (λ s. s .group) sourceOf fs) (ltb-false maxGroups (groupCount ss fs) (t5 .1));
     }
+
+pub limited-taken : (fs : List File) → filesRules none fs ≡ none → Each FileFits fs → overRecords [] fs ≡ false → Limited (map sourceOf fs)
+unfolding last
+limited-taken fs r h e = limited-more [] fs r h e

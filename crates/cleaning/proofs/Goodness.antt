@@ -17,7 +17,8 @@ use Rattle.cleaning.specs.Cleaning.{count, survivors}
 use Rattle.cleaning.specs.Memo.{tables}
 use Rattle.cleaning.specs.Summary.{keptBy, groupSummary, summary}
 use Rattle.cleaning.specs.Resolving.{entries, groupsSurvive}
-use Rattle.cleaning.specs.Accepted.{archiveOfFiles, Cleanable}
+use Rattle.cleaning.specs.History.{archiveOfFiles}
+use Rattle.cleaning.specs.Accepted.{Cleanable}
 use Rattle.cleaning.proofs.Good.{GoodBody, Good}
 use Rattle.cleaning.proofs.Survivors.{length-survivors}
 use Rattle.cleaning.proofs.Taken.{Sound, Followed, taken-followed}

@@ -1,5 +1,5 @@
 -- A run's calls over what it holds are its calls over its sources: the steps of specs/Runs are those of specs/Step.
-use mathlib.Core.Path.{_≡_, refl, ap, sym, _∙_, subst}
+use mathlib.Core.Path.{_≡_, refl, ap, ap₂, sym, _∙_, subst}
 use mathlib.Core.Bool.{not}
 use mathlib.Core.List.{List, [], _∷_, map, foldl, foldl-append}
 use mathlib.Core.Option.{Option, none, some}
@@ -20,7 +20,8 @@ use Rattle.cleaning.specs.Memo.{tables}
 use Rattle.cleaning.specs.Summary.{tabled}
 use Rattle.cleaning.specs.Resolving.{resolveRules}
 use Rattle.cleaning.specs.Writing.{written}
-use Rattle.cleaning.specs.Step.{Call, takes, resolves, writes, maps, counts, done, told, counted, State, taking, resolved, spoiled, Outcome, takeMore, resolveBy, writeInto, resolve, step}
+use Rattle.cleaning.specs.Listed.{listed}
+use Rattle.cleaning.specs.Step.{Call, takes, resolves, writes, maps, counts, lists, done, told, counted, State, taking, resolved, spoiled, Outcome, takeMore, resolveBy, writeInto, listInto, resolve, step}
 use Rattle.cleaning.specs.Sheet.{Sheet, summaryOf}
 use Rattle.cleaning.specs.Held.{Held, nothing, heldWith, heldOf, archiveHeld, holdMore}
 use Rattle.cleaning.specs.Survivors.{survivorSheet}
@@ -98,6 +99,10 @@ module _ (t : Taken) (f : Followed none (t .sources)) where
 followed-of : (t : Taken) (ss : List Source) → t .sources ≡ ss → Followed none ss → Followed none (t .sources)
 followed-of t ss e f = subst (Followed none) (sym e) f
 
+surviving-sheet : (t : Taken) (ts : List (List (List ℕ))) (ss : List Source) → t .sources ≡ ss → Followed none ss → ts ≡ tables (archiveOf t)
+    → summaryOf (surviving t ts) ≡ tabled (archiveOf t) ts
+surviving-sheet t ts ss e f k = ap (λ us. summaryOf (surviving t us)) k ∙ surviving-tabled t (followed-of t ss e f) ∙ ap (tabled (archiveOf t)) (sym k)
+
 pub run-step : (s : State) (c : Call) (ss : List Source) → Inv s ss → runStep (hold s) c ≡ holdOutcome (step s c)
 unfolding runStep step hold Inv
 run-step (taking t) (takes b) ss i = take-held t (parse b) (followed-of t ss (i .0) (i .1))
@@ -105,13 +110,16 @@ run-step (taking t) resolves ss i = resolve-held t (followed-of t ss (i .0) (i .
 run-step (taking t) (writes room) ss i = refl
 run-step (taking t) (maps p) ss i = refl
 run-step (taking t) counts ss i = refl
+run-step (taking t) (lists room) ss i = refl
 run-step (resolved t ts) (takes b) ss i = refl
 run-step (resolved t ts) resolves ss i = refl
 run-step (resolved t ts) (writes room) ss i =
-    ap (λ S. runOutcome (RunState.resolved (heldOf (t .sources)) (surviving t ts)) (writeInto room (written S)))
-    (ap (λ us. summaryOf (surviving t us)) (i .2) ∙ surviving-tabled t (followed-of t ss (i .0) (i .1)) ∙ ap (tabled (archiveOf t)) (sym (i .2)))
+    ap (λ S. runOutcome (RunState.resolved (heldOf (t .sources)) (surviving t ts)) (writeInto room (written S))) (surviving-sheet t ts ss (i .0) (i .1) (i .2))
 run-step (resolved t ts) (maps p) ss i =
     ap (λ A. runOutcome (RunState.resolved (heldOf (t .sources)) (surviving t ts)) (told (mapped A p))) (archive-held (t .sources) (followed-of t ss (i .0) (i .1)))
 run-step (resolved t ts) counts ss i =
     ap (λ A. runOutcome (RunState.resolved (heldOf (t .sources)) (surviving t ts)) (counted (reparented A))) (archive-held (t .sources) (followed-of t ss (i .0) (i .1)))
+run-step (resolved t ts) (lists room) ss i =
+    ap₂ (λ A S. runOutcome (RunState.resolved (heldOf (t .sources)) (surviving t ts)) (listInto (listed room A S)))
+    (archive-held (t .sources) (followed-of t ss (i .0) (i .1))) (surviving-sheet t ts ss (i .0) (i .1) (i .2))
 run-step spoiled c ss i = refl

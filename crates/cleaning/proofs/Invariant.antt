@@ -15,7 +15,7 @@ use Rattle.cleaning.specs.Taking.{overRecords, overNumbers, filesRules, 
 use Rattle.cleaning.specs.Archive.{Taken, archiveOf}
 use Rattle.cleaning.specs.Memo.{tables}
 use Rattle.cleaning.specs.Resolving.{resolveRules}
-use Rattle.cleaning.specs.Step.{Call, takes, resolves, writes, maps, counts, State, taking, resolved, spoiled, Outcome, takeMore, resolveBy, resolve, step}
+use Rattle.cleaning.specs.Step.{Call, takes, resolves, writes, maps, counts, lists, State, taking, resolved, spoiled, Outcome, takeMore, resolveBy, resolve, step}
 use Rattle.cleaning.specs.History.{did, history, took}
 use Rattle.columns.proofs.FirstBroken.{each-none}
 use Rattle.cleaning.proofs.Taken.{Followed, taken-followed, followed-append}
@@ -69,11 +69,13 @@ step-after (taking t) resolves ss i = resolve-after t (resolveRules t (archiveOf
 step-after (taking t) (writes room) ss i = quiet (taking t) ss i
 step-after (taking t) (maps p) ss i = quiet (taking t) ss i
 step-after (taking t) counts ss i = quiet (taking t) ss i
+step-after (taking t) (lists room) ss i = quiet (taking t) ss i
 step-after (resolved t ts) (takes b) ss i = quiet (resolved t ts) ss i
 step-after (resolved t ts) resolves ss i = quiet (resolved t ts) ss i
 step-after (resolved t ts) (writes room) ss i = quiet (resolved t ts) ss i
 step-after (resolved t ts) (maps p) ss i = quiet (resolved t ts) ss i
 step-after (resolved t ts) counts ss i = quiet (resolved t ts) ss i
+step-after (resolved t ts) (lists room) ss i = quiet (resolved t ts) ss i
 step-after spoiled c ss i = absurd i
 
 -- once resolved, nothing is taken
@@ -85,3 +87,4 @@ no-more t ts (resolves ∷ cs) = no-more t ts cs
 no-more t ts (writes room ∷ cs) = no-more t ts cs
 no-more t ts (maps p ∷ cs) = no-more t ts cs
 no-more t ts (counts ∷ cs) = no-more t ts cs
+no-more t ts (lists room ∷ cs) = no-more t ts cs

@@ -12,6 +12,7 @@ pub mod Sides
 pub mod Taken
 pub mod Events
 pub mod Invariant
+pub mod Writes
 pub mod Claim
 pub mod Numbers
 pub mod Blocks
@@ -45,6 +46,8 @@ pub mod RecordFits
 pub mod OutputFits
 pub mod TakenAgain
 pub mod SameBytes
+pub mod Pair
+pub mod NewParents
 pub mod Slots
 pub mod SheetFacts
 pub mod Parts

@@ -6,9 +6,9 @@ use lib.ListN.{length}
 use Rattle.archive.specs.Encode.{encode}
 use Rattle.cleaning.specs.Summary.{Summary, summary}
 use Rattle.cleaning.specs.Writing.{bytesOf, outputs}
-use Rattle.cleaning.specs.Step.{takes, resolves, writes, fresh}
-use Rattle.cleaning.specs.History.{history, Wrote, cleaned}
-use Rattle.cleaning.specs.Accepted.{archiveOfFiles, Idempotent}
+use Rattle.cleaning.specs.Step.{takes, resolves, writes, allOf, fresh}
+use Rattle.cleaning.specs.History.{archiveOfFiles, history, Wrote, cleaned}
+use Rattle.cleaning.specs.Accepted.{Idempotent}
 use Rattle.cleaning.proofs.Good.{Good}
 use Rattle.cleaning.proofs.Goodness.{good}
 use Rattle.cleaning.proofs.Written.{accepted}
@@ -25,5 +25,5 @@ unfolding cleaned bytesOf
 idempotent fs c room l =
     let S : Summary = summary (archiveOfFiles fs) in
     let same = cleaned-again S (good fs c) in
-    subst (λ w. length w ≤ room → Wrote (history fresh (takes (encode (outputs S)) ∷ resolves ∷ writes room ∷ [])) w) same
+    subst (λ w. length w ≤ room → Wrote (history fresh (takes (encode (outputs S)) ∷ resolves ∷ writes room ∷ [])) (allOf w)) same
     (accepted (outputs S) (cleanable-again S (good fs c) (c .chains, c .spans)) room) l

@@ -35,13 +35,13 @@ abbrev pub blankRow : Kept
 blankRow = kept (blank .body) (blank .parents)
 
 -- the row of a number
-abbrev rowAt : Summary → ℕ → Kept
+abbrev pub rowAt : Summary → ℕ → Kept
 rowAt S p = getD (S .rows) (p - S .start) blankRow
 
 -- ── nobody is erased ─────────────────────────────────────────────────────────────────────────
 
 module _ (S : Summary) where
-  at-row : (p : ℕ) → at (unerased S) p ≡ eventOf (rowAt S p)
+  pub at-row : (p : ℕ) → at (unerased S) p ≡ eventOf (rowAt S p)
   unfolding at
   at-row p = List·getD-map eventOf (S .rows) (p - S .start) blankRow
 

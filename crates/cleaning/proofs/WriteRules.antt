@@ -23,7 +23,8 @@ use Rattle.cover.specs.Chains.{Link}
 use Rattle.archive.specs.File.{File}
 use Rattle.cleaning.specs.Summary.{Summary, summary}
 use Rattle.cleaning.specs.Writing.{Numbered, rowsIn, firstNumber, unresolvedOf, labelsIn, labelColumns, labelsOfGroup, slotsOfRows, unresolvedColumns, edgesOf, inboundColumns, graphOfRows, noGroup, groupAt, graphOf, groupNumbers, writeRules}
-use Rattle.cleaning.specs.Accepted.{archiveOfFiles, labelsRise, chainsRise, spansFit, Cleanable}
+use Rattle.cleaning.specs.History.{archiveOfFiles}
+use Rattle.cleaning.specs.Accepted.{labelsRise, chainsRise, spansFit, Cleanable}
 use Rattle.cleaning.proofs.Good.{GoodLabel, GoodGroup, GoodLists, Good}
 use Rattle.columns.proofs.FirstBroken.{none-of, none-in, passes, fails}
 use Rattle.cleaning.proofs.Numbers.{Counted, counted-within}

@@ -19,9 +19,9 @@ use Rattle.cleaning.specs.Taking.{overRecords, overNumbers, filesRules, 
 use Rattle.cleaning.specs.Memo.{tables}
 use Rattle.cleaning.specs.Resolving.{entries, groupsSurvive, resolveRules}
 use Rattle.cleaning.specs.Writing.{written}
-use Rattle.cleaning.specs.Step.{takes, resolves, writes, done, wrote, taking, resolved, fresh, outcome, resolve, step}
-use Rattle.cleaning.specs.History.{history, Wrote, cleaned}
-use Rattle.cleaning.specs.Accepted.{archiveOfFiles, Cleanable, Accepted}
+use Rattle.cleaning.specs.Step.{takes, resolves, writes, done, wrote, allOf, taking, resolved, fresh, outcome, resolve, step}
+use Rattle.cleaning.specs.History.{archiveOfFiles, history, Wrote, cleaned}
+use Rattle.cleaning.specs.Accepted.{Cleanable, Accepted}
 use Rattle.columns.proofs.FirstBroken.{none-of, passes, fails}
 use Rattle.cleaning.proofs.Taken.{taken-followed}
 use Rattle.cleaning.proofs.Events.{valid-sources}
@@ -60,7 +60,7 @@ module _ (fs : List File) (c : Cleanable fs) where
   resolved-then = rw resolve-none
 
   written-then : (room : ℕ) → length (cleaned (archiveOfFiles fs)) ≤ room
-      → (step (resolved (record { sources = map sourceOf fs }) (tables (archiveOfFiles fs))) (writes room)) .answer ≡ wrote (cleaned (archiveOfFiles fs))
+      → (step (resolved (record { sources = map sourceOf fs }) (tables (archiveOfFiles fs))) (writes room)) .answer ≡ wrote (allOf (cleaned (archiveOfFiles fs)))
   unfolding step written unless cleaned
   written-then room l =
       rw (

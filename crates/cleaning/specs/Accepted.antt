@@ -1,6 +1,6 @@
--- Demand 1 and 3: which archives are taken, resolved and written, so that the claim speaks of something. proofs/Accepted has that these are.
+-- Demand 1 and 3: which archives are taken, resolved and written, so that the claim speaks of something. proofs/Written has that these are.
 use mathlib.Core.Bool.{Bool, true, false, _&&_}
-use mathlib.Core.List.{List, [], _∷_, map}
+use mathlib.Core.List.{List, [], _∷_}
 use mathlib.Core.Option.{Option, none, some}
 use mathlib.Core.Path.{_≡_}
 use Prim.Native.Nat.{ℕ, _≤_}
@@ -12,19 +12,13 @@ use Rattle.columns.specs.Building.{Graph, seqsRise, deltasFit, granuleStart, fo
 use Rattle.archive.specs.File.{File}
 use Rattle.archive.specs.Fits.{FileFits}
 use Rattle.archive.specs.Encode.{encode}
-use Rattle.cleaning.specs.Source.{sourceOf}
 use Rattle.cleaning.specs.Taking.{overRecords, overNumbers, filesRules}
-use Rattle.cleaning.specs.Archive.{Archive, archiveOf}
 use Rattle.cleaning.specs.Memo.{tables}
 use Rattle.cleaning.specs.Summary.{summary}
 use Rattle.cleaning.specs.Resolving.{entries, groupsSurvive}
 use Rattle.cleaning.specs.Writing.{graphOf, groupNumbers}
-use Rattle.cleaning.specs.Step.{takes, resolves, writes, fresh}
-use Rattle.cleaning.specs.History.{history, Wrote, cleaned}
-
--- the archive of files taken by a fresh run
-abbrev pub archiveOfFiles : List File → Archive
-archiveOfFiles fs = archiveOf (record { sources = map sourceOf fs })
+use Rattle.cleaning.specs.Step.{takes, resolves, writes, allOf, fresh}
+use Rattle.cleaning.specs.History.{archiveOfFiles, history, Wrote, cleaned}
 
 abbrev pub labelsRise : Option Labels → Bool
 labelsRise none = true
@@ -53,9 +47,9 @@ pub record Cleanable (fs : List File) : Type 0 where
 -- such files are taken, resolved and written, as the cleaned archive
 abbrev pub Accepted : Type 0
 Accepted = (fs : List File) → Cleanable fs → (room : ℕ) → length (cleaned (archiveOfFiles fs)) ≤ room
-    → Wrote (history fresh (takes (encode fs) ∷ resolves ∷ writes room ∷ [])) (cleaned (archiveOfFiles fs))
+    → Wrote (history fresh (takes (encode fs) ∷ resolves ∷ writes room ∷ [])) (allOf (cleaned (archiveOfFiles fs)))
 
 -- a cleaned archive, taken again, is written as the same bytes
 abbrev pub Idempotent : Type 0
 Idempotent = (fs : List File) → Cleanable fs → (room : ℕ) → length (cleaned (archiveOfFiles fs)) ≤ room
-    → Wrote (history fresh (takes (cleaned (archiveOfFiles fs)) ∷ resolves ∷ writes room ∷ [])) (cleaned (archiveOfFiles fs))
+    → Wrote (history fresh (takes (cleaned (archiveOfFiles fs)) ∷ resolves ∷ writes room ∷ [])) (allOf (cleaned (archiveOfFiles fs)))

@@ -2,6 +2,8 @@
 use Rattle.cleaning.specs.Archive
 use Rattle.cleaning.specs.Cleaning
 use Rattle.cleaning.specs.Held
+use Rattle.cleaning.specs.Lines
+use Rattle.cleaning.specs.Listed
 use Rattle.cleaning.specs.Memo
 use Rattle.cleaning.specs.Resolving
 use Rattle.cleaning.specs.Routes
@@ -22,6 +24,8 @@ unfolding
     Archive.isErased Archive.rootIn Archive.referencesIn Archive.bodyOf Archive.eventsFrom Archive.joinAt Archive.addSource Archive.groupsOf Archive.archiveOf Archive.at Archive.parentsOf
     Cleaning.count Cleaning.rank Cleaning.renumber Cleaning.newParents Cleaning.survivorsFrom Cleaning.survivors Cleaning.newNumber Cleaning.mapped Cleaning.isReparented Cleaning.reparented
     Held.nothing Held.factsAt Held.shifted Held.sheetWith Held.heldWith Held.heldOf Held.eventAt Held.archiveHeld Held.recordsOver Held.numbersOver Held.ending Held.lookBack Held.holdRules
+    Lines.digitsFrom Lines.decimal Lines.signed Lines.line Lines.refusedLine Lines.mapLine Lines.setLines Lines.fileLines Lines.listingText
+    Listed.fileNeed Listed.filesNeed Listed.listingNeed Listed.listed
     Memo.addParent Memo.memo Memo.tables
     Resolving.entries Resolving.survivesIn Resolving.groupsSurvive Resolving.resolveRules
     Routes.passes Routes.through Routes.ends Routes.Valid

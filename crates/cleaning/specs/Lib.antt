@@ -7,6 +7,8 @@ pub mod Memo
 pub mod Summary
 pub mod Resolving
 pub mod Writing
+pub mod Lines
+pub mod Listed
 pub mod Step
 pub mod Sheet
 pub mod Held
@@ -16,8 +18,10 @@ pub mod Sections
 pub mod History
 pub mod Alike
 pub mod Claim
+pub mod NewParents
 pub mod Accepted
 pub mod Trace
 pub mod Computes
 pub mod Listing
 pub mod Worked
+pub mod Pair

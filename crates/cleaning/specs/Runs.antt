@@ -18,7 +18,8 @@ use Rattle.cleaning.specs.Cleaning.{mapped, reparented}
 use Rattle.cleaning.specs.Memo.{tables}
 use Rattle.cleaning.specs.Resolving.{entries, groupsSurvive}
 use Rattle.cleaning.specs.Writing.{written}
-use Rattle.cleaning.specs.Step.{Call, takes, resolves, writes, maps, counts, Answer, refused, done, wrote, told, counted, writeInto}
+use Rattle.cleaning.specs.Listed.{listed}
+use Rattle.cleaning.specs.Step.{Call, takes, resolves, writes, maps, counts, lists, Answer, refused, done, told, counted, writeInto, listInto}
 use Rattle.cleaning.specs.Sheet.{Sheet, summaryOf}
 use Rattle.cleaning.specs.Held.{Held, nothing, archiveHeld, holdMore}
 use Rattle.cleaning.specs.Survivors.{survivorSheet}
@@ -76,9 +77,11 @@ runStep (taking h) resolves = resolveHeld h
 runStep (taking h) (writes room) = runOutcome (taking h) (refused OutOfTurn)
 runStep (taking h) (maps p) = runOutcome (taking h) (refused OutOfTurn)
 runStep (taking h) counts = runOutcome (taking h) (refused OutOfTurn)
+runStep (taking h) (lists room) = runOutcome (taking h) (refused OutOfTurn)
 runStep (resolved h s) (takes b) = runOutcome (resolved h s) (refused OutOfTurn)
 runStep (resolved h s) resolves = runOutcome (resolved h s) (refused OutOfTurn)
 runStep (resolved h s) (writes room) = runOutcome (resolved h s) (writeInto room (written (summaryOf s)))
 runStep (resolved h s) (maps p) = runOutcome (resolved h s) (told (mapped (archiveHeld h) p))
 runStep (resolved h s) counts = runOutcome (resolved h s) (counted (reparented (archiveHeld h)))
+runStep (resolved h s) (lists room) = runOutcome (resolved h s) (listInto (listed room (archiveHeld h) (summaryOf s)))
 runStep spoiled c = runOutcome spoiled (refused OutOfTurn)

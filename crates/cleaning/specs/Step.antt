@@ -1,5 +1,5 @@
 -- Document 01, "Refused for the state" and demand 1: a run's calls, one by one. A run takes sources, in one call or several, then resolves once,
--- then writes, again if wanted, and is asked for new numbers and for the reparented; a step out of turn is 40. A refused call leaves the run as it is.
+-- then writes, again if wanted, and is asked for new numbers, for the reparented and for its listing; a step out of turn is 40. A refused call leaves the run as it is.
 use mathlib.Core.Bool.{cond}
 use mathlib.Core.List.{List, [], _++_}
 use mathlib.Core.Option.{Option, none, some}
@@ -19,22 +19,34 @@ use Rattle.cleaning.specs.Memo.{tables}
 use Rattle.cleaning.specs.Summary.{tabled}
 use Rattle.cleaning.specs.Resolving.{resolveRules}
 use Rattle.cleaning.specs.Writing.{written}
+use Rattle.cleaning.specs.Listed.{listed}
 
 -- taking an archive's bytes; resolving; writing into a slice of so many bytes; asking for the new number of an old one, and how many survivors
--- are reparented
+-- are reparented; listing into a slice of so many bytes
 pub data Call : Type 0 where
   takes : List ℕ → Call
   resolves : Call
   writes : ℕ → Call
   maps : ℕ → Call
   counts : Call
+  lists : ℕ → Call
+
+-- bytes that a call has written: how many it answers, and those up to that number
+pub record Bytes : Type 0 where
+  pub length : ℕ
+  pub bytes : List ℕ
+
+-- all of a list
+abbrev pub allOf : List ℕ → Bytes
+allOf w = record { length = length w; bytes = w }
 
 pub data Answer : Type 0 where
   refused : Refusal → Answer
   done : Answer
-  wrote : List ℕ → Answer
+  wrote : Bytes → Answer
   told : Option ℕ → Answer
   counted : ℕ → Answer
+  printed : Bytes → Answer
 
 -- a run by phase: taking sources; resolved, with every event's new lists, kind by kind; and `spoiled`, which is no run that calls make
 pub data State : Type 0 where
@@ -65,7 +77,12 @@ resolveBy t ts (some r) = outcome (taking t) (refused r)
 -- the room of the archive bytes is tested last
 abbrev pub writeInto : ℕ → Verdict (List ℕ) → Answer
 writeInto room (Refusal.refused r) = refused r
-writeInto room (Refusal.accepted w) = cond (leb (length w) room) (wrote w) (refused SliceShort)
+writeInto room (Refusal.accepted w) = cond (leb (length w) room) (wrote (allOf w)) (refused SliceShort)
+
+-- a listing, which has its own room
+abbrev pub listInto : Verdict (List ℕ) → Answer
+listInto (Refusal.refused r) = refused r
+listInto (Refusal.accepted t) = printed (allOf t)
 
 unfoldable pub resolve : Taken → Outcome
 resolve t = let A = archiveOf t in let ts = tables A in resolveBy t ts (resolveRules t A ts)
@@ -76,9 +93,11 @@ step (taking t) resolves = resolve t
 step (taking t) (writes room) = outcome (taking t) (refused OutOfTurn)
 step (taking t) (maps p) = outcome (taking t) (refused OutOfTurn)
 step (taking t) counts = outcome (taking t) (refused OutOfTurn)
+step (taking t) (lists room) = outcome (taking t) (refused OutOfTurn)
 step (resolved t ts) (takes b) = outcome (resolved t ts) (refused OutOfTurn)
 step (resolved t ts) resolves = outcome (resolved t ts) (refused OutOfTurn)
 step (resolved t ts) (writes room) = outcome (resolved t ts) (writeInto room (written (tabled (archiveOf t) ts)))
 step (resolved t ts) (maps p) = outcome (resolved t ts) (told (mapped (archiveOf t) p))
 step (resolved t ts) counts = outcome (resolved t ts) (counted (reparented (archiveOf t)))
+step (resolved t ts) (lists room) = outcome (resolved t ts) (listInto (listed room (archiveOf t) (tabled (archiveOf t) ts)))
 step spoiled c = outcome spoiled (refused OutOfTurn)

@@ -2,11 +2,10 @@
 -- that it was given, its call, the run that it gave back and its answer, by the steps that the contracts cite (Runs).
 use mathlib.Core.List.{List, [], _∷_}
 use mathlib.Core.Path.{_≡_}
-use Prim.Native.Nat.{ℕ}
 use Rattle.cleaning.specs.Step.{Call, Answer}
 use Rattle.cleaning.specs.Runs.{RunState, freshRun, RunOutcome, runStep}
-use Rattle.cleaning.specs.History.{Did, did, archiveIn, Wrote, cleaned}
-use Rattle.cleaning.specs.Alike.{Alike}
+use Rattle.cleaning.specs.History.{Did, did}
+use Rattle.cleaning.specs.Claim.{Claimed}
 
 -- over any type of runs and of answers, with what each stands for
 module _ (Run Reply : Type 0) (view : Run → RunState) (answered : Reply → Answer) where
@@ -23,5 +22,4 @@ module _ (Run Reply : Type 0) (view : Run → RunState) (answered : Reply → An
 
   -- the claim over two traces from fresh runs
   abbrev pub ClaimOfTraces : Type 0
-  ClaimOfTraces = (r s : Run) → view r ≡ freshRun → view s ≡ freshRun → (h g : List Did) → Trace r h → Trace s g → Alike (archiveIn h) (archiveIn g)
-      → (w v : List ℕ) → Wrote h w → Wrote g v → (w ≡ cleaned (archiveIn h)) × (v ≡ cleaned (archiveIn g)) × (w ≡ v)
+  ClaimOfTraces = (r s : Run) → view r ≡ freshRun → view s ≡ freshRun → (h g : List Did) → Trace r h → Trace s g → Claimed h g

@@ -53,7 +53,7 @@ workedFile = plainFile 100
     ∷ (102 ∷ 100 ∷ []) ∷ (102 ∷ [])
     ∷ [])
 
--- the same with every event erased
+-- two events, both erased
 unfoldable pub erasedFile : File
 erasedFile = plainFile 100 (event true 1 ∷ event true 2 ∷ []) ([] ∷ [] ∷ (100 ∷ []) ∷ [] ∷ [])
 

@@ -1,22 +1,26 @@
 -- Rules in order and what is answered of them, and what columns whose rules are kept are.
 use mathlib.Core.Path.{_≡_, refl, sym, _∙_, ap}
 use mathlib.Core.Bool.{Bool, true, false, _&&_, not, or-false}
+use mathlib.Core.Logic.{inl, inr}
 use mathlib.Core.List.{List, [], _∷_, _++_}
 use mathlib.Core.Option.{Option, none, some}
-use Prim.Native.Nat.{ℕ, _≤_, _<_, _+_}
+use Prim.Native.Nat.{ℕ, _≤_, _<_, _+_, _-_, _*_}
 use native.Mathlib.Omega.{arith}
 use lib.Dec.{ltb, eqb}
 use lib.IntN.{ℤ}
 use lib.ListN.{length}
 use lib.Seq.{sets}
-use borrow.Author.Tests.{lt-ltb, le-ltb, ltb-false, eqb-true, not-false}
+use borrow.Author.Tests.{lt-ltb, le-ltb, ltb-true, ltb-false, eqb-true, not-false}
 use Rattle.lists.specs.Lists.{any, joined}
-use Rattle.lists.proofs.Tests.{any-append}
+use Rattle.lists.proofs.Tests.{tested, any-append}
 use Rattle.lists.proofs.Once.{or-is-false}
-use Rattle.columns.specs.Limits.{maxNumbers}
+use Rattle.lists.proofs.Slices.{sets-front}
+use Rattle.lists.proofs.Flat.{joined-few}
+use Rattle.columns.specs.Limits.{kinds, maxNumbers}
 use Rattle.columns.specs.Refusal.{unless, firstOf, Lent, short, limits}
 use Rattle.columns.specs.EdgeSet.{EdgeSet, cut, fromTo, offsetsForm}
 use Rattle.columns.specs.Reading.{soundFrom, slotsOf, setRules, setLengths, decodeSet}
+use Rattle.columns.specs.Questions.{listOf}
 use Rattle.columns.specs.Answers.{columnsOf, room, limitsOf, lentRules, bothRules, ruling, inOne, countedOf, writtenOver}
 use Rattle.columns.specs.Readable.{Readable, Edged}
 use Rattle.columns.specs.declared.refusal.Ruling.{Ruling}
@@ -26,6 +30,7 @@ use Rattle.columns.specs.declared.refusal.Refusal.{Refusal}
 use Rattle.columns.specs.declared.refusal.Refusal.the-variants.{OffsetsForm, DeltaCount, TargetSide, OverRecords, OverNumbers, SliceShort}
 use Rattle.columns.proofs.FirstBroken.{each-none, not-refused, passed}
 use Rattle.columns.proofs.Offsets.{form-climbs}
+use Rattle.columns.proofs.Few.{few-targets}
 use Rattle.columns.proofs.Told.{last-rule, told-kept, told}
 
 -- ── rules in order ───────────────────────────────────────────────────────────────────────────
@@ -127,6 +132,11 @@ pub few-numbers : (records : List ℕ) (columns : List ℕ) (lent : List Lent) �
 unfolding limits
 few-numbers records columns lent e = not-refused OverNumbers _ (each-none _ e .1 .0)
 
+-- the one slice that is lent for numbers is long enough
+pub room-kept : (records columns : List ℕ) (n : ℕ) → limits records columns (room n) ≡ none → maxNumbers ≤ n
+unfolding limits any short
+room-kept records columns n e = ltb-false n maxNumbers (or-is-false (ltb n maxNumbers) false (not-refused SliceShort _ (each-none _ e .1 .1 .0)) .0)
+
 pub few-deltas : (s : EdgeSet) → any (ltb maxNumbers) (setLengths s) ≡ false → length (s .deltas) ≤ maxNumbers
 unfolding setLengths
 few-deltas s e = ltb-false maxNumbers (length (s .deltas)) (any-kept (ltb maxNumbers) _ _ (any-kept (ltb maxNumbers) _ _ e .1) .0)
@@ -152,6 +162,24 @@ module _ (set first rows end : ℕ) (s : EdgeSet) (e : setRules set first rows e
         let p : ltb 0 (s .count) && not (soundFrom set first end 0 (cut (s .offsets) (s .deltas))) ≡ false = not-refused TargetSide _ (each-none _ e .1 .1 .0) in
         not-false _ (rw (lt-ltb 0 (s .count) h) at p)
 
+  -- such a set has no more targets than a column holds numbers
+  pub slots-few : length (s .deltas) ≤ maxNumbers → length (joined (slotsOf first s)) ≤ maxNumbers
+  unfolding slotsOf
+  slots-few f =
+      let n = few-targets first (s .count) (s .deltas) (s .offsets) (form-climbs rows (s .count) (s .offsets) kept-form) in
+      elim (tested (ltb 0 (s .count))) [
+        | inl t ↦ omega (arith, n, kept-count (ltb-true 0 (s .count) t))
+        | inr t ↦ omega (arith, n, ltb-false 0 (s .count) t)
+      ]
+
+module _ (first : ℕ) (s : EdgeSet) (r : Readable first s) where
+  pub readable-few : length (joined (slotsOf first s)) ≤ maxNumbers
+  readable-few = slots-few (r .set) first (r .rows) (r .end) s (r .kept) (r .few)
+
+  pub list-few : (kind number : ℕ) → length (listOf first (slotsOf first s) kind number) ≤ maxNumbers
+  unfolding listOf
+  list-few kind number = elim (tested (ltb number first)) [ inl e ↦ rw e (omega arith) | inr e ↦ rw e (omega (arith, joined-few (slotsOf first s) (kinds * (number - first) + kind), readable-few)) ]
+
 pub edged : (first count : ℕ) (offsets : List ℕ) (deltas : List ℤ) → Readable first (columnsOf count offsets deltas) → (count ≡ 0 → ⊥) → Edged first offsets deltas
 edged first count offsets deltas r h =
     let s = columnsOf count offsets deltas in
@@ -176,6 +204,11 @@ module _ (set first rows end : ℕ) (s : EdgeSet) (lent : List Lent) (k : Ruling
         few = few-deltas s (few-numbers _ _ lent (p .0));
       }
 
+module _ (set first rows end : ℕ) (s : EdgeSet) (n : ℕ) (k : Ruling) (e : k ≡ ruling (lentRules set first rows end s (room n))) (h : k ≡ Kept) where
+  pub lent-room : maxNumbers ≤ n
+  unfolding lentRules
+  lent-room = room-kept _ _ n (each-none _ (told-kept _ e h) .0)
+
 -- ── answers ──────────────────────────────────────────────────────────────────────────────────
 
 -- a list as the answer, and in the slice that is lent for it
@@ -184,9 +217,9 @@ module _ (k : Ruling) (o : Option Refusal) (l old : List ℕ) (e : k ≡ ruling 
   unfolding unless countedOf
   list-counted h n f = rw (told-kept o e h, f)
 
-  pub list-written : k ≡ Kept → (out : List ℕ) → out ≡ sets old 0 l → out ≡ writtenOver old (unless o l)
+  pub list-written : k ≡ Kept → length l ≤ length old → (out : List ℕ) → out ≡ sets old 0 l → out ≡ writtenOver old (unless o l)
   unfolding unless writtenOver
-  list-written h out f = rw (told-kept o e h, f)
+  list-written h n out f = rw (told-kept o e h) (f ∙ sets-front old l n)
 
   pub list-refused : (why : Refusal) → k ≡ Broken why → Refused why ≡ countedOf (unless o l)
   unfolding unless countedOf
@@ -210,7 +243,9 @@ module _ (set first rows end : ℕ) (s : EdgeSet) (old : List ℕ) (k : Ruling) 
   set-counted h n f = rw decoded (list-counted k _ _ old e h n f)
 
   pub set-written : k ≡ Kept → (out : List ℕ) → out ≡ sets old 0 (joined (slotsOf first s)) → out ≡ writtenOver old (inOne (decodeSet set first rows end s (room (length old))))
-  set-written h out f = rw decoded (list-written k _ _ old e h out f)
+  set-written h out f =
+      let n = lent-room set first rows end s (length old) k e h in
+      rw decoded (list-written k _ _ old e h (omega (arith, n, readable-few first s (readable set first rows end s (room (length old)) k e h))) out f)
 
   pub set-refused : (why : Refusal) → k ≡ Broken why → Refused why ≡ countedOf (inOne (decodeSet set first rows end s (room (length old))))
   set-refused why h = rw decoded (list-refused k _ (joined (slotsOf first s)) old e why h)

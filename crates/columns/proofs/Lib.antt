@@ -4,5 +4,6 @@ pub mod Levels
 pub mod FirstBroken
 pub mod Told
 pub mod Offsets
+pub mod Few
 pub mod Checks
 pub mod Targets

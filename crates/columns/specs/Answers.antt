@@ -1,19 +1,20 @@
 -- What a reader answers and leaves in the slices that it is lent, as a view of the verdict that the definitions give.
 use mathlib.Core.Bool.{Bool}
-use mathlib.Core.List.{List, [], _∷_}
+use mathlib.Core.List.{List, [], _∷_, _++_}
 use mathlib.Core.Option.{Option, none, some}
 use Prim.Native.Nat.{ℕ}
 use lib.Dec.{ltb}
 use lib.IntN.{ℤ, pos, _-ℤ_}
-use lib.ListN.{length}
-use lib.Seq.{sets}
+use lib.ListN.{length, drop}
 use Rattle.lists.specs.Lists.{any, joined}
 use Rattle.columns.specs.Limits.{numbersRoom, maxRecords, end32}
 use Rattle.columns.specs.Refusal.{Verdict, refused, accepted, refuse, firstOf, Lent, limits}
-use Rattle.columns.specs.EdgeSet.{EdgeSet, reverse, inbound, isNumber}
+use Rattle.columns.specs.EdgeSet.{EdgeSet, forward, reverse, inbound, isNumber}
 use Rattle.columns.specs.Reading.{Labels, setRules, setLengths}
 use Rattle.columns.specs.declared.kind.Kind.{Kind}
 use Rattle.columns.specs.declared.kind.Kind.the-variants.{Prev, Auth}
+use Rattle.columns.specs.declared.set.Set.{Set}
+use Rattle.columns.specs.declared.set.Set.the-variants.{Forward, Reverse, Inbound}
 use Rattle.columns.specs.declared.refusal.Refusal.{Refusal}
 use Rattle.columns.specs.declared.refusal.Refusal.the-variants.{SliceShort, OverRecords, OverNumbers}
 use Rattle.columns.specs.declared.refusal.Ruling.{Ruling}
@@ -25,6 +26,12 @@ use Rattle.columns.specs.declared.refusal.Counted.the-variants.{Entries,
 abbrev pub kindOf : Kind → ℕ
 kindOf Prev = 0
 kindOf Auth = 1
+
+-- a set's number among the three
+abbrev pub setNumber : Set → ℕ
+setNumber Forward = forward
+setNumber Reverse = reverse
+setNumber Inbound = inbound
 
 -- whether a delta of an event names a number, on whichever side
 unfoldable pub named : ℕ → ℤ → Bool
@@ -80,7 +87,12 @@ unfoldable pub countedOf : Verdict (List ℕ) → Counted
 countedOf (refused r) = Refused r
 countedOf (accepted l) = Entries (length l)
 
--- a lent slice after the answer: the numbers from its start on, and as it was behind them; after a refusal all as it was
+-- a lent slice after numbers were written: they stand from its start on, and behind them it is as it was. A slice keeps its length, so
+-- that there are no more numbers than it has places
+abbrev pub writtenIn : {A : Type 0} → List A → List A → List A
+writtenIn old l = l ++ drop (length l) old
+
+-- a lent slice after the answer: the answer's numbers are written; after a refusal all is as it was
 unfoldable pub writtenOver : List ℕ → Verdict (List ℕ) → List ℕ
 writtenOver old (refused r) = old
-writtenOver old (accepted l) = sets old 0 l
+writtenOver old (accepted l) = writtenIn old l

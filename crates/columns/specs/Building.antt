@@ -1,6 +1,6 @@
 -- Document 01, 1 to 15 and "Edge columns": what building a granule's columns refuses, in order, and what it makes.
 use mathlib.Core.Bool.{Bool, true, false, cond, _&&_, not}
-use mathlib.Core.List.{List, [], _∷_, map}
+use mathlib.Core.List.{List, [], _∷_, _++_, map}
 use mathlib.Core.Option.{Option, none, some}
 use Prim.Native.Nat.{ℕ, suc, _+_, _*_, _^_}
 use lib.Dec.{ltb, leb, eqb}
@@ -249,6 +249,10 @@ graphLengths g =
 unfoldable pub graphRecords : Graph → List ℕ
 graphRecords g = let u = g .unresolved in g .rows ∷ recordCount (u .children) (u .kindsGiven) (u .flags) ∷ []
 
--- `encode_graph_blocks`, one granule a call
+-- `encode_graph_blocks`, one granule a call; `idle` has the lengths of columns that are lent beside those of the graph
+unfoldable pub buildBeside : List ℕ → Graph → List Lent → Verdict Built
+buildBeside idle g lent = unless (firstOf (limits (graphRecords g) (idle ++ graphLengths g) lent ∷ buildRules g ∷ [])) (builtOf g)
+
+-- the same where no column is lent but the graph's
 unfoldable pub build : Graph → List Lent → Verdict Built
-build g lent = unless (firstOf (limits (graphRecords g) (graphLengths g) lent ∷ buildRules g ∷ [])) (builtOf g)
+build g lent = buildBeside [] g lent

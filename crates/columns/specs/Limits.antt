@@ -9,7 +9,7 @@ maxRecords = 1024
 abbrev pub maxGroups : ℕ
 maxGroups = 16
 
--- numbers in a column, deltas of one set in a run, and entries of all new lists (43)
+-- numbers in a column that is lent or answered, deltas of one set in a run, and entries of all new lists (43)
 abbrev pub maxNumbers : ℕ
 maxNumbers = 4096
 
@@ -20,6 +20,10 @@ maxSubject = 255
 -- kinds of parents: prev is 0, auth is 1
 abbrev pub kinds : ℕ
 kinds = 2
+
+-- sets of edges: forward is 0, reverse 1, inbound 2
+abbrev pub edgeSets : ℕ
+edgeSets = 3
 
 -- lengths of lent slices (41)
 abbrev pub offsetsRoom : ℕ

@@ -1,5 +1,5 @@
 -- Document 01, 17 to 21 and "Edge columns": what a reader makes of a granule's columns.
-use mathlib.Core.Bool.{Bool, true, _&&_, not}
+use mathlib.Core.Bool.{Bool, true, false, _&&_, not}
 use mathlib.Core.List.{List, [], _∷_, _++_, map}
 use mathlib.Core.Option.{Option, none, some}
 use Prim.Native.Nat.{ℕ, suc}
@@ -101,7 +101,12 @@ abbrev pub labelLengths : Option Labels → List ℕ
 labelLengths none = []
 labelLengths (some c) = length (c .chains) ∷ length (c .seqs) ∷ []
 
--- how long the columns are that a reader is lent
+-- how long label columns are that are lent and not read, by whether there is a cover: they count for 43 all the same
+abbrev pub idleLabels : Bool → List ℕ → List ℕ → List ℕ
+idleLabels true chains seqs = []
+idleLabels false chains seqs = length chains ∷ length seqs ∷ []
+
+-- how long the columns are that a reader reads
 unfoldable pub columnLengths : GranuleColumns → List ℕ
 columnLengths c = setLengths (c .forward) ++ (setLengths (c .reverse) ++ (setLengths (c .inbound) ++ labelLengths (c .labels)))
 
@@ -118,7 +123,12 @@ unfoldable pub granuleOf : ℕ → GranuleColumns → Granule
 granuleOf first c =
     record { forward = slotsOf first (c .forward); reverse = slotsOf first (c .reverse); inbound = slotsOf first (c .inbound); labels = labelsIn (c .labels) }
 
--- `decode_granule_edges`: the rows from `first` on of a file that ends before `end`; what it is lent for its answer
+-- `decode_granule_edges`: the rows from `first` on of a file that ends before `end`; what it is lent for its answer, and the lengths of
+-- columns that are lent beside those that it reads
+unfoldable pub readBeside : List ℕ → ℕ → ℕ → ℕ → GranuleColumns → List Lent → Verdict Granule
+readBeside idle first rows end c lent =
+    unless (firstOf (limits (rows ∷ []) (idle ++ columnLengths c) lent ∷ granuleRules first rows end c ∷ [])) (granuleOf first c)
+
+-- the same where no column is lent but those that are read
 unfoldable pub readGranule : ℕ → ℕ → ℕ → GranuleColumns → List Lent → Verdict Granule
-readGranule first rows end c lent =
-    unless (firstOf (limits (rows ∷ []) (columnLengths c) lent ∷ granuleRules first rows end c ∷ [])) (granuleOf first c)
+readGranule first rows end c lent = readBeside [] first rows end c lent

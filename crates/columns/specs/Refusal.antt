@@ -84,7 +84,9 @@ pub record Lent : Type 0 where
 unfoldable pub short : Lent → Bool
 short l = ltb (l .has) (l .needs)
 
--- the limits of a call over lent columns: how many records it is given of each sort, how long each column is, what it is lent
+-- the limits of a call over lent columns: how many records it is given of each sort, how long each column is, what it is lent. A column
+-- counts for 43 also where the call would not read it. One call alone, `children` in Questions, tests 43 again, as the last of its rules:
+-- what it answers is a column of numbers too, and two sets can hold more for one number than a column may have
 unfoldable pub limits : List ℕ → List ℕ → List Lent → Option Refusal
 limits records columns lent =
     firstOf (refuse OverRecords (any (ltb maxRecords) records) ∷ refuse OverNumbers (any (ltb maxNumbers) columns) ∷ refuse SliceShort (any short lent) ∷ [])

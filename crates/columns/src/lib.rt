@@ -2,3 +2,4 @@
 pub mod depth;
 pub mod kind;
 pub mod refusal;
+pub mod set;

@@ -3,11 +3,12 @@ use mathlib.Core.Path.{_≡_, refl, _∙_, ap, sym}
 use mathlib.Core.Bool.{Bool, true, false}
 use mathlib.Core.List.{List, [], _∷_, _++_}
 use mathlib.Core.Option.{none}
-use Prim.Native.Nat.{ℕ, _+_, _-_}
+use Prim.Native.Nat.{ℕ, _+_, _≤_}
 use native.Mathlib.Omega.{arith}
 use lib.Dec.{ltb}
 use lib.ListN.{length, length-append}
 use lib.Seq.{sets}
+use borrow.Author.Tests.{ltb-false}
 use Rattle.lists.proofs.Slices.{sets-append}
 use Rattle.columns.specs.Limits.{maxNumbers}
 use Rattle.columns.specs.Refusal.{unless, refuse, firstOf, Lent, limits}
@@ -22,9 +23,9 @@ use Rattle.columns.specs.declared.refusal.Ruling.{Ruling}
 use Rattle.columns.specs.declared.refusal.Ruling.the-variants.{Kept, Broken}
 use Rattle.columns.specs.declared.refusal.Counted.the-variants.{Entries, Refused}
 use Rattle.columns.specs.declared.refusal.Refusal.{Refusal}
-use Rattle.columns.proofs.Checks.{list-counted, list-written, list-refused, list-as-was, then-rest, then-broken, first-append}
+use Rattle.columns.proofs.Checks.{room-kept, readable, list-few, lent-room, list-counted, list-written, list-refused, list-as-was, then-rest, then-broken, first-append}
 use Rattle.columns.specs.declared.refusal.Refusal.the-variants.{OverNumbers}
-use Rattle.columns.proofs.FirstBroken.{each-none}
+use Rattle.columns.proofs.FirstBroken.{each-none, not-refused}
 use Rattle.columns.proofs.Told.{told-kept}
 use Rattle.columns_ask.proofs.Limited.{readable-reverse, readable-inbound}
 
@@ -41,7 +42,9 @@ module _ (first rows end : ℕ) (s : EdgeSet) (kind : Kind) (slot number : ℕ) 
     parents-counted n f = rw asked (list-counted k _ _ old e h n (rw (← i) (f ∙ omega arith)))
 
     pub parents-written : (out : List ℕ) → out ≡ sets old 0 (listOf first (slotsOf first s) slot number) → out ≡ writtenOver old (parents first rows end s (kindOf kind) number (room (length old)))
-    parents-written out f = rw asked (list-written k _ _ old e h out (rw (← i) f))
+    parents-written out f =
+        let n = list-few first s (readable 0 first rows end s (room (length old)) k e h) (kindOf kind) number in
+        rw asked (list-written k _ _ old e h (omega (arith, n, lent-room 0 first rows end s (length old) k e h)) out (rw (← i) f))
 
   pub parents-refused : (why : Refusal) → k ≡ Broken why → Refused why ≡ countedOf (parents first rows end s (kindOf kind) number (room (length old)))
   parents-refused why h = rw asked (list-refused k _ (listOf first (slotsOf first s) (kindOf kind) number) old e why h)
@@ -107,8 +110,14 @@ module _ (first rows end : ℕ) (r i : EdgeSet) (kind : Kind) (slot number : ℕ
     pub children-counted : (n : ℕ) → n ≡ length (childrenOf first r i slot number) → Entries n ≡ countedOf (children first rows end r i (kindOf kind) number (room (length old)))
     children-counted n f = rw asked-both (list-counted k _ _ old e h n f)
 
+    fits-both : length (childrenOf first r i slot number) ≤ length old
+    unfolding askedRules childrenRules
+    fits-both =
+        let few = ltb-false maxNumbers (length (childrenOf first r i slot number)) (not-refused OverNumbers _ (each-none _ (told-kept _ e h) .1 .0)) in
+        omega (arith, few, room-kept _ _ (length old) (each-none _ kept-both .0))
+
     pub children-written : (out : List ℕ) → out ≡ sets old 0 (childrenOf first r i slot number) → out ≡ writtenOver old (children first rows end r i (kindOf kind) number (room (length old)))
-    children-written out f = rw asked-both (list-written k _ _ old e h out f)
+    children-written out f = rw asked-both (list-written k _ _ old e h fits-both out f)
 
   pub children-refused : (why : Refusal) → k ≡ Broken why → Refused why ≡ countedOf (children first rows end r i (kindOf kind) number (room (length old)))
   children-refused why h = rw asked-both (list-refused k _ (childrenOf first r i slot number) old e why h)

@@ -4,7 +4,8 @@ use columns::kind::Kind;
 use columns::refusal::Counted;
 use columns::refusal::Refusal;
 use columns::refusal::Ruling;
-use columns_read::sets;
+use columns::set::Set;
+use columns_slots::sets;
 ghost use mathlib.Core.Path.{_≡_};
 ghost use mathlib.Core.Bool.{true};
 ghost use Prim.Native.Nat.{_+_, _<_, _≤_};
@@ -100,7 +101,16 @@ pub fn parents(
     ensures { λ r. ⌜ r ≡ countedOf (asked.parents first rows end (columnsOf count (now (offsets .entry)) (now (deltas .entry))) (kindOf kind) number (room (length (now (out .entry))))) ⌝ }
     ensures { λ _. ⌜ now (out .exit) ≡ writtenOver (now (out .entry)) (asked.parents first rows end (columnsOf count (now (offsets .entry)) (now (deltas .entry))) (kindOf kind) number (room (length (now (out .entry))))) ⌝ }
 {
-    let rules = sets::csr_rules(0, first, rows, end, count, offsets, deltas, out.len());
+    let rules = sets::csr_rules(
+        Set::Forward,
+        first,
+        rows,
+        end,
+        count,
+        offsets,
+        deltas,
+        out.len(),
+    );
     match rules {
         Ruling::Kept => Counted::Entries(write_list(
             first,

@@ -1,2 +1,1 @@
 pub mod RootRows
-pub mod WholeBuild

@@ -4,4 +4,5 @@ pub mod Sets
 pub mod KeptEdges
 pub mod Later
 pub mod Laid
+pub mod WholeBuild
 pub mod built

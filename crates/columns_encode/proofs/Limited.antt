@@ -1,6 +1,6 @@
 -- The limits of building, and its first rules after them.
-use mathlib.Core.Path.{_≡_, refl, _∙_, ap}
-use mathlib.Core.Bool.{Bool, true, false, _||_, or-false}
+use mathlib.Core.Path.{_≡_, refl, sym, _∙_, ap}
+use mathlib.Core.Bool.{Bool, true, false, _||_, or-false, or-comm}
 use mathlib.Core.List.{List, [], _∷_, _++_}
 use mathlib.Core.Option.{Option}
 use Prim.Native.Nat.{ℕ, _≤_, _<_}
@@ -12,7 +12,7 @@ use Rattle.lists.proofs.Once.{or-is-false}
 use Rattle.lists.proofs.Tests.{any-append}
 use Rattle.columns.specs.Limits.{maxNumbers}
 use Rattle.columns.specs.Refusal.{firstOf, short}
-use Rattle.columns.specs.Reading.{Labels, labelLengths}
+use Rattle.columns.specs.Reading.{Labels, labelLengths, idleLabels}
 use Rattle.columns.specs.Building.{Depth, recordCount}
 use Rattle.columns.specs.declared.refusal.Refusal.{Refusal}
 use Rattle.columns.specs.declared.refusal.Refusal.the-variants.{SliceShort, OverRecords, OverNumbers}
@@ -23,29 +23,24 @@ use Rattle.columns.specs.declared.refusal.Ruling.{Ruling}
 use Rattle.columns.specs.declared.refusal.Ruling.the-variants.{Kept, Broken}
 use Rattle.columns.proofs.Told.{told-kept, stops-here, goes-on}
 use Rattle.columns_rules.specs.records.Recorded.{labelsGiven, recordRules}
-use Rattle.columns_encode.specs.Encoded.{labelCounts, rooms, limitRules, inputRules, earlyRules}
+use Rattle.columns_encode.specs.Encoded.{rooms, limitRules, inputRules, earlyRules}
 
 -- ── lengths ──────────────────────────────────────────────────────────────────────────────────
 
-module _ (o t c p k : ℕ) (labelled : Bool) (chains seqs : ℕ) (a : Bool) (e : a ≡ any (ltb maxNumbers) (o ∷ t ∷ c ∷ p ∷ [])) where
-  split : any (ltb maxNumbers) (o ∷ t ∷ c ∷ p ∷ k ∷ labelCounts labelled chains seqs) ≡ a || (ltb maxNumbers k || any (ltb maxNumbers) (labelCounts labelled chains seqs))
+module _ (o t c p k chains seqs : ℕ) (a : Bool) (e : a ≡ any (ltb maxNumbers) (o ∷ t ∷ c ∷ p ∷ [])) where
+  split : any (ltb maxNumbers) (o ∷ t ∷ c ∷ p ∷ k ∷ chains ∷ seqs ∷ []) ≡ a || (ltb maxNumbers k || any (ltb maxNumbers) (chains ∷ seqs ∷ []))
   unfolding any
-  split = any-append (ltb maxNumbers) (o ∷ t ∷ c ∷ p ∷ []) (k ∷ labelCounts labelled chains seqs) ∙ rw e
+  split = any-append (ltb maxNumbers) (o ∷ t ∷ c ∷ p ∷ []) (k ∷ chains ∷ seqs ∷ []) ∙ rw e
 
-  pub four-over : a ≡ true → true ≡ any (ltb maxNumbers) (o ∷ t ∷ c ∷ p ∷ k ∷ labelCounts labelled chains seqs)
+  pub four-over : a ≡ true → true ≡ any (ltb maxNumbers) (o ∷ t ∷ c ∷ p ∷ k ∷ chains ∷ seqs ∷ [])
   four-over h = rw (split, h)
 
   module _ (h : a ≡ false) where
-    pub fifth-over : 4096 < k → true ≡ any (ltb maxNumbers) (o ∷ t ∷ c ∷ p ∷ k ∷ labelCounts labelled chains seqs)
+    pub fifth-over : 4096 < k → true ≡ any (ltb maxNumbers) (o ∷ t ∷ c ∷ p ∷ k ∷ chains ∷ seqs ∷ [])
     fifth-over g = rw (split, h, lt-ltb 4096 k g)
 
-    module _ (g : k ≤ 4096) where
-      pub labels-over : labelled ≡ true → (r : Bool) → r ≡ any (ltb maxNumbers) (chains ∷ seqs ∷ []) → r ≡ any (ltb maxNumbers) (o ∷ t ∷ c ∷ p ∷ k ∷ labelCounts labelled chains seqs)
-      labels-over l r f = rw (split, h, le-ltb 4096 k g, l) f
-
-      pub none-over : labelled ≡ false → false ≡ any (ltb maxNumbers) (o ∷ t ∷ c ∷ p ∷ k ∷ labelCounts labelled chains seqs)
-      unfolding any
-      none-over l = rw (split, h, le-ltb 4096 k g, l)
+    pub labels-over : k ≤ 4096 → (r : Bool) → r ≡ any (ltb maxNumbers) (chains ∷ seqs ∷ []) → r ≡ any (ltb maxNumbers) (o ∷ t ∷ c ∷ p ∷ k ∷ chains ∷ seqs ∷ [])
+    labels-over g r f = rw (split, h, le-ltb 4096 k g) f
 
 module _ (o d : ℕ) where
   pub offsets-short : o < 2049 → true ≡ any short (rooms o d)
@@ -116,22 +111,28 @@ module _ (subject : List ℕ) (first rows : ℕ) (offsets targets cs ks fs : Lis
   unfolding inputRules
   then-records f k = goes-on (fileRules subject first rows offsets targets) (recordRules first rows cs ks fs depth labels) e f k
 
-counted : (labelled : Bool) (chains seqs : List ℕ) → labelLengths (labelsGiven labelled chains seqs) ≡ labelCounts labelled (length chains) (length seqs)
-counted true chains seqs = refl
-counted false chains seqs = refl
+-- the label columns count, read or not
+counted : (o t c p k : ℕ) (labelled : Bool) (chains seqs : List ℕ)
+    → any (ltb maxNumbers) (idleLabels labelled chains seqs ++ (o ∷ t ∷ c ∷ p ∷ k ∷ labelLengths (labelsGiven labelled chains seqs)))
+    ≡ any (ltb maxNumbers) (o ∷ t ∷ c ∷ p ∷ k ∷ length chains ∷ length seqs ∷ [])
+counted o t c p k true chains seqs = refl
+counted o t c p k false chains seqs =
+    let given : List ℕ = o ∷ t ∷ c ∷ p ∷ k ∷ [] in
+    let labels : List ℕ = length chains ∷ length seqs ∷ [] in
+    any-append (ltb maxNumbers) labels given ∙ or-comm (any (ltb maxNumbers) labels) (any (ltb maxNumbers) given) ∙ sym (any-append (ltb maxNumbers) given labels)
 
 module _ (subject : List ℕ) (first rows : ℕ) (offsets targets cs ks fs : List ℕ) (depth : Option Depth) (labelled : Bool) (chains seqs : List ℕ) (c p k : ℕ) (tight : Bool)
-    (over : Bool) (f : over ≡ any (ltb maxNumbers) (length offsets ∷ length targets ∷ c ∷ p ∷ k ∷ labelCounts labelled (length chains) (length seqs)))
+    (over : Bool) (f : over ≡ any (ltb maxNumbers) (length offsets ∷ length targets ∷ c ∷ p ∷ k ∷ length chains ∷ length seqs ∷ []))
     (records : ℕ) (g : records ≡ recordCount cs ks fs) {r : Ruling} (e : r ≡ ruling (limitRules rows records over tight)) where
   limited : limitRules rows records over tight
-      ≡ limitRules rows (recordCount cs ks fs) (any (ltb maxNumbers) (length offsets ∷ length targets ∷ c ∷ p ∷ k ∷ labelLengths (labelsGiven labelled chains seqs))) tight
-  limited = rw (counted labelled chains seqs, f, g)
+      ≡ limitRules rows (recordCount cs ks fs) (any (ltb maxNumbers) (idleLabels labelled chains seqs ++ (length offsets ∷ length targets ∷ c ∷ p ∷ k ∷ labelLengths (labelsGiven labelled chains seqs)))) tight
+  limited = rw (counted (length offsets) (length targets) c p k labelled chains seqs, f, g)
 
-  pub limits-stop : (x : Refusal) → r ≡ Broken x → Broken x ≡ ruling (earlyRules subject first rows offsets targets cs ks fs depth (labelsGiven labelled chains seqs) c p k tight)
+  pub limits-stop : (x : Refusal) → r ≡ Broken x → Broken x ≡ ruling (earlyRules (idleLabels labelled chains seqs) subject first rows offsets targets cs ks fs depth (labelsGiven labelled chains seqs) c p k tight)
   unfolding earlyRules
   limits-stop x h = stops-here _ (inputRules subject first rows offsets targets cs ks fs depth (labelsGiven labelled chains seqs)) (e ∙ ap ruling limited) x h
 
   pub limits-then : r ≡ Kept → {s : Ruling} → s ≡ ruling (inputRules subject first rows offsets targets cs ks fs depth (labelsGiven labelled chains seqs))
-      → s ≡ ruling (earlyRules subject first rows offsets targets cs ks fs depth (labelsGiven labelled chains seqs) c p k tight)
+      → s ≡ ruling (earlyRules (idleLabels labelled chains seqs) subject first rows offsets targets cs ks fs depth (labelsGiven labelled chains seqs) c p k tight)
   unfolding earlyRules
   limits-then h q = goes-on _ (inputRules subject first rows offsets targets cs ks fs depth (labelsGiven labelled chains seqs)) (e ∙ ap ruling limited) h q

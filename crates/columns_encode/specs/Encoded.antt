@@ -1,7 +1,7 @@
 -- What building is lent and what it leaves there, as views of the verdict that the definitions give.
 use mathlib.Core.Path.{_≡_}
-use mathlib.Core.Bool.{Bool, true, false}
-use mathlib.Core.List.{List, [], _∷_}
+use mathlib.Core.Bool.{Bool, true}
+use mathlib.Core.List.{List, [], _∷_, _++_}
 use mathlib.Core.Option.{Option, none}
 use Prim.Native.Nat.{ℕ, _+_, _*_, _≤_, _<_}
 use lib.Dec.{ltb}
@@ -20,11 +20,6 @@ use Rattle.columns_sets.specs.sets.Reached.{Reached, Turnable}
 use Rattle.columns_encode.specs.declared.writing.Counts.{Counts}
 
 -- ── what is lent ─────────────────────────────────────────────────────────────────────────────
-
--- the lengths of label columns that count where there are labels
-abbrev pub labelCounts : Bool → ℕ → ℕ → List ℕ
-labelCounts true chains seqs = chains ∷ seqs ∷ []
-labelCounts false chains seqs = []
 
 -- two slices of these lengths, lent for the offsets and the deltas of a set
 abbrev pub rooms : ℕ → ℕ → List Lent
@@ -51,10 +46,10 @@ unfoldable pub inputRules : List ℕ → ℕ → ℕ → List ℕ → List ℕ �
 inputRules subject first rows offsets targets cs ks fs depth labels =
     firstOf (fileRules subject first rows offsets targets ∷ recordRules first rows cs ks fs depth labels ∷ [])
 
--- the limits, then 1 to 10. The inbound columns count by their lengths alone
-unfoldable pub earlyRules : List ℕ → ℕ → ℕ → List ℕ → List ℕ → List ℕ → List ℕ → List ℕ → Option Depth → Option Labels → ℕ → ℕ → ℕ → Bool → Option Refusal
-earlyRules subject first rows offsets targets cs ks fs depth labels inbound parents kinds tight =
-    firstOf (limitRules rows (recordCount cs ks fs) (any (ltb maxNumbers) (length offsets ∷ length targets ∷ inbound ∷ parents ∷ kinds ∷ labelLengths labels)) tight
+-- the limits, then 1 to 10. The inbound columns count by their lengths alone, and so do `idle` columns, which nothing reads
+unfoldable pub earlyRules : List ℕ → List ℕ → ℕ → ℕ → List ℕ → List ℕ → List ℕ → List ℕ → List ℕ → Option Depth → Option Labels → ℕ → ℕ → ℕ → Bool → Option Refusal
+earlyRules idle subject first rows offsets targets cs ks fs depth labels inbound parents kinds tight =
+    firstOf (limitRules rows (recordCount cs ks fs) (any (ltb maxNumbers) (idle ++ (length offsets ∷ length targets ∷ inbound ∷ parents ∷ kinds ∷ labelLengths labels))) tight
     ∷ inputRules subject first rows offsets targets cs ks fs depth labels
     ∷ [])
 

@@ -1,4 +1,5 @@
 pub mod Grouped
 pub mod Encoded
 pub mod Answered
+pub mod Lent
 pub mod built

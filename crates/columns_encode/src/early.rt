@@ -2,21 +2,22 @@
 use columns::depth::Depth;
 use columns::refusal::Refusal;
 use columns::refusal::Ruling;
-use columns_read::sets::is_any_over;
-use columns_read::sets::is_over;
 use columns_rules::file::file_rules;
 use columns_rules::records::groups::record_rules;
 use columns_rules::records::parts::longest;
+use columns_slots::sets::is_any_over;
+use columns_slots::sets::is_over;
 ghost use mathlib.Core.Path.{_≡_};
-ghost use mathlib.Core.List.{_∷_, _++_};
+ghost use mathlib.Core.List.{[], _∷_, _++_};
 ghost use Prim.Native.Nat.{_≤_};
 ghost use lib.Dec.{ltb};
 ghost use Rattle.lists.specs.Lists.{any};
 ghost use Rattle.columns.specs.Limits.{maxNumbers};
 ghost use Rattle.columns.specs.Refusal.{short};
+ghost use Rattle.columns.specs.Reading.{idleLabels};
 ghost use Rattle.columns.specs.Answers.{ruling};
 ghost use Rattle.columns_rules.specs.records.Recorded.{labelsGiven, depthOf};
-ghost use Rattle.columns_encode.specs.Encoded.{labelCounts, rooms, limitRules, inputRules, earlyRules};
+ghost use Rattle.columns_encode.specs.Encoded.{rooms, limitRules, inputRules, earlyRules};
 
 // Whether one of the columns is too long, by their lengths.
 fn are_columns_over(
@@ -25,11 +26,10 @@ fn are_columns_over(
     children: usize,
     parents: usize,
     kinds: usize,
-    labelled: bool,
     chains: usize,
     seqs: usize,
 ) -> bool
-    ensures { λ r. ⌜ r ≡ any (ltb maxNumbers) (offsets ∷ targets ∷ children ∷ parents ∷ kinds ∷ labelCounts labelled chains seqs) ⌝ }
+    ensures { λ r. ⌜ r ≡ any (ltb maxNumbers) (offsets ∷ targets ∷ children ∷ parents ∷ kinds ∷ chains ∷ seqs ∷ []) ⌝ }
 {
     if is_any_over(offsets, targets, children, parents) {
         return true;
@@ -37,10 +37,7 @@ fn are_columns_over(
     if 4096 < kinds {
         return true;
     }
-    if labelled {
-        return is_over(chains, seqs);
-    }
-    false
+    is_over(chains, seqs)
 }
 
 // Whether one of a set's two slices is too short, by their lengths.
@@ -140,7 +137,7 @@ pub fn early_rules(
     ikinds: usize,
     tight: bool,
 ) -> Ruling
-    ensures { λ r. ⌜ r ≡ ruling (earlyRules (now (subject .entry)) first rows (now (offsets .entry)) (now (targets .entry)) (now (children .entry)) (now (kinds .entry)) (now (flags .entry)) (depthOf depth)
+    ensures { λ r. ⌜ r ≡ ruling (earlyRules (idleLabels labelled (now (chains .entry)) (now (seqs .entry))) (now (subject .entry)) first rows (now (offsets .entry)) (now (targets .entry)) (now (children .entry)) (now (kinds .entry)) (now (flags .entry)) (depthOf depth)
         (labelsGiven labelled (now (chains .entry)) (now (seqs .entry))) inbound parents ikinds tight) ⌝ }
 {
     let over = are_columns_over(
@@ -149,7 +146,6 @@ pub fn early_rules(
         inbound,
         parents,
         ikinds,
-        labelled,
         chains.len(),
         seqs.len(),
     );

@@ -2,4 +2,5 @@
 pub mod early;
 pub mod kept;
 mod late;
+pub mod lent;
 mod writing;

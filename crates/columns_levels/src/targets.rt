@@ -1,5 +1,6 @@
 // The targets of a file's forward set, read for a question that follows them.
 use columns::refusal::Counted;
+use columns::set::Set;
 ghost use mathlib.Core.Path.{_≡_};
 ghost use mathlib.Core.List.{_++_};
 ghost use Prim.Native.Nat.{_≤_};
@@ -23,7 +24,7 @@ pub fn read(
     ensures { λ _. ⌜ now (targets .exit) ≡ writtenOver (take n (now (targets .entry))) (inOne (decodeSet 0 first rows end (columnsOf count (now (offsets .entry)) (now (deltas .entry))) (room n))) ++ drop n (now (targets .entry)) ⌝ }
 {
     columns_read::sets::decode_csr(
-        0,
+        Set::Forward,
         first,
         rows,
         end,

@@ -1,23 +1,25 @@
 -- A granule's limits and rules in parts, and what is answered of them.
 use mathlib.Core.Path.{_≡_, refl, sym, _∙_, ap}
-use mathlib.Core.Bool.{Bool, true, false, _||_, or-false}
+use mathlib.Core.Bool.{Bool, true, false, _||_, or-false, or-comm}
 use mathlib.Core.List.{List, [], _∷_, _++_}
 use mathlib.Core.Option.{none}
 use Prim.Native.Nat.{ℕ, _≤_, _<_}
+use native.Mathlib.Omega.{arith}
 use lib.Dec.{ltb}
 use lib.IntN.{ℤ}
 use lib.ListN.{length}
 use lib.Seq.{sets}
-use borrow.Author.Tests.{lt-ltb, le-ltb}
+use borrow.Author.Tests.{lt-ltb, le-ltb, ltb-false}
 use Rattle.lists.specs.Lists.{any, joined}
 use Rattle.lists.proofs.Tests.{any-append}
 use Rattle.lists.proofs.Once.{or-is-false}
+use Rattle.lists.proofs.Slices.{sets-front}
 use Rattle.columns.specs.Limits.{maxNumbers}
 use Rattle.columns.specs.Refusal.{accepted, refused, unless, firstOf, short, limits}
 use Rattle.columns.specs.EdgeSet.{forward, reverse, inbound}
-use Rattle.columns.specs.Reading.{slotsOf, setRules, setLengths, labelRules, coverRules, labelLengths, columnLengths, granuleRules, granuleOf, readGranule}
+use Rattle.columns.specs.Reading.{slotsOf, setRules, setLengths, labelRules, coverRules, labelLengths, idleLabels, columnLengths, granuleRules, granuleOf, readBeside}
 use Rattle.columns.specs.Answers.{columnsOf, labelColumns, limitsOf, bothRules, ruling, writtenOver}
-use Rattle.columns_read.specs.Granules.{coverOf, coverLengths, lentGranule, rooms, setsRules, lentGranuleRules, countsOf, decodedOf, setIn}
+use Rattle.columns_read.specs.Granules.{coverOf, lentGranule, rooms, setsRules, lentGranuleRules, readLent, countsOf, decodedOf, setIn}
 use Rattle.columns.specs.Readable.{Readable}
 use Rattle.columns_read.specs.declared.Head.{Head}
 use Rattle.columns_read.specs.declared.Counts.{Counts}
@@ -25,33 +27,22 @@ use Rattle.columns_read.specs.declared.Decoded.the-variants.{Edges, Refu
 use Rattle.columns.specs.declared.refusal.Ruling.{Ruling}
 use Rattle.columns.specs.declared.refusal.Ruling.the-variants.{Kept, Broken}
 use Rattle.columns.specs.declared.refusal.Refusal.{Refusal}
-use Rattle.columns.proofs.FirstBroken.{each-none}
-use Rattle.columns.proofs.Checks.{first-append, then-rest, then-broken, over-none, few-deltas}
+use Rattle.columns.specs.declared.refusal.Refusal.the-variants.{SliceShort}
+use Rattle.columns.proofs.FirstBroken.{each-none, not-refused}
+use Rattle.columns.proofs.Checks.{first-append, then-rest, then-broken, over-none, few-deltas, readable-few}
 use Rattle.columns.proofs.Told.{last-rule, told-kept, told}
 
 -- ── limits ───────────────────────────────────────────────────────────────────────────────────
 
-module _ (fo fd ro rd io id : ℕ) (cover : Bool) (chains seqs : ℕ) (a : Bool) (e : a ≡ any (ltb maxNumbers) (fo ∷ fd ∷ ro ∷ rd ∷ [])) where
-  split : any (ltb maxNumbers) (fo ∷ fd ∷ ro ∷ rd ∷ io ∷ id ∷ coverLengths cover chains seqs) ≡ a || any (ltb maxNumbers) (io ∷ id ∷ coverLengths cover chains seqs)
-  split = any-append (ltb maxNumbers) (fo ∷ fd ∷ ro ∷ rd ∷ []) (io ∷ id ∷ coverLengths cover chains seqs) ∙ rw e
+module _ (fo fd ro rd io id chains seqs : ℕ) (a : Bool) (e : a ≡ any (ltb maxNumbers) (fo ∷ fd ∷ ro ∷ rd ∷ [])) where
+  split : any (ltb maxNumbers) (fo ∷ fd ∷ ro ∷ rd ∷ io ∷ id ∷ chains ∷ seqs ∷ []) ≡ a || any (ltb maxNumbers) (io ∷ id ∷ chains ∷ seqs ∷ [])
+  split = any-append (ltb maxNumbers) (fo ∷ fd ∷ ro ∷ rd ∷ []) (io ∷ id ∷ chains ∷ seqs ∷ []) ∙ rw e
 
-  pub four-over : a ≡ true → true ≡ any (ltb maxNumbers) (fo ∷ fd ∷ ro ∷ rd ∷ io ∷ id ∷ coverLengths cover chains seqs)
+  pub four-over : a ≡ true → true ≡ any (ltb maxNumbers) (fo ∷ fd ∷ ro ∷ rd ∷ io ∷ id ∷ chains ∷ seqs ∷ [])
   four-over h = rw (split, h)
 
-  module _ (h : a ≡ false) (b : Bool) (f : b ≡ any (ltb maxNumbers) (io ∷ id ∷ [])) where
-    split-again : any (ltb maxNumbers) (fo ∷ fd ∷ ro ∷ rd ∷ io ∷ id ∷ coverLengths cover chains seqs) ≡ b || any (ltb maxNumbers) (coverLengths cover chains seqs)
-    split-again = split ∙ rw h (any-append (ltb maxNumbers) (io ∷ id ∷ []) (coverLengths cover chains seqs) ∙ rw f)
-
-    pub two-over : b ≡ true → true ≡ any (ltb maxNumbers) (fo ∷ fd ∷ ro ∷ rd ∷ io ∷ id ∷ coverLengths cover chains seqs)
-    two-over g = rw (split-again, g)
-
-    module _ (g : b ≡ false) where
-      pub labels-over : cover ≡ true → (r : Bool) → r ≡ any (ltb maxNumbers) (chains ∷ seqs ∷ []) → r ≡ any (ltb maxNumbers) (fo ∷ fd ∷ ro ∷ rd ∷ io ∷ id ∷ coverLengths cover chains seqs)
-      labels-over c r k = rw (split-again, g, c) k
-
-      pub none-over : cover ≡ false → false ≡ any (ltb maxNumbers) (fo ∷ fd ∷ ro ∷ rd ∷ io ∷ id ∷ coverLengths cover chains seqs)
-      unfolding any
-      none-over c = rw (split-again, g, c)
+  pub others-over : a ≡ false → (r : Bool) → r ≡ any (ltb maxNumbers) (io ∷ id ∷ chains ∷ seqs ∷ []) → r ≡ any (ltb maxNumbers) (fo ∷ fd ∷ ro ∷ rd ∷ io ∷ id ∷ chains ∷ seqs ∷ [])
+  others-over h r f = rw (split, h) f
 
 module _ (f r i : ℕ) where
   pub first-short : f < 4096 → true ≡ any short (rooms f r i)
@@ -105,20 +96,25 @@ module _ (h : Head) (fo : List ℕ) (fd : List ℤ) (ro : List ℕ) (rd : List �
       pub edges-broken : (why : Refusal) → k ≡ Broken why → Broken why ≡ ruling (granuleRules (h .first) (h .rows) (h .end) (lentGranule h fo fd ro rd io id chains seqs))
       edges-broken why g = rw edges-are (then-broken k _ _ e why g)
 
-    lengths-are : columnLengths (lentGranule h fo fd ro rd io id chains seqs)
-        ≡ length fo ∷ length fd ∷ length ro ∷ length rd ∷ length io ∷ length id ∷ coverLengths (h .cover) (length chains) (length seqs)
+    -- the label columns count, read or not
+    lengths-are : any (ltb maxNumbers) (idleLabels (h .cover) chains seqs ++ columnLengths (lentGranule h fo fd ro rd io id chains seqs))
+        ≡ any (ltb maxNumbers) (length fo ∷ length fd ∷ length ro ∷ length rd ∷ length io ∷ length id ∷ length chains ∷ length seqs ∷ [])
     unfolding columnLengths setLengths
     lengths-are = go (h .cover)
       where
-        go : (b : Bool) → _≡_ {A = List ℕ} (length fo ∷ length fd ∷ length ro ∷ length rd ∷ length io ∷ length id ∷ labelLengths (coverOf b chains seqs))
-            (length fo ∷ length fd ∷ length ro ∷ length rd ∷ length io ∷ length id ∷ coverLengths b (length chains) (length seqs))
+        go : (b : Bool) → any (ltb maxNumbers) (idleLabels b chains seqs ++ (length fo ∷ length fd ∷ length ro ∷ length rd ∷ length io ∷ length id ∷ labelLengths (coverOf b chains seqs)))
+            ≡ any (ltb maxNumbers) (length fo ∷ length fd ∷ length ro ∷ length rd ∷ length io ∷ length id ∷ length chains ∷ length seqs ∷ [])
         go true = refl
-        go false = refl
+        go false =
+            let edges : List ℕ = length fo ∷ length fd ∷ length ro ∷ length rd ∷ length io ∷ length id ∷ [] in
+            let labels : List ℕ = length chains ∷ length seqs ∷ [] in
+            any-append (ltb maxNumbers) labels edges ∙ or-comm (any (ltb maxNumbers) labels) (any (ltb maxNumbers) edges)
+            ∙ sym (any-append (ltb maxNumbers) edges labels)
 
     module _ (tight over : Bool) (k : Ruling)
-        (f : over ≡ any (ltb maxNumbers) (length fo ∷ length fd ∷ length ro ∷ length rd ∷ length io ∷ length id ∷ coverLengths (h .cover) (length chains) (length seqs)))
+        (f : over ≡ any (ltb maxNumbers) (length fo ∷ length fd ∷ length ro ∷ length rd ∷ length io ∷ length id ∷ length chains ∷ length seqs ∷ []))
         (e : k ≡ ruling (limitsOf (h .rows) over tight)) where
-      in-limits : k ≡ ruling (limitsOf (h .rows) (any (ltb maxNumbers) (columnLengths (lentGranule h fo fd ro rd io id chains seqs))) tight)
+      in-limits : k ≡ ruling (limitsOf (h .rows) (any (ltb maxNumbers) (idleLabels (h .cover) chains seqs ++ columnLengths (lentGranule h fo fd ro rd io id chains seqs))) tight)
       in-limits = rw (lengths-are, ← f) e
 
       pub granule-kept : k ≡ Kept → (q : Ruling) → q ≡ ruling (granuleRules (h .first) (h .rows) (h .end) (lentGranule h fo fd ro rd io id chains seqs))
@@ -134,7 +130,7 @@ module _ (h : Head) (fo : List ℕ) (fd : List ℤ) (ro : List ℕ) (rd : List �
 
     module _ (tight : Bool) (k : Ruling) (e : k ≡ ruling (lentGranuleRules h fo fd ro rd io id chains seqs tight)) where
       module _ (g : k ≡ Kept) where
-        parts : (limitsOf (h .rows) (any (ltb maxNumbers) (columnLengths (lentGranule h fo fd ro rd io id chains seqs))) tight ≡ none)
+        parts : (limitsOf (h .rows) (any (ltb maxNumbers) (idleLabels (h .cover) chains seqs ++ columnLengths (lentGranule h fo fd ro rd io id chains seqs))) tight ≡ none)
             × (granuleRules (h .first) (h .rows) (h .end) (lentGranule h fo fd ro rd io id chains seqs) ≡ none)
         unfolding lentGranuleRules
         parts = let p = each-none _ (told-kept _ e g) in (p .0, p .1 .0)
@@ -149,7 +145,8 @@ module _ (h : Head) (fo : List ℕ) (fd : List ℤ) (ro : List ℕ) (rd : List �
             let r = setLengths (columnsOf (h .reverse) ro rd) in
             let i = setLengths (columnsOf (h .inbound) io id) in
             let l = labelLengths (coverOf (h .cover) chains seqs) in
-            let p = or-is-false _ _ (sym (any-append m f (r ++ (i ++ l))) ∙ over-none (h .rows) _ tight (parts .0)) in
+            let o = or-is-false (any m (idleLabels (h .cover) chains seqs)) _ (sym (any-append m (idleLabels (h .cover) chains seqs) (f ++ (r ++ (i ++ l)))) ∙ over-none (h .rows) _ tight (parts .0)) in
+            let p = or-is-false _ _ (sym (any-append m f (r ++ (i ++ l))) ∙ o .1) in
             let q = or-is-false _ _ (sym (any-append m r (i ++ l)) ∙ p .1) in
             let s = or-is-false _ _ (sym (any-append m i l) ∙ q .1) in
             (p .0, q .0, s .0)
@@ -172,49 +169,56 @@ module _ (h : Head) (fo : List ℕ) (fd : List ℤ) (ro : List ℕ) (rd : List �
       -- ── the answer ───────────────────────────────────────────────────────────────────────────
 
       module _ (f r i : ℕ) (t : tight ≡ any short (rooms f r i)) where
-        lent-are : readGranule (h .first) (h .rows) (h .end) (lentGranule h fo fd ro rd io id chains seqs) (rooms f r i)
+        lent-are : readLent h fo fd ro rd io id chains seqs (rooms f r i)
             ≡ unless (lentGranuleRules h fo fd ro rd io id chains seqs tight) (granuleOf (h .first) (lentGranule h fo fd ro rd io id chains seqs))
-        unfolding readGranule lentGranuleRules limits limitsOf
+        unfolding readBeside lentGranuleRules limits limitsOf
         lent-are = rw t
 
         module _ (g : k ≡ Kept) where
-          read-kept : readGranule (h .first) (h .rows) (h .end) (lentGranule h fo fd ro rd io id chains seqs) (rooms f r i)
+          read-kept : readLent h fo fd ro rd io id chains seqs (rooms f r i)
               ≡ accepted (granuleOf (h .first) (lentGranule h fo fd ro rd io id chains seqs))
           unfolding unless
           read-kept = lent-are ∙ rw (told-kept (lentGranuleRules h fo fd ro rd io id chains seqs tight) e g)
 
           pub granule-counted : (n : Counts)
               → n ≡ countsOf (slotsOf (h .first) (columnsOf (h .forward) fo fd)) (slotsOf (h .first) (columnsOf (h .reverse) ro rd)) (slotsOf (h .first) (columnsOf (h .inbound) io id))
-              → Edges n ≡ decodedOf (readGranule (h .first) (h .rows) (h .end) (lentGranule h fo fd ro rd io id chains seqs) (rooms f r i))
+              → Edges n ≡ decodedOf (readLent h fo fd ro rd io id chains seqs (rooms f r i))
           unfolding decodedOf granuleOf
           granule-counted n p = rw (read-kept, p)
 
+          long : (maxNumbers ≤ f) × (maxNumbers ≤ r) × (maxNumbers ≤ i)
+          unfolding any short limitsOf
+          long =
+              let a = or-is-false (ltb f maxNumbers) _ (sym t ∙ not-refused SliceShort tight (each-none _ (parts g .0) .1 .1 .0)) in
+              let b = or-is-false (ltb r maxNumbers) _ (a .1) in
+              (ltb-false f maxNumbers (a .0), ltb-false r maxNumbers (b .0), ltb-false i maxNumbers (or-is-false (ltb i maxNumbers) _ (b .1) .0))
+
           module _ (old out : List ℕ) where
-            pub forward-written : out ≡ sets old 0 (joined (slotsOf (h .first) (columnsOf (h .forward) fo fd)))
-                → out ≡ writtenOver old (setIn 0 (readGranule (h .first) (h .rows) (h .end) (lentGranule h fo fd ro rd io id chains seqs) (rooms f r i)))
+            pub forward-written : length old ≡ f → out ≡ sets old 0 (joined (slotsOf (h .first) (columnsOf (h .forward) fo fd)))
+                → out ≡ writtenOver old (setIn 0 (readLent h fo fd ro rd io id chains seqs (rooms f r i)))
             unfolding setIn writtenOver granuleOf
-            forward-written p = rw read-kept p
+            forward-written q p = rw read-kept (p ∙ sets-front old (joined (slotsOf (h .first) (columnsOf (h .forward) fo fd))) (omega (arith, long .0, readable-few (h .first) (columnsOf (h .forward) fo fd) (forward-readable g))))
 
-            pub reverse-written : out ≡ sets old 0 (joined (slotsOf (h .first) (columnsOf (h .reverse) ro rd)))
-                → out ≡ writtenOver old (setIn 1 (readGranule (h .first) (h .rows) (h .end) (lentGranule h fo fd ro rd io id chains seqs) (rooms f r i)))
+            pub reverse-written : length old ≡ r → out ≡ sets old 0 (joined (slotsOf (h .first) (columnsOf (h .reverse) ro rd)))
+                → out ≡ writtenOver old (setIn 1 (readLent h fo fd ro rd io id chains seqs (rooms f r i)))
             unfolding setIn writtenOver granuleOf
-            reverse-written p = rw read-kept p
+            reverse-written q p = rw read-kept (p ∙ sets-front old (joined (slotsOf (h .first) (columnsOf (h .reverse) ro rd))) (omega (arith, long .1, readable-few (h .first) (columnsOf (h .reverse) ro rd) (reverse-readable g))))
 
-            pub inbound-written : out ≡ sets old 0 (joined (slotsOf (h .first) (columnsOf (h .inbound) io id)))
-                → out ≡ writtenOver old (setIn 2 (readGranule (h .first) (h .rows) (h .end) (lentGranule h fo fd ro rd io id chains seqs) (rooms f r i)))
+            pub inbound-written : length old ≡ i → out ≡ sets old 0 (joined (slotsOf (h .first) (columnsOf (h .inbound) io id)))
+                → out ≡ writtenOver old (setIn 2 (readLent h fo fd ro rd io id chains seqs (rooms f r i)))
             unfolding setIn writtenOver granuleOf
-            inbound-written p = rw read-kept p
+            inbound-written q p = rw read-kept (p ∙ sets-front old (joined (slotsOf (h .first) (columnsOf (h .inbound) io id))) (omega (arith, long .2, readable-few (h .first) (columnsOf (h .inbound) io id) (inbound-readable g))))
 
         module _ (why : Refusal) (g : k ≡ Broken why) where
-          read-broken : readGranule (h .first) (h .rows) (h .end) (lentGranule h fo fd ro rd io id chains seqs) (rooms f r i) ≡ refused why
+          read-broken : readLent h fo fd ro rd io id chains seqs (rooms f r i) ≡ refused why
           unfolding unless
           read-broken = lent-are ∙ rw (told (lentGranuleRules h fo fd ro rd io id chains seqs tight) e g)
 
-          pub granule-refused : Refused why ≡ decodedOf (readGranule (h .first) (h .rows) (h .end) (lentGranule h fo fd ro rd io id chains seqs) (rooms f r i))
+          pub granule-refused : Refused why ≡ decodedOf (readLent h fo fd ro rd io id chains seqs (rooms f r i))
           unfolding decodedOf
           granule-refused = rw read-broken
 
-          pub granule-as-was : (set : ℕ) (old : List ℕ) → old ≡ writtenOver old (setIn set (readGranule (h .first) (h .rows) (h .end) (lentGranule h fo fd ro rd io id chains seqs) (rooms f r i)))
+          pub granule-as-was : (set : ℕ) (old : List ℕ) → old ≡ writtenOver old (setIn set (readLent h fo fd ro rd io id chains seqs (rooms f r i)))
           unfolding setIn writtenOver
           granule-as-was set old = rw read-broken
 

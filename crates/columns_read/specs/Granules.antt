@@ -1,6 +1,6 @@
 -- What reading a granule answers and leaves in the three slices that it is lent, as a view of the verdict that the definitions give.
 use mathlib.Core.Bool.{Bool, true, false}
-use mathlib.Core.List.{List, [], _∷_}
+use mathlib.Core.List.{List, [], _∷_, _++_}
 use mathlib.Core.Option.{Option, none, some}
 use Prim.Native.Nat.{ℕ, zero, suc}
 use lib.Dec.{ltb}
@@ -10,7 +10,7 @@ use Rattle.lists.specs.Lists.{any, joined}
 use Rattle.columns.specs.Limits.{maxNumbers, numbersRoom}
 use Rattle.columns.specs.Refusal.{Verdict, refused, accepted, firstOf, Lent}
 use Rattle.columns.specs.EdgeSet.{forward, reverse, inbound}
-use Rattle.columns.specs.Reading.{Labels, GranuleColumns, Granule, setRules, columnLengths, granuleRules}
+use Rattle.columns.specs.Reading.{Labels, GranuleColumns, Granule, setRules, idleLabels, columnLengths, granuleRules, readBeside}
 use Rattle.columns.specs.Answers.{columnsOf, labelColumns, limitsOf}
 use Rattle.columns_read.specs.declared.Head.{Head}
 use Rattle.columns_read.specs.declared.Counts.{Counts}
@@ -20,15 +20,10 @@ use Rattle.columns.specs.declared.refusal.Refusal.{Refusal}
 
 -- ── what is lent ─────────────────────────────────────────────────────────────────────────────
 
--- label columns, which count where there is a cover
+-- label columns, which are read where there is a cover
 abbrev pub coverOf : Bool → List ℕ → List ℕ → Option Labels
 coverOf true chains seqs = some (labelColumns chains seqs)
 coverOf false chains seqs = none
-
--- the lengths of those that count
-abbrev pub coverLengths : Bool → ℕ → ℕ → List ℕ
-coverLengths true chains seqs = chains ∷ seqs ∷ []
-coverLengths false chains seqs = []
 
 -- a granule's columns as they are lent: offsets and deltas of the forward, the reverse and the inbound set, chains and seqs
 abbrev pub lentGranule : Head → List ℕ → List ℤ → List ℕ → List ℤ → List ℕ → List ℤ → List ℕ → List ℕ → GranuleColumns
@@ -52,9 +47,16 @@ setsRules h fo fd ro rd io id =
 -- the limits, by whether a lent slice is too short, and the rules of a granule
 unfoldable pub lentGranuleRules : Head → List ℕ → List ℤ → List ℕ → List ℤ → List ℕ → List ℤ → List ℕ → List ℕ → Bool → Option Refusal
 lentGranuleRules h fo fd ro rd io id chains seqs tight = let c = lentGranule h fo fd ro rd io id chains seqs in
-    firstOf (limitsOf (h .rows) (any (ltb maxNumbers) (columnLengths c)) tight ∷ granuleRules (h .first) (h .rows) (h .end) c ∷ [])
+    firstOf (limitsOf (h .rows) (any (ltb maxNumbers) (idleLabels (h .cover) chains seqs ++ columnLengths c)) tight
+    ∷ granuleRules (h .first) (h .rows) (h .end) c
+    ∷ [])
 
 -- ── answers ──────────────────────────────────────────────────────────────────────────────────
+
+-- the verdict on a granule as it is lent. Label columns are lent also where there is no cover
+abbrev pub readLent : Head → List ℕ → List ℤ → List ℕ → List ℤ → List ℕ → List ℤ → List ℕ → List ℕ → List Lent → Verdict Granule
+readLent h fo fd ro rd io id chains seqs lent =
+    readBeside (idleLabels (h .cover) chains seqs) (h .first) (h .rows) (h .end) (lentGranule h fo fd ro rd io id chains seqs) lent
 
 -- how many targets the lists of each set have
 abbrev pub countsOf : List (List ℕ) → List (List ℕ) → List (List ℕ) → Counts

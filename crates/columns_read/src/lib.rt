@@ -1,20 +1,20 @@
 // Reading a granule: its three sets of edges and, where there is a cover, its label columns, in one call.
-mod delta;
 pub mod sets;
 
 use columns::refusal::Refusal;
 use columns::refusal::Ruling;
+use columns::set::Set;
 ghost use mathlib.Core.Path.{_≡_};
-ghost use mathlib.Core.List.{_∷_};
+ghost use mathlib.Core.List.{[], _∷_};
 ghost use lib.Dec.{ltb};
 ghost use lib.ListN.{length};
 ghost use lib.Seq.{sets};
 ghost use Rattle.lists.specs.Lists.{any, joined};
 ghost use Rattle.columns.specs.Limits.{maxNumbers};
 ghost use Rattle.columns.specs.Refusal.{short};
-ghost use Rattle.columns.specs.Reading.{slotsOf, coverRules, granuleRules, readGranule};
+ghost use Rattle.columns.specs.Reading.{slotsOf, coverRules, granuleRules};
 ghost use Rattle.columns.specs.Answers.{columnsOf, ruling, writtenOver};
-ghost use Rattle.columns_read.specs.Granules.{coverOf, coverLengths, lentGranule, rooms, setsRules, lentGranuleRules, countsOf, decodedOf, setIn};
+ghost use Rattle.columns_read.specs.Granules.{coverOf, lentGranule, rooms, setsRules, lentGranuleRules, readLent, countsOf, decodedOf, setIn};
 ghost use Rattle.columns.specs.Readable.{Readable};
 
 // What a granule is lent with besides its columns: its first number, its rows, the number past its file's last one, the edge count of each
@@ -53,22 +53,15 @@ fn is_granule_over(
     rd: usize,
     io: usize,
     id: usize,
-    cover: bool,
     chains: usize,
     seqs: usize,
 ) -> bool
-    ensures { λ r. ⌜ r ≡ any (ltb maxNumbers) (fo ∷ fd ∷ ro ∷ rd ∷ io ∷ id ∷ coverLengths cover chains seqs) ⌝ }
+    ensures { λ r. ⌜ r ≡ any (ltb maxNumbers) (fo ∷ fd ∷ ro ∷ rd ∷ io ∷ id ∷ chains ∷ seqs ∷ []) ⌝ }
 {
-    if sets::is_any_over(fo, fd, ro, rd) {
+    if columns_slots::sets::is_any_over(fo, fd, ro, rd) {
         return true;
     }
-    if sets::is_over(io, id) {
-        return true;
-    }
-    if cover {
-        return sets::is_over(chains, seqs);
-    }
-    false
+    columns_slots::sets::is_any_over(io, id, chains, seqs)
 }
 
 // Whether one of the three slices is too short, by their lengths.
@@ -91,7 +84,7 @@ fn cover_rules(rows: usize, cover: bool, chains: &[u64], seqs: &[u64]) -> Ruling
     ensures { λ r. ⌜ r ≡ ruling (coverRules rows (coverOf cover (now (chains .entry)) (now (seqs .entry)))) ⌝ }
 {
     if cover {
-        return sets::label_rules(rows, chains, seqs);
+        return columns_slots::sets::label_rules(rows, chains, seqs);
     }
     Ruling::Kept
 }
@@ -111,9 +104,17 @@ fn sets_rules(
     let first = head.first;
     let rows = head.rows;
     let end = head.end;
-    let rules = sets::set_rules(0, first, rows, end, head.forward, fo, fd);
+    let rules = columns_slots::sets::set_rules(
+        Set::Forward,
+        first,
+        rows,
+        end,
+        head.forward,
+        fo,
+        fd,
+    );
     match rules {
-        Ruling::Kept => sets::both_rules(
+        Ruling::Kept => columns_slots::sets::both_rules(
             first,
             rows,
             end,
@@ -164,8 +165,6 @@ fn granule_rules(
 ) -> Ruling
     ensures { λ r. ⌜ r ≡ ruling (lentGranuleRules head (now (fo .entry)) (now (fd .entry)) (now (ro .entry)) (now (rd .entry)) (now (io .entry)) (now (id .entry)) (now (chains .entry)) (now (seqs .entry)) tight) ⌝ }
 {
-    let c = chains.len();
-    let s = seqs.len();
     let over = is_granule_over(
         fo.len(),
         fd.len(),
@@ -173,11 +172,10 @@ fn granule_rules(
         rd.len(),
         io.len(),
         id.len(),
-        head.cover,
-        c,
-        s,
+        chains.len(),
+        seqs.len(),
     );
-    let limit = sets::limit_rules(head.rows, over, tight);
+    let limit = columns_slots::sets::limit_rules(head.rows, over, tight);
     match limit {
         Ruling::Kept => edge_rules(head, fo, fd, ro, rd, io, id, chains, seqs),
         Ruling::Broken(why) => Ruling::Broken(why),
@@ -208,9 +206,9 @@ fn write_granule(
     ensures { λ _. ⌜ now (inbound .exit) ≡ sets (now (inbound .entry)) 0 (joined (slotsOf (head .first) (columnsOf (head .inbound) (now (io .entry)) (now (id .entry))))) ⌝ }
 {
     let first = head.first;
-    let f = sets::write_csr(first, head.forward, fo, fd, forward);
-    let r = sets::write_csr(first, head.reverse, ro, rd, reverse);
-    let i = sets::write_csr(first, head.inbound, io, id, inbound);
+    let f = columns_slots::sets::write_csr(first, head.forward, fo, fd, forward);
+    let r = columns_slots::sets::write_csr(first, head.reverse, ro, rd, reverse);
+    let i = columns_slots::sets::write_csr(first, head.inbound, io, id, inbound);
     Counts {
         forward: f,
         reverse: r,
@@ -233,10 +231,10 @@ pub fn decode_granule_edges(
     reverse: &mut [u64],
     inbound: &mut [u64],
 ) -> Decoded
-    ensures { λ r. ⌜ r ≡ decodedOf (readGranule (head .first) (head .rows) (head .end) (lentGranule head (now (fo .entry)) (now (fd .entry)) (now (ro .entry)) (now (rd .entry)) (now (io .entry)) (now (id .entry)) (now (chains .entry)) (now (seqs .entry))) (rooms (length (now (forward .entry))) (length (now (reverse .entry))) (length (now (inbound .entry))))) ⌝ }
-    ensures { λ _. ⌜ now (forward .exit) ≡ writtenOver (now (forward .entry)) (setIn 0 (readGranule (head .first) (head .rows) (head .end) (lentGranule head (now (fo .entry)) (now (fd .entry)) (now (ro .entry)) (now (rd .entry)) (now (io .entry)) (now (id .entry)) (now (chains .entry)) (now (seqs .entry))) (rooms (length (now (forward .entry))) (length (now (reverse .entry))) (length (now (inbound .entry)))))) ⌝ }
-    ensures { λ _. ⌜ now (reverse .exit) ≡ writtenOver (now (reverse .entry)) (setIn 1 (readGranule (head .first) (head .rows) (head .end) (lentGranule head (now (fo .entry)) (now (fd .entry)) (now (ro .entry)) (now (rd .entry)) (now (io .entry)) (now (id .entry)) (now (chains .entry)) (now (seqs .entry))) (rooms (length (now (forward .entry))) (length (now (reverse .entry))) (length (now (inbound .entry)))))) ⌝ }
-    ensures { λ _. ⌜ now (inbound .exit) ≡ writtenOver (now (inbound .entry)) (setIn 2 (readGranule (head .first) (head .rows) (head .end) (lentGranule head (now (fo .entry)) (now (fd .entry)) (now (ro .entry)) (now (rd .entry)) (now (io .entry)) (now (id .entry)) (now (chains .entry)) (now (seqs .entry))) (rooms (length (now (forward .entry))) (length (now (reverse .entry))) (length (now (inbound .entry)))))) ⌝ }
+    ensures { λ r. ⌜ r ≡ decodedOf (readLent head (now (fo .entry)) (now (fd .entry)) (now (ro .entry)) (now (rd .entry)) (now (io .entry)) (now (id .entry)) (now (chains .entry)) (now (seqs .entry)) (rooms (length (now (forward .entry))) (length (now (reverse .entry))) (length (now (inbound .entry))))) ⌝ }
+    ensures { λ _. ⌜ now (forward .exit) ≡ writtenOver (now (forward .entry)) (setIn 0 (readLent head (now (fo .entry)) (now (fd .entry)) (now (ro .entry)) (now (rd .entry)) (now (io .entry)) (now (id .entry)) (now (chains .entry)) (now (seqs .entry)) (rooms (length (now (forward .entry))) (length (now (reverse .entry))) (length (now (inbound .entry)))))) ⌝ }
+    ensures { λ _. ⌜ now (reverse .exit) ≡ writtenOver (now (reverse .entry)) (setIn 1 (readLent head (now (fo .entry)) (now (fd .entry)) (now (ro .entry)) (now (rd .entry)) (now (io .entry)) (now (id .entry)) (now (chains .entry)) (now (seqs .entry)) (rooms (length (now (forward .entry))) (length (now (reverse .entry))) (length (now (inbound .entry)))))) ⌝ }
+    ensures { λ _. ⌜ now (inbound .exit) ≡ writtenOver (now (inbound .entry)) (setIn 2 (readLent head (now (fo .entry)) (now (fd .entry)) (now (ro .entry)) (now (rd .entry)) (now (io .entry)) (now (id .entry)) (now (chains .entry)) (now (seqs .entry)) (rooms (length (now (forward .entry))) (length (now (reverse .entry))) (length (now (inbound .entry)))))) ⌝ }
 {
     let tight = is_any_short(forward.len(), reverse.len(), inbound.len());
     let rules = granule_rules(head, fo, fd, ro, rd, io, id, chains, seqs, tight);

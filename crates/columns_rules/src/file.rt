@@ -2,7 +2,7 @@
 use crate::slots::slot_rules;
 use columns::refusal::Refusal;
 use columns::refusal::Ruling;
-use columns_read::sets::is_form;
+use columns_slots::sets::is_form;
 ghost use mathlib.Core.Path.{_≡_};
 ghost use Prim.Native.Nat.{_≤_};
 ghost use Rattle.columns.specs.Building.{subjectOk, numbersOk};

@@ -3,14 +3,15 @@ use mathlib.Core.Path.{_≡_, refl, sym, _∙_, ap}
 use mathlib.Core.List.{List, [], _∷_, _++_}
 use Prim.Native.Nat.{ℕ, suc, _≤_, _<_, _+_, _-_}
 use native.Mathlib.Omega.{arith}
-use lib.ListN.{length, take, drop, set, length-take, take-append-drop}
-use lib.Seq.{slice, sets, sets-eq, length-take-le, length-slice, take-suc-set}
+use lib.ListN.{length, take, set, length-take, take-append-drop}
+use lib.Seq.{slice, sets, length-take-le, length-slice, take-suc-set}
 use borrow.Author.Tests.{lt-leb}
 use Rattle.lists.specs.Lists.{mem, joined, sum}
 use Rattle.lists.proofs.Flat.{length-joined}
-use Rattle.lists.proofs.Slices.{take-none}
+use Rattle.lists.proofs.Slices.{take-none, sets-front}
 use Rattle.lists.proofs.Once.{mem-later}
 use Rattle.columns.specs.Walk.{levels, levelsFrom}
+use Rattle.columns.specs.Answers.{writtenIn}
 use Rattle.arrays.specs.table.Table.{Table, addCap}
 use Rattle.columns_levels.specs.frontier.Frontier.{copied, Seen}
 use Rattle.columns_levels.specs.rounds.Rounds.{endsFrom, Ran}
@@ -62,18 +63,18 @@ module _ (ls : List (List ℕ)) (ends₀ buf ends : List ℕ) (m k : ℕ) (r : R
       let b : m - 1 ≡ sum length ls = sym (sym (length-joined ls) ∙ ap length (r .numbers) ∙ length-slice 1 m buf (r .upto)) in
       rw (a, b)
 
-  pub numbered : (out out′ : List ℕ) → out′ ≡ copied out 0 (slice 1 (1 + (m - 1)) buf) → out′ ≡ sets out 0 (joined ls)
+  pub numbered : (out out′ : List ℕ) → out′ ≡ copied out 0 (slice 1 (1 + (m - 1)) buf) → length buf ≡ 4097 → 4096 ≤ length out → out′ ≡ writtenIn out (joined ls)
   unfolding copied
-  numbered out out′ e = let a = r .start in let z : 1 + (m - 1) ≡ m = omega arith in e ∙ ap (λ (j : ℕ). sets out 0 (slice 1 j buf)) z ∙ ap (λ (j : List ℕ). sets out 0 j) (sym (r .numbers))
+  numbered out out′ e q h =
+      let a = r .start in
+      let z : 1 + (m - 1) ≡ m = omega arith in
+      let n : length (joined ls) ≡ m - 1 = ap length (r .numbers) ∙ length-slice 1 m buf (r .upto) in
+      e ∙ ap (λ (j : ℕ). sets out 0 (slice 1 j buf)) z ∙ ap (λ (j : List ℕ). sets out 0 j) (sym (r .numbers)) ∙ sets-front out (joined ls) (omega (arith, n, r .upto))
 
-  pub ended : length ends ≡ length ends₀ → ends ≡ sets ends₀ 0 (endsFrom 0 ls)
-  ended q =
-      let s : endsFrom 0 ls ≡ take k ends = r .stops in
-      let n : length (endsFrom 0 ls) ≡ k = ap length s ∙ length-take-le k ends (r .fits) in
-      let f = r .fits in
-      let z : 0 + length (endsFrom 0 ls) ≡ k = omega (arith, n) in
-      sym (sets-eq (endsFrom 0 ls) ends₀ 0 (omega (arith, z, f, q)) ∙ ap (λ (j : ℕ). (take 0 ends₀ ++ endsFrom 0 ls) ++ drop j ends₀) z
-      ∙ ap (λ (j : List ℕ). (j ++ endsFrom 0 ls) ++ drop k ends₀) (take-none ends₀) ∙ ap (λ (j : List ℕ). j ++ drop k ends₀) s ∙ ap (λ (j : List ℕ). take k ends ++ j) (sym (r .past)) ∙ take-append-drop k ends)
+  pub ended : ends ≡ writtenIn ends₀ (endsFrom 0 ls)
+  ended =
+      let n : length (endsFrom 0 ls) ≡ k = ap length (r .stops) ∙ length-take-le k ends (r .fits) in
+      sym (rw (n, r .stops, ← r .past) (take-append-drop k ends))
 
   pub in-out : (c : ℕ) → length buf ≡ 4097 → 4096 ≤ c → 0 + (m - 1) ≤ c
   in-out c e h = let u = r .upto in omega arith

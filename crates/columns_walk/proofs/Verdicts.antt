@@ -7,7 +7,6 @@ use Prim.Native.Nat.{ℕ, _≤_, min}
 use native.Mathlib.Omega.{arith}
 use lib.Dec.{ltb}
 use lib.ListN.{length, take, drop}
-use lib.Seq.{sets}
 use borrow.Author.Tests.{lt-ltb, le-ltb, ltb-true, ltb-false}
 use Rattle.lists.specs.Lists.{any, joined, sum}
 use Rattle.lists.proofs.Tests.{tested}
@@ -17,7 +16,7 @@ use Rattle.columns.specs.Reading.{slotsOf, decodeSet}
 use Rattle.columns.specs.Questions.{listOf}
 use Rattle.columns.specs.Walk.{walked, levels}
 use Rattle.columns.specs.Walk as definition
-use Rattle.columns.specs.Answers.{room, lentRules, inOne, countedOf, writtenOver}
+use Rattle.columns.specs.Answers.{room, lentRules, inOne, countedOf, writtenIn, writtenOver}
 use Rattle.columns.specs.declared.refusal.Refusal.{Refusal}
 use Rattle.columns.specs.declared.refusal.Counted.{Counted}
 use Rattle.columns.specs.declared.refusal.Counted.the-variants as counted
@@ -82,9 +81,9 @@ module _ (n a b first rows end : ℕ) (s : EdgeSet) (kind limit start : ℕ) (r 
     pub room-ends : 4096 ≤ b
     room-ends = let w = whole n first rows end s all-kept in let z = m in omega arith
 
-    module _ (l t : List ℕ) (g : t ≡ writtenOver (take n l) (inOne (decodeSet 0 first rows end s (room n))) ++ drop n l) (j : length l ≡ 4096) (slot : ℕ) (ks : slot ≡ kind) where
+    module _ (l t : List ℕ) (g : t ≡ writtenOver (take n l) (inOne (decodeSet 0 first rows end s (room n))) ++ drop n l) (slot : ℕ) (ks : slot ≡ kind) where
       same-parents : levels (parentsIn first slot (s .offsets) t) limit start ≡ levels (listOf first (slotsOf first s) kind) limit start
-      same-parents = ap (λ (i : ℕ). levels (parentsIn first i (s .offsets) t) limit start) ks ∙ ap (λ (p : ℕ → List ℕ). levels p limit start) (parents-fun first kind (s .offsets) t (slotsOf first s) (parents-are n first rows end s all-kept l t g (let z = m in omega arith) j))
+      same-parents = ap (λ (i : ℕ). levels (parentsIn first i (s .offsets) t) limit start) ks ∙ ap (λ (p : ℕ → List ℕ). levels p limit start) (parents-fun first kind (s .offsets) t (slotsOf first s) (parents-are n first rows end s all-kept l t g))
 
       accepted-walk : definition.walk first rows end s kind limit start (rooms a b) ≡ accepted (walked (levels (parentsIn first slot (s .offsets) t) limit start))
       unfolding definition.walk lentRules unless
@@ -95,12 +94,12 @@ module _ (n a b first rows end : ℕ) (s : EdgeSet) (kind limit start : ℕ) (r 
       unfolding handedOf walked
       walk-handed h q = rw (accepted-walk, q)
 
-      pub walk-numbers : (out out′ : List ℕ) → out′ ≡ sets out 0 (joined (levels (parentsIn first slot (s .offsets) t) limit start))
+      pub walk-numbers : (out out′ : List ℕ) → out′ ≡ writtenIn out (joined (levels (parentsIn first slot (s .offsets) t) limit start))
           → out′ ≡ writtenOver out (numbersOf (definition.walk first rows end s kind limit start (rooms a b)))
       unfolding writtenOver numbersOf walked
       walk-numbers out out′ q = rw (accepted-walk, q)
 
-      pub walk-stops : (ends ends′ : List ℕ) → ends′ ≡ sets ends 0 (endsFrom 0 (levels (parentsIn first slot (s .offsets) t) limit start))
+      pub walk-stops : (ends ends′ : List ℕ) → ends′ ≡ writtenIn ends (endsFrom 0 (levels (parentsIn first slot (s .offsets) t) limit start))
           → ends′ ≡ writtenOver ends (endsOf (definition.walk first rows end s kind limit start (rooms a b)))
       unfolding writtenOver endsOf walked
       walk-stops ends ends′ q = rw (accepted-walk, q)
@@ -111,12 +110,12 @@ module _ (first rows end : ℕ) (s : EdgeSet) (kind a b : ℕ) (r : Counted) (e 
   pub ancestor-refused : (why : Refusal) → r ≡ counted.Refused why → lentRules 0 first rows end s [] ≡ some why
   ancestor-refused why f = sym (same-alone first rows end s) ∙ was-refused 4096 first rows end s r e why f
 
-  pub ancestor-found : (k : ℕ) → r ≡ counted.Entries k → (l t : List ℕ) → t ≡ writtenOver (take 4096 l) (inOne (decodeSet 0 first rows end s (room 4096))) ++ drop 4096 l → length l ≡ 4096
+  pub ancestor-found : (k : ℕ) → r ≡ counted.Entries k → (l t : List ℕ) → t ≡ writtenOver (take 4096 l) (inOne (decodeSet 0 first rows end s (room 4096))) ++ drop 4096 l
       → (slot : ℕ) → slot ≡ kind → (o : Found) → Answer o (parentsIn first slot (s .offsets) t) a b → (q : Shared) → q ≡ sharedOf o → Promised q (lentRules 0 first rows end s []) (listOf first (slotsOf first s) kind) a b
-  ancestor-found k f l t g j slot ks o x q z =
+  ancestor-found k f l t g slot ks o x q z =
       let c = was-read 4096 first rows end s r e k f in
       let d : lentRules 0 first rows end s [] ≡ none = sym (same-alone first rows end s) ∙ c in
-      let i : cut (s .offsets) t ≡ slotsOf first s = parents-are 4096 first rows end s c l t g (omega arith) j in
+      let i : cut (s .offsets) t ≡ slotsOf first s = parents-are 4096 first rows end s c l t g in
       rw z (go o d (subst (λ (p : ℕ → List ℕ). Answer o p a b) (ap (λ (u : ℕ). parentsIn first u (s .offsets) t) ks ∙ parents-fun first kind (s .offsets) t (slotsOf first s) i) x))
     where
       go : (o : Found) → lentRules 0 first rows end s [] ≡ none → Answer o (listOf first (slotsOf first s) kind) a b → Promised (sharedOf o) (lentRules 0 first rows end s []) (listOf first (slotsOf first s) kind) a b

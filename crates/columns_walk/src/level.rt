@@ -2,7 +2,7 @@
 use columns::kind::Kind;
 use columns::refusal::Counted;
 use columns::refusal::Refusal;
-use columns_read::sets;
+use columns_slots::sets;
 ghost use mathlib.Core.Path.{_≡_};
 ghost use mathlib.Core.List.{[], _∷_};
 ghost use mathlib.Core.Bool.{true, false};
@@ -10,12 +10,12 @@ ghost use mathlib.Core.Option.{some};
 ghost use Prim.Native.Nat.{_-_, _≤_, _<_, min};
 ghost use lib.Dec.{ltb};
 ghost use lib.ListN.{length, take};
-ghost use lib.Seq.{slice, sets};
+ghost use lib.Seq.{slice};
 ghost use Rattle.lists.specs.Lists.{any};
 ghost use Rattle.lists.specs.Order.{sort};
 ghost use Rattle.columns.specs.Limits.{maxNumbers};
 ghost use Rattle.columns.specs.Walk.{level};
-ghost use Rattle.columns.specs.Answers.{kindOf, columnsOf, room, limitsOf, countedOf, writtenOver};
+ghost use Rattle.columns.specs.Answers.{kindOf, columnsOf, room, limitsOf, countedOf, writtenIn, writtenOver};
 ghost use Rattle.columns_levels.specs.frontier.Frontier.{parentsIn};
 ghost use Rattle.columns_walk.specs.level.Step as step;
 ghost use Rattle.columns_walk.specs.level.Step.{unvisited, News};
@@ -71,7 +71,7 @@ fn find(
 fn lay(out: &mut [u64], limit: usize, keys: &[u64], n: usize, r: usize) -> usize
     requires { ⌜ (n ≤ r) × ((r ≤ length (now keys)) × ((r - n ≤ 4096) × (4096 ≤ length (now out)))) ⌝ }
     ensures { λ e. ⌜ e ≡ length (take limit (sort (slice n r (now (keys .entry))))) ⌝ }
-    ensures { λ _. ⌜ now (out .exit) ≡ sets (now (out .entry)) 0 (take limit (sort (slice n r (now (keys .entry))))) ⌝ }
+    ensures { λ _. ⌜ now (out .exit) ≡ writtenIn (now (out .entry)) (take limit (sort (slice n r (now (keys .entry))))) ⌝ }
 {
     let mut buf = [0u64; 4096];
     let mut w = [0u64; 4096];
@@ -93,7 +93,7 @@ fn hand(
 ) -> usize
     requires { ⌜ (kind < 2) × ((4096 ≤ length (now out)) × ((length (now visited) ≤ 4096) × (length (now targets) ≤ 4096))) ⌝ }
     ensures { λ e. ⌜ e ≡ length (level (parentsIn first kind (now (offsets .entry)) (now (targets .entry))) limit (now (visited .entry)) (now (frontier .entry))) ⌝ }
-    ensures { λ _. ⌜ now (out .exit) ≡ sets (now (out .entry)) 0 (level (parentsIn first kind (now (offsets .entry)) (now (targets .entry))) limit (now (visited .entry)) (now (frontier .entry))) ⌝ }
+    ensures { λ _. ⌜ now (out .exit) ≡ writtenIn (now (out .entry)) (level (parentsIn first kind (now (offsets .entry)) (now (targets .entry))) limit (now (visited .entry)) (now (frontier .entry))) ⌝ }
 {
     let mut keys = [0u64; 8192];
     let part = find(&mut keys, visited, frontier, first, kind, offsets, targets);

@@ -8,13 +8,12 @@ ghost use mathlib.Core.Path.{_≡_};
 ghost use mathlib.Core.List.{[], _∷_};
 ghost use Prim.Native.Nat.{_-_, _≤_, _<_, min};
 ghost use lib.ListN.{length, take};
-ghost use lib.Seq.{sets};
 ghost use Rattle.lists.specs.Lists.{joined, sum};
 ghost use Rattle.columns.specs.Reading.{slotsOf};
 ghost use Rattle.columns.specs.Questions.{listOf};
 ghost use Rattle.columns.specs.Walk as definition;
 ghost use Rattle.columns.specs.Walk.{levels};
-ghost use Rattle.columns.specs.Answers.{kindOf, columnsOf, lentRules, writtenOver};
+ghost use Rattle.columns.specs.Answers.{kindOf, columnsOf, lentRules, writtenIn, writtenOver};
 ghost use Rattle.columns_levels.specs.frontier.Frontier.{parentsIn};
 ghost use Rattle.columns_levels.specs.rounds.Rounds.{endsFrom, Ran};
 ghost use Rattle.columns_walk.specs.Handing.{rooms, handedOf, numbersOf, endsOf, sharedOf, Promised};
@@ -91,8 +90,8 @@ fn hand(
 ) -> Handed
     requires { ⌜ (kind < 2) × ((4096 ≤ length (now out)) × ((4096 ≤ length (now ends)) × (length (now targets) < 4097))) ⌝ }
     ensures { λ r. ⌜ r ≡ Levels (length (levels (parentsIn first kind (now (offsets .entry)) (now (targets .entry))) limit start)) (sum length (levels (parentsIn first kind (now (offsets .entry)) (now (targets .entry))) limit start)) ⌝ }
-    ensures { λ _. ⌜ now (out .exit) ≡ sets (now (out .entry)) 0 (joined (levels (parentsIn first kind (now (offsets .entry)) (now (targets .entry))) limit start)) ⌝ }
-    ensures { λ _. ⌜ now (ends .exit) ≡ sets (now (ends .entry)) 0 (endsFrom 0 (levels (parentsIn first kind (now (offsets .entry)) (now (targets .entry))) limit start)) ⌝ }
+    ensures { λ _. ⌜ now (out .exit) ≡ writtenIn (now (out .entry)) (joined (levels (parentsIn first kind (now (offsets .entry)) (now (targets .entry))) limit start)) ⌝ }
+    ensures { λ _. ⌜ now (ends .exit) ≡ writtenIn (now (ends .entry)) (endsFrom 0 (levels (parentsIn first kind (now (offsets .entry)) (now (targets .entry))) limit start)) ⌝ }
 {
     let mut buf = [0u64; 4097];
     buf[0] = start;

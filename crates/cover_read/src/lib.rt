@@ -1,7 +1,7 @@
 // Reading a cover: ranges and stored links, refused or answered as links.
-pub mod chosen;
+mod chosen;
 pub mod links;
-pub mod ranges;
+mod ranges;
 pub mod window;
 
 use columns::refusal::Refusal;

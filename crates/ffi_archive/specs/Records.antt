@@ -1,6 +1,5 @@
 -- What reading an archive and writing records answer by numbers.
 use Rattle.columns.specs.Refusal.{numberOf}
-use Rattle.columns.specs.declared.refusal.Refusal.the-variants.{RecordBroken}
 use Rattle.archive_read.specs.declared.files.Summed as reader
 use Rattle.archive_write.specs.declared.writer.Wrote as writer
 use Rattle.ffi.specs.Numbers.{entries, noEntries}
@@ -21,7 +20,7 @@ sumsOf (reader.the-variants.Sums t) = record {
   reverse = t .reverse;
   inbound = t .inbound;
 }
-sumsOf reader.the-variants.Broken = record { refusal = numberOf RecordBroken; files = 0; events = 0; roots = 0; unresolved = 0; ranges = 0; links = 0; forward = 0; reverse = 0; inbound = 0 }
+sumsOf (reader.the-variants.Refused r) = record { refusal = numberOf r; files = 0; events = 0; roots = 0; unresolved = 0; ranges = 0; links = 0; forward = 0; reverse = 0; inbound = 0 }
 
 -- the place after what was written
 unfoldable pub wroteOf : writer.Wrote → Answer

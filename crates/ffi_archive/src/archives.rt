@@ -3,6 +3,7 @@ use archive_read::files::Summed;
 use archive_read::files::sum_up;
 use archive_write::writer;
 use archive_write::writer::Wrote;
+use columns::refusal::number;
 use ffi::answer::Answer;
 use ffi::answer::no_entries;
 use ffi::answer::some_entries;
@@ -11,11 +12,12 @@ ghost use Prim.Native.Nat.{_+_};
 ghost use lib.ListN.{length};
 ghost use lib.Seq.{sets};
 ghost use Rattle.lists.specs.Lists.{flat};
+ghost use Rattle.archive_bytes.specs.After.{left};
 ghost use Rattle.archive.specs.Parse.{parse};
 ghost use Rattle.archive.specs.Encode.{recordBytes, setsBytes, rowBytes};
 ghost use Rattle.archive_read.specs.Sums.{totalsOf};
 ghost use Rattle.archive_store.specs.Lent.{zip2, setFrom, rowFrom};
-ghost use Rattle.archive_write.specs.Writes.{edgesRules, rowsRules, wrote, left};
+ghost use Rattle.archive_write.specs.Writes.{edgesRules, rowsRules, wrote};
 ghost use Rattle.ffi_archive.specs.Records.{sumsOf, wroteOf};
 
 // How many files an archive has, and the sums of their counts; `refusal` is 23 where the bytes are no archive.
@@ -49,8 +51,8 @@ fn sums_of(summed: Summed) -> Sums
             reverse: t.reverse,
             inbound: t.inbound,
         },
-        Summed::Broken => Sums {
-            refusal: 23,
+        Summed::Refused(why) => Sums {
+            refusal: number(why),
             files: 0,
             events: 0,
             roots: 0,

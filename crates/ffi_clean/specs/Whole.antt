@@ -7,8 +7,6 @@ use lib.Dec.{ltb}
 use lib.ListN.{length, getD, take, drop}
 use Rattle.columns.specs.declared.refusal.Refusal.the-variants.{SliceShort}
 use Rattle.cleaning.specs.Step as step
-use Rattle.cleaning.specs.Listing.{listing}
-use Rattle.run_text.specs.files.Files.{listingRoom}
 use Rattle.messages.specs.words.Words.{table}
 use Rattle.run_state.specs.declared.Writing.{Writing}
 use Rattle.run_state.specs.declared.Writing.the-variants.{Length, Refused}
@@ -21,25 +19,22 @@ numbered (Length n) = entries n
 numbered (Refused x) = noEntries x
 
 -- the bytes of a step's answer; a step that writes none has none
-unfoldable pub bytesOf : step.Answer → List ℕ
-bytesOf (step.refused x) = []
-bytesOf step.done = []
+unfoldable pub bytesOf : step.Answer → step.Bytes
+bytesOf (step.refused x) = step.allOf []
+bytesOf step.done = step.allOf []
 bytesOf (step.wrote w) = w
-bytesOf (step.told n) = []
-bytesOf (step.counted n) = []
-
--- the listing into so much room: 41 where there is less than a listing may take
-unfoldable pub listedFrom : List ℕ → ℕ → step.Answer
-listedFrom bytes room = cond (ltb room listingRoom) (step.refused SliceShort) (step.wrote (listing bytes))
+bytesOf (step.told n) = step.allOf []
+bytesOf (step.counted n) = step.allOf []
+bytesOf (step.printed t) = t
 
 -- what a number means into so much room: 41 where there is less than the longest words take
 unfoldable pub wordsFrom : ℕ → ℕ → step.Answer
-wordsFrom n room = cond (ltb room 120) (step.refused SliceShort) (step.wrote (getD table n []))
+wordsFrom n room = cond (ltb room 120) (step.refused SliceShort) (step.wrote (step.allOf (getD table n [])))
 
 -- the answer for as much room as was lent: its number, its bytes from the first on, and past them all is as it was
 pub record GivesBy (answer : ℕ → step.Answer) (was is : List ℕ) (r : Answer) : Type 0 where
   pub refused : r .refusal ≡ refusalOf (answer (length was))
-  pub counted : r .length ≡ length (bytesOf (answer (length was)))
-  pub bytes : take (r .length) is ≡ bytesOf (answer (length was))
+  pub counted : r .length ≡ (bytesOf (answer (length was))) .length
+  pub bytes : take (r .length) is ≡ (bytesOf (answer (length was))) .bytes
   pub rest : drop (r .length) is ≡ drop (r .length) was
   pub within : r .length ≤ length was

@@ -6,9 +6,11 @@ use ffi::answer::some_entries;
 use run::Run;
 use run_state::Writing;
 ghost use mathlib.Core.Path.{_≡_};
-ghost use Rattle.run_clean.specs.Cleans.{writtenFrom, cleanedFrom};
+ghost use Rattle.run.specs.Contracts.{writtenFrom};
+ghost use Rattle.run_clean.specs.Cleans.{cleanedFrom};
 ghost use Rattle.run.specs.View.{view};
-ghost use Rattle.ffi_clean.specs.Whole.{numbered, listedFrom, wordsFrom, GivesBy};
+ghost use Rattle.run_print.specs.Whole.{listingFrom};
+ghost use Rattle.ffi_clean.specs.Whole.{numbered, wordsFrom, GivesBy};
 
 // How many bytes were written.
 fn answer_of(writing: Writing) -> Answer
@@ -36,10 +38,10 @@ pub extern "C" fn ridgeoven_write(run: Run, out: &mut [u8]) -> Answer
     answer_of(run::write(run, out))
 }
 
-// What the listing program prints of an archive, in lent bytes.
+// The listing of an archive in lent bytes.
 #[no_mangle]
 pub extern "C" fn ridgeoven_list(bytes: &[u8], out: &mut [u8]) -> Answer
-    ensures { λ r. ⌜ GivesBy (listedFrom (now (bytes .entry))) (now (out .entry)) (now (out .exit)) r ⌝ }
+    ensures { λ r. ⌜ GivesBy (listingFrom (now (bytes .entry))) (now (out .entry)) (now (out .exit)) r ⌝ }
 {
     answer_of(run_print::listing(bytes, out))
 }

@@ -1,7 +1,8 @@
 // Edge columns: reading, and the questions over them.
 use crate::numbers::count_of;
-use crate::numbers::flag_at;
-use crate::numbers::kind_at;
+use crate::numbers::kind_of;
+use crate::numbers::set_of;
+use columns::refusal::Counted;
 use columns::refusal::Refusal;
 use columns::refusal::number;
 use columns_ask::Labelled;
@@ -11,19 +12,24 @@ use columns_read::Head;
 use ffi::answer::Answer;
 use ffi::answer::no_entries;
 use ffi::answer::some_entries;
+use ffi::given::flag_at;
+use ffi::granule::Granule;
+use ffi::granule::no_edges;
+use ffi::granule::some_edges;
 ghost use mathlib.Core.Path.{_≡_};
 ghost use mathlib.Core.List.{[], _∷_};
 ghost use lib.ListN.{length};
-ghost use Rattle.columns.specs.Reading.{decodeSet, readGranule};
+ghost use Rattle.columns.specs.Limits.{kinds, edgeSets};
+ghost use Rattle.columns.specs.Reading.{decodeSet};
 ghost use Rattle.columns.specs.Questions as asked;
 ghost use Rattle.columns.specs.Roots.{rootEntries};
-ghost use Rattle.columns.specs.Answers.{kindOf, columnsOf, labelColumns, room, inOne, countedOf, writtenOver};
-ghost use Rattle.columns_read.specs.Granules.{lentGranule, rooms, decodedOf, setIn};
+ghost use Rattle.columns.specs.Answers.{columnsOf, labelColumns, room, inOne, countedOf, writtenOver};
+ghost use Rattle.columns_read.specs.Granules.{rooms, readLent, decodedOf, setIn};
 ghost use Rattle.columns_ask.specs.Views.{labelledOf};
 ghost use Rattle.columns_build.specs.Written.{records, rootsAnswer, over};
-ghost use Rattle.ffi_columns.specs.Numbers.{kindAt, headAt, countOf, rootsOf, edges, noEdges, granuleOf, labelOf};
+ghost use Rattle.ffi_columns.specs.Numbers.{unnamed, after, headAt, countOf, rootsOf, granuleOf, labelOf};
 
-// One set of edges: 0 forward, 1 reverse, 2 inbound.
+// One set of edges: 0 forward, 1 reverse, 2 inbound; another number is 12.
 #[no_mangle]
 pub extern "C" fn ridgeoven_read_set(
     set: u64,
@@ -35,41 +41,22 @@ pub extern "C" fn ridgeoven_read_set(
     deltas: &[i64],
     targets: &mut [u64],
 ) -> Answer
-    ensures { λ r. ⌜ r ≡ countOf (countedOf (inOne (decodeSet set first rows end (columnsOf count (now (offsets .entry)) (now (deltas .entry))) (room (length (now (targets .entry))))))) ⌝ }
-    ensures { λ _. ⌜ now (targets .exit) ≡ writtenOver (now (targets .entry)) (inOne (decodeSet set first rows end (columnsOf count (now (offsets .entry)) (now (deltas .entry))) (room (length (now (targets .entry)))))) ⌝ }
+    ensures { λ r. ⌜ r ≡ countOf (countedOf (after (unnamed edgeSets set) (inOne (decodeSet set first rows end (columnsOf count (now (offsets .entry)) (now (deltas .entry))) (room (length (now (targets .entry)))))))) ⌝ }
+    ensures { λ _. ⌜ now (targets .exit) ≡ writtenOver (now (targets .entry)) (after (unnamed edgeSets set) (inOne (decodeSet set first rows end (columnsOf count (now (offsets .entry)) (now (deltas .entry))) (room (length (now (targets .entry))))))) ⌝ }
 {
-    count_of(columns_read::sets::decode_csr(set, first, rows, end, count, offsets, deltas, targets))
-}
-
-// How many targets each set of a granule has.
-#[repr(C)]
-pub struct Granule {
-    pub refusal: u64,
-    pub forward: usize,
-    pub reverse: usize,
-    pub inbound: usize,
-}
-
-pub(crate) fn some_edges(forward: usize, reverse: usize, inbound: usize) -> Granule
-    ensures { λ r. ⌜ r ≡ edges forward reverse inbound ⌝ }
-{
-    Granule {
-        refusal: 0,
-        forward: forward,
-        reverse: reverse,
-        inbound: inbound,
+    if 2 < set {
+        return count_of(Counted::Refused(Refusal::InboundParent));
     }
-}
-
-pub(crate) fn no_edges(why: Refusal) -> Granule
-    ensures { λ r. ⌜ r ≡ noEdges why ⌝ }
-{
-    Granule {
-        refusal: number(why),
-        forward: 0,
-        reverse: 0,
-        inbound: 0,
-    }
+    count_of(columns_read::sets::decode_csr(
+        set_of(set),
+        first,
+        rows,
+        end,
+        count,
+        offsets,
+        deltas,
+        targets,
+    ))
 }
 
 fn granule_of(decoded: Decoded) -> Granule
@@ -103,10 +90,10 @@ pub extern "C" fn ridgeoven_read_granule(
     reverse: &mut [u64],
     inbound: &mut [u64],
 ) -> Granule
-    ensures { λ r. ⌜ r ≡ granuleOf (decodedOf (readGranule first rows end (lentGranule (headAt first rows end fcount rcount icount cover) (now (fo .entry)) (now (fd .entry)) (now (ro .entry)) (now (rd .entry)) (now (io .entry)) (now (id .entry)) (now (chains .entry)) (now (seqs .entry))) (rooms (length (now (forward .entry))) (length (now (reverse .entry))) (length (now (inbound .entry)))))) ⌝ }
-    ensures { λ _. ⌜ now (forward .exit) ≡ writtenOver (now (forward .entry)) (setIn 0 (readGranule first rows end (lentGranule (headAt first rows end fcount rcount icount cover) (now (fo .entry)) (now (fd .entry)) (now (ro .entry)) (now (rd .entry)) (now (io .entry)) (now (id .entry)) (now (chains .entry)) (now (seqs .entry))) (rooms (length (now (forward .entry))) (length (now (reverse .entry))) (length (now (inbound .entry)))))) ⌝ }
-    ensures { λ _. ⌜ now (reverse .exit) ≡ writtenOver (now (reverse .entry)) (setIn 1 (readGranule first rows end (lentGranule (headAt first rows end fcount rcount icount cover) (now (fo .entry)) (now (fd .entry)) (now (ro .entry)) (now (rd .entry)) (now (io .entry)) (now (id .entry)) (now (chains .entry)) (now (seqs .entry))) (rooms (length (now (forward .entry))) (length (now (reverse .entry))) (length (now (inbound .entry)))))) ⌝ }
-    ensures { λ _. ⌜ now (inbound .exit) ≡ writtenOver (now (inbound .entry)) (setIn 2 (readGranule first rows end (lentGranule (headAt first rows end fcount rcount icount cover) (now (fo .entry)) (now (fd .entry)) (now (ro .entry)) (now (rd .entry)) (now (io .entry)) (now (id .entry)) (now (chains .entry)) (now (seqs .entry))) (rooms (length (now (forward .entry))) (length (now (reverse .entry))) (length (now (inbound .entry)))))) ⌝ }
+    ensures { λ r. ⌜ r ≡ granuleOf (decodedOf (readLent (headAt first rows end fcount rcount icount cover) (now (fo .entry)) (now (fd .entry)) (now (ro .entry)) (now (rd .entry)) (now (io .entry)) (now (id .entry)) (now (chains .entry)) (now (seqs .entry)) (rooms (length (now (forward .entry))) (length (now (reverse .entry))) (length (now (inbound .entry)))))) ⌝ }
+    ensures { λ _. ⌜ now (forward .exit) ≡ writtenOver (now (forward .entry)) (setIn 0 (readLent (headAt first rows end fcount rcount icount cover) (now (fo .entry)) (now (fd .entry)) (now (ro .entry)) (now (rd .entry)) (now (io .entry)) (now (id .entry)) (now (chains .entry)) (now (seqs .entry)) (rooms (length (now (forward .entry))) (length (now (reverse .entry))) (length (now (inbound .entry)))))) ⌝ }
+    ensures { λ _. ⌜ now (reverse .exit) ≡ writtenOver (now (reverse .entry)) (setIn 1 (readLent (headAt first rows end fcount rcount icount cover) (now (fo .entry)) (now (fd .entry)) (now (ro .entry)) (now (rd .entry)) (now (io .entry)) (now (id .entry)) (now (chains .entry)) (now (seqs .entry)) (rooms (length (now (forward .entry))) (length (now (reverse .entry))) (length (now (inbound .entry)))))) ⌝ }
+    ensures { λ _. ⌜ now (inbound .exit) ≡ writtenOver (now (inbound .entry)) (setIn 2 (readLent (headAt first rows end fcount rcount icount cover) (now (fo .entry)) (now (fd .entry)) (now (ro .entry)) (now (rd .entry)) (now (io .entry)) (now (id .entry)) (now (chains .entry)) (now (seqs .entry)) (rooms (length (now (forward .entry))) (length (now (reverse .entry))) (length (now (inbound .entry)))))) ⌝ }
 {
     let head = Head {
         first: first,
@@ -133,6 +120,7 @@ pub extern "C" fn ridgeoven_read_granule(
     ))
 }
 
+// The parents of a number by a kind: 0 prev, 1 auth; another number is 12, here and below.
 #[no_mangle]
 pub extern "C" fn ridgeoven_parents(
     first: u64,
@@ -145,9 +133,12 @@ pub extern "C" fn ridgeoven_parents(
     number: u64,
     list: &mut [u64],
 ) -> Answer
-    ensures { λ r. ⌜ r ≡ countOf (countedOf (asked.parents first rows end (columnsOf count (now (offsets .entry)) (now (deltas .entry))) (kindOf (kindAt kind)) number (room (length (now (list .entry)))))) ⌝ }
-    ensures { λ _. ⌜ now (list .exit) ≡ writtenOver (now (list .entry)) (asked.parents first rows end (columnsOf count (now (offsets .entry)) (now (deltas .entry))) (kindOf (kindAt kind)) number (room (length (now (list .entry))))) ⌝ }
+    ensures { λ r. ⌜ r ≡ countOf (countedOf (after (unnamed kinds kind) (asked.parents first rows end (columnsOf count (now (offsets .entry)) (now (deltas .entry))) kind number (room (length (now (list .entry))))))) ⌝ }
+    ensures { λ _. ⌜ now (list .exit) ≡ writtenOver (now (list .entry)) (after (unnamed kinds kind) (asked.parents first rows end (columnsOf count (now (offsets .entry)) (now (deltas .entry))) kind number (room (length (now (list .entry)))))) ⌝ }
 {
+    if 1 < kind {
+        return count_of(Counted::Refused(Refusal::InboundParent));
+    }
     count_of(columns_ask::parents(
         first,
         rows,
@@ -155,7 +146,7 @@ pub extern "C" fn ridgeoven_parents(
         count,
         offsets,
         deltas,
-        kind_at(kind),
+        kind_of(kind),
         number,
         list,
     ))
@@ -176,9 +167,12 @@ pub extern "C" fn ridgeoven_children(
     number: u64,
     list: &mut [u64],
 ) -> Answer
-    ensures { λ r. ⌜ r ≡ countOf (countedOf (asked.children first rows end (columnsOf rcount (now (ro .entry)) (now (rd .entry))) (columnsOf icount (now (io .entry)) (now (id .entry))) (kindOf (kindAt kind)) number (room (length (now (list .entry)))))) ⌝ }
-    ensures { λ _. ⌜ now (list .exit) ≡ writtenOver (now (list .entry)) (asked.children first rows end (columnsOf rcount (now (ro .entry)) (now (rd .entry))) (columnsOf icount (now (io .entry)) (now (id .entry))) (kindOf (kindAt kind)) number (room (length (now (list .entry))))) ⌝ }
+    ensures { λ r. ⌜ r ≡ countOf (countedOf (after (unnamed kinds kind) (asked.children first rows end (columnsOf rcount (now (ro .entry)) (now (rd .entry))) (columnsOf icount (now (io .entry)) (now (id .entry))) kind number (room (length (now (list .entry))))))) ⌝ }
+    ensures { λ _. ⌜ now (list .exit) ≡ writtenOver (now (list .entry)) (after (unnamed kinds kind) (asked.children first rows end (columnsOf rcount (now (ro .entry)) (now (rd .entry))) (columnsOf icount (now (io .entry)) (now (id .entry))) kind number (room (length (now (list .entry)))))) ⌝ }
 {
+    if 1 < kind {
+        return count_of(Counted::Refused(Refusal::InboundParent));
+    }
     count_of(columns_ask::children(
         first,
         rows,
@@ -189,7 +183,7 @@ pub extern "C" fn ridgeoven_children(
         icount,
         io,
         id,
-        kind_at(kind),
+        kind_of(kind),
         number,
         list,
     ))

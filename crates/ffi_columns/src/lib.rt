@@ -1,5 +1,4 @@
-// Edge columns for programs in C or Rust: read, asked, built and walked, answered by numbers.
-pub mod builds;
+// Edge columns for programs in C or Rust: read, asked and walked, answered by numbers.
 pub mod edges;
 mod numbers;
 pub mod walks;

@@ -1,27 +1,39 @@
-// What is given by a number, and how many entries were found.
+// Kinds and sets by their numbers, and how many entries were found.
 use columns::kind::Kind;
 use columns::refusal::Counted;
+use columns::set::Set;
 use ffi::answer::Answer;
 use ffi::answer::no_entries;
 use ffi::answer::some_entries;
 ghost use mathlib.Core.Path.{_≡_};
-ghost use Rattle.ffi_columns.specs.Numbers.{flagAt, kindAt, countOf};
+ghost use Prim.Native.Nat.{_<_};
+ghost use Rattle.columns.specs.Limits.{kinds, edgeSets};
+ghost use Rattle.columns.specs.Answers.{kindOf, setNumber};
+ghost use Rattle.ffi_columns.specs.Numbers.{countOf};
 
-// A flag by its number: 0 is no, any other yes.
-pub(crate) fn flag_at(n: u64) -> bool
-    ensures { λ r. ⌜ r ≡ flagAt n ⌝ }
+// The kind that a number names.
+pub(crate) fn kind_of(n: u64) -> Kind
+    requires { ⌜ n < kinds ⌝ }
+    ensures { λ r. ⌜ kindOf r ≡ n ⌝ }
 {
-    n != 0
+    if n == 0 {
+        return Kind::Prev;
+    }
+    Kind::Auth
 }
 
-// The kind of a number: 0 is prev, any other auth.
-pub(crate) fn kind_at(n: u64) -> Kind
-    ensures { λ r. ⌜ r ≡ kindAt n ⌝ }
+// The set that a number names.
+pub(crate) fn set_of(n: u64) -> Set
+    requires { ⌜ n < edgeSets ⌝ }
+    ensures { λ r. ⌜ setNumber r ≡ n ⌝ }
 {
-    if flag_at(n) {
-        return Kind::Auth;
+    if n == 0 {
+        return Set::Forward;
     }
-    Kind::Prev
+    if n == 1 {
+        return Set::Reverse;
+    }
+    Set::Inbound
 }
 
 pub(crate) fn count_of(counted: Counted) -> Answer

@@ -1,20 +1,24 @@
 // The walk, its single step, and the shared ancestor.
 use crate::numbers::count_of;
-use crate::numbers::kind_at;
+use crate::numbers::kind_of;
+use columns::refusal::Counted;
+use columns::refusal::Refusal;
 use columns::refusal::number;
 use columns_walk::Handed;
 use columns_walk::Shared;
 use ffi::answer::Answer;
 ghost use mathlib.Core.Path.{_≡_};
-ghost use mathlib.Core.List.{[]};
+ghost use mathlib.Core.List.{[], _∷_};
 ghost use lib.ListN.{length};
+ghost use Rattle.columns.specs.Limits.{kinds};
+ghost use Rattle.columns.specs.Refusal.{firstOf};
 ghost use Rattle.columns.specs.Reading.{slotsOf};
 ghost use Rattle.columns.specs.Questions.{listOf};
-ghost use Rattle.columns.specs.Answers.{kindOf, columnsOf, room, lentRules, countedOf, writtenOver};
+ghost use Rattle.columns.specs.Answers.{columnsOf, room, lentRules, countedOf, writtenOver};
 ghost use Rattle.columns.specs.Walk as definition;
 ghost use Rattle.columns_walk.specs.Handing.{rooms, handedOf, numbersOf, endsOf};
 ghost use Rattle.columns_walk.specs.level.Step as step;
-ghost use Rattle.ffi_columns.specs.Numbers.{kindAt, countOf, walkedOf, ancestorOf, PromisedBy};
+ghost use Rattle.ffi_columns.specs.Numbers.{unnamed, after, countOf, walkedOf, ancestorOf, PromisedBy};
 
 // How many levels a walk has, and how many numbers it has handed out.
 #[repr(C)]
@@ -56,10 +60,13 @@ pub extern "C" fn ridgeoven_walk(
     numbers: &mut [u64],
     ends: &mut [u64],
 ) -> Walked
-    ensures { λ r. ⌜ r ≡ walkedOf (handedOf (definition.walk first rows end (columnsOf count (now (offsets .entry)) (now (deltas .entry))) (kindOf (kindAt kind)) limit start (rooms (length (now (numbers .entry))) (length (now (ends .entry)))))) ⌝ }
-    ensures { λ _. ⌜ now (numbers .exit) ≡ writtenOver (now (numbers .entry)) (numbersOf (definition.walk first rows end (columnsOf count (now (offsets .entry)) (now (deltas .entry))) (kindOf (kindAt kind)) limit start (rooms (length (now (numbers .entry))) (length (now (ends .entry)))))) ⌝ }
-    ensures { λ _. ⌜ now (ends .exit) ≡ writtenOver (now (ends .entry)) (endsOf (definition.walk first rows end (columnsOf count (now (offsets .entry)) (now (deltas .entry))) (kindOf (kindAt kind)) limit start (rooms (length (now (numbers .entry))) (length (now (ends .entry)))))) ⌝ }
+    ensures { λ r. ⌜ r ≡ walkedOf (handedOf (after (unnamed kinds kind) (definition.walk first rows end (columnsOf count (now (offsets .entry)) (now (deltas .entry))) kind limit start (rooms (length (now (numbers .entry))) (length (now (ends .entry))))))) ⌝ }
+    ensures { λ _. ⌜ now (numbers .exit) ≡ writtenOver (now (numbers .entry)) (numbersOf (after (unnamed kinds kind) (definition.walk first rows end (columnsOf count (now (offsets .entry)) (now (deltas .entry))) kind limit start (rooms (length (now (numbers .entry))) (length (now (ends .entry))))))) ⌝ }
+    ensures { λ _. ⌜ now (ends .exit) ≡ writtenOver (now (ends .entry)) (endsOf (after (unnamed kinds kind) (definition.walk first rows end (columnsOf count (now (offsets .entry)) (now (deltas .entry))) kind limit start (rooms (length (now (numbers .entry))) (length (now (ends .entry))))))) ⌝ }
 {
+    if 1 < kind {
+        return walked_of(Handed::Refused(Refusal::InboundParent));
+    }
     walked_of(columns_walk::walk(
         first,
         rows,
@@ -67,7 +74,7 @@ pub extern "C" fn ridgeoven_walk(
         count,
         offsets,
         deltas,
-        kind_at(kind),
+        kind_of(kind),
         limit,
         start,
         numbers,
@@ -90,9 +97,12 @@ pub extern "C" fn ridgeoven_next(
     frontier: &[u64],
     level: &mut [u64],
 ) -> Answer
-    ensures { λ r. ⌜ r ≡ countOf (countedOf (step.next first rows end (columnsOf count (now (offsets .entry)) (now (deltas .entry))) (kindOf (kindAt kind)) limit (now (visited .entry)) (now (frontier .entry)) (room (length (now (level .entry)))))) ⌝ }
-    ensures { λ _. ⌜ now (level .exit) ≡ writtenOver (now (level .entry)) (step.next first rows end (columnsOf count (now (offsets .entry)) (now (deltas .entry))) (kindOf (kindAt kind)) limit (now (visited .entry)) (now (frontier .entry)) (room (length (now (level .entry))))) ⌝ }
+    ensures { λ r. ⌜ r ≡ countOf (countedOf (after (unnamed kinds kind) (step.next first rows end (columnsOf count (now (offsets .entry)) (now (deltas .entry))) kind limit (now (visited .entry)) (now (frontier .entry)) (room (length (now (level .entry))))))) ⌝ }
+    ensures { λ _. ⌜ now (level .exit) ≡ writtenOver (now (level .entry)) (after (unnamed kinds kind) (step.next first rows end (columnsOf count (now (offsets .entry)) (now (deltas .entry))) kind limit (now (visited .entry)) (now (frontier .entry)) (room (length (now (level .entry)))))) ⌝ }
 {
+    if 1 < kind {
+        return count_of(Counted::Refused(Refusal::InboundParent));
+    }
     count_of(columns_walk::level::next(
         first,
         rows,
@@ -100,7 +110,7 @@ pub extern "C" fn ridgeoven_next(
         count,
         offsets,
         deltas,
-        kind_at(kind),
+        kind_of(kind),
         limit,
         visited,
         frontier,
@@ -150,8 +160,11 @@ pub extern "C" fn ridgeoven_ancestor(
     a: u64,
     b: u64,
 ) -> Ancestor
-    ensures { λ r. ⌜ PromisedBy r (lentRules 0 first rows end (columnsOf count (now (offsets .entry)) (now (deltas .entry))) []) (listOf first (slotsOf first (columnsOf count (now (offsets .entry)) (now (deltas .entry)))) (kindOf (kindAt kind))) a b ⌝ }
+    ensures { λ r. ⌜ PromisedBy r (firstOf (unnamed kinds kind ∷ lentRules 0 first rows end (columnsOf count (now (offsets .entry)) (now (deltas .entry))) [] ∷ [])) (listOf first (slotsOf first (columnsOf count (now (offsets .entry)) (now (deltas .entry)))) kind) a b ⌝ }
 {
+    if 1 < kind {
+        return ancestor_of(Shared::Refused(Refusal::InboundParent));
+    }
     ancestor_of(columns_walk::ancestor(
         first,
         rows,
@@ -159,7 +172,7 @@ pub extern "C" fn ridgeoven_ancestor(
         count,
         offsets,
         deltas,
-        kind_at(kind),
+        kind_of(kind),
         a,
         b,
     ))

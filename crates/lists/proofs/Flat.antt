@@ -55,6 +55,13 @@ module _ {A : Type 0} where
   length-joined [] = refl
   length-joined (l ∷ ls) = rw (length-append l (joined ls), length-joined ls)
 
+  -- one of the lists is no longer than all together
+  pub joined-few : (ls : List (List A)) (i : ℕ) → length (getD ls i []) ≤ length (joined ls)
+  unfolding joined
+  joined-few [] i = omega arith
+  joined-few (l ∷ ls) zero = omega (arith, length-append l (joined ls))
+  joined-few (l ∷ ls) (suc i) = omega (arith, length-append l (joined ls), joined-few ls i)
+
   pub sum-append : (f : A → ℕ) (s t : List A) → sum f (s ++ t) ≡ sum f s + sum f t
   unfolding sum
   sum-append f [] t = omega arith

@@ -1,10 +1,10 @@
 -- Parts of a list: its front, a slice from one place up to another, and lists that are written over it.
 use mathlib.Core.Path.{_≡_, refl, sym, _∙_, ap}
 use mathlib.Core.List.{List, [], _∷_, _++_}
-use Prim.Native.Nat.{ℕ, suc, _≤_, _<_, _+_}
-use native.Mathlib.Nat.{add-zero, add-suc, suc-add}
+use Prim.Native.Nat.{ℕ, suc, _≤_, _<_, _+_, _-_}
+use native.Mathlib.Nat.{zero-add, add-zero, add-suc, suc-add}
 use native.Mathlib.Omega.{arith}
-use lib.ListN.{length, getD, take, drop, set, length-take, take-append-drop, drop-of-length-le, List·getD-eq-default}
+use lib.ListN.{length, getD, take, drop, set, length-take, length-drop, take-append-drop, drop-of-length-le, List·getD-eq-default}
 use lib.Seq.{slice, sets, sets-eq, take-take, take-suc, take-append-add, take-at, drop-append-le, drop-append-seam, length-take-le}
 
 module _ {A : Type 0} where
@@ -28,6 +28,9 @@ module _ {A : Type 0} where
 
   pub slice-none : (i to : ℕ) (l : List A) → to ≤ i → slice i to l ≡ []
   slice-none i to l h = drop-of-length-le (take to l) {i = i} (simp length-take (omega arith))
+
+  pub slice-short : (a b : ℕ) (l : List A) → length (slice a b l) ≤ b - a
+  slice-short a b l = simp (length-drop, length-take) (omega arith)
 
   pub slice-snoc : (i p : ℕ) (l : List A) (d : A) → i ≤ p → p < length l → slice i (suc p) l ≡ slice i p l ++ (getD l p d ∷ [])
   slice-snoc i p l d h k = rw (take-suc l p d k) (drop-append-le i (take p l) (getD l p d ∷ []) (omega (arith, length-take-le p l (omega arith))))
@@ -55,3 +58,7 @@ module _ {A : Type 0} where
 
   pub take-sets : (l vs : List A) (n : ℕ) → length vs ≡ n → n ≤ length l → take n (sets l 0 vs) ≡ vs
   take-sets l vs n e h = rw (sets-eq vs l 0 (omega arith)) (take-at vs _ n e)
+
+  -- a list written from the start on, and what stays behind it
+  pub sets-front : (l vs : List A) → length vs ≤ length l → sets l 0 vs ≡ vs ++ drop (length vs) l
+  sets-front l vs h = sets-eq vs l 0 (omega arith) ∙ ap (λ (k : ℕ). vs ++ drop k l) (zero-add (length vs))

@@ -1,4 +1,5 @@
-// What the programs share: room for an archive, and what they tell of a refusal and of a count.
+// What the programs share: room for an archive and how it is read, and what they tell of a refusal and of a count.
+pub mod input;
 pub mod words;
 
 use columns::refusal::Refusal;

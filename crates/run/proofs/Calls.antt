@@ -9,7 +9,7 @@ use lib.ListN.{length}
 use borrow.Author.Tests.{not-true, not-false}
 use Rattle.columns.specs.declared.refusal.Refusal.{Refusal}
 use Rattle.columns.specs.declared.refusal.Refusal.the-variants.{OutOfTurn}
-use Rattle.cleaning.specs.Step.{Call, takes, resolves, writes, maps, counts, refused, done, told, counted}
+use Rattle.cleaning.specs.Step.{Call, takes, resolves, writes, maps, counts, lists, refused, done, told, counted}
 use Rattle.cleaning.specs.Runs.{RunState, taking, resolved, runOutcome, runStep}
 use Rattle.cleaning.specs.Held.{holdMore, archiveHeld}
 use Rattle.cleaning.specs.Cleaning.{mapped, reparented}
@@ -25,16 +25,18 @@ use Rattle.run_resolve.specs.Map.{mappedOf}
 use Rattle.run_resolve.specs.declared.Resolution.{Resolution}
 use Rattle.run_resolve.specs.declared.asked.Mapped.{Mapped}
 use Rattle.run_resolve.specs.declared.asked.Mapped.the-variants.{To, Nothing}
-use Rattle.run_write.specs.Answers.{answerOf, Wrote}
+use Rattle.run_write.specs.Answers.{Wrote}
+use Rattle.run_list.specs.Listed as columns
+use Rattle.run_list.specs.Listed.{Ready}
 use Rattle.run_state.specs.declared.Writing.{Writing}
 use Rattle.run_state.specs.declared.Writing.the-variants as writing
-use Rattle.run.specs.View.{view, phased, holdable, writable, isTaking, isResolved}
-use Rattle.run.specs.Contracts.{Steps, Writes, Maps, Counts}
+use Rattle.run.specs.View.{view, phased, holdable, grouped, writable, isTaking, isResolved}
+use Rattle.run.specs.Contracts.{Steps, writtenFrom, listedFrom, Writes, Lists, Maps, Counts}
 use Rattle.run.specs.declared.Run.{Run}
 use Rattle.run.specs.declared.Reply.the-variants.{Done, Refused}
 use Rattle.run.specs.declared.Number.the-variants as number
 use Rattle.run.specs.declared.Count.the-variants as count
-use Rattle.run.proofs.OverHeld.{taking-refused, taking-done, resolving-refused, resolving-done, sheet-written}
+use Rattle.run.proofs.OverHeld.{taking-refused, taking-done, resolving-refused, resolving-done, resolved-grouped}
 use Rattle.run.proofs.InTurn.{OutOf, not-taking, not-resolved-yet, seen-taking, seen-resolved, survivors-valid, survivors-order, survivors-filled, resolved-valid, resolved-order, taking-valid, taking-order}
 
 -- ── out of turn ──────────────────────────────────────────────────────────────────────────────
@@ -54,8 +56,12 @@ module _ (r : Run) {b : Bool} where
 
   module _ (e : b ≡ isResolved r) (k : not b ≡ true) where
     pub write-early : (was : List ℕ) → Writes r was was (writing.Refused OutOfTurn)
-    unfolding runStep
-    write-early was = record { step = not-resolved-yet r (sym e ∙ not-true b k) (writes (length was)) refl (λ h. refl); rest = refl; within = omega arith }
+    unfolding runStep writtenFrom
+    write-early was = record { answers = sym (ap (λ o. o .answer) (not-resolved-yet r (sym e ∙ not-true b k) (writes (length was)) refl (λ h. refl))); rest = refl; within = omega arith }
+
+    pub list-early : (was : List ℕ) → Lists r was was (writing.Refused OutOfTurn)
+    unfolding runStep listedFrom
+    list-early was = record { answers = sym (ap (λ o. o .answer) (not-resolved-yet r (sym e ∙ not-true b k) (lists (length was)) refl (λ h. refl))); rest = refl; within = omega arith }
 
     pub map-early : (old : ℕ) → Maps r old (number.Refused OutOfTurn)
     unfolding runStep
@@ -115,9 +121,15 @@ module _ (r : Run) {b : Bool} (e : b ≡ isResolved r) (k : not b ≡ false) whe
   count-now f = by-state counts _ (seen-resolved r is-resolved) refl ∙ ap (λ k. runOutcome (view r) (counted k)) (sym f)
 
   pub write-now : {is : List ℕ} {a : Writing} (was : List ℕ) → Wrote (sheetIn (r .sheet)) was is a → Writes r was is a
-  write-now {is} {a} was w =
-      let z = sheet-written (heldIn (r .held)) (sheetIn (r .sheet)) was w in
-      record { step = subst (λ s. runStep s (writes (length was)) ≡ runOutcome s (answerOf a is)) (sym (seen-resolved r is-resolved)) z; rest = w .rest; within = w .within }
+  unfolding runStep writtenFrom
+  write-now was w = record { answers = w .answers ∙ ap (λ s. writtenFrom s (length was)) (sym (seen-resolved r is-resolved)); rest = w .rest; within = w .within }
+
+  pub list-ready : Ready (r .held) (r .sheet)
+  list-ready = record { heldValid = held-valid; heldOrder = held-order; valid = sheet-valid; inOrder = sheet-order; whole = sheet-filled }
+
+  pub list-now : {is : List ℕ} {a : Writing} (was : List ℕ) → columns.Lists (heldIn (r .held)) (sheetIn (r .sheet)) was is a → Lists r was is a
+  unfolding runStep listedFrom
+  list-now was w = record { answers = w .answers ∙ ap (λ s. listedFrom s (length was)) (sym (seen-resolved r is-resolved)); rest = w .rest; within = w .within }
 
 -- ── what a run stands for after a step ───────────────────────────────────────────────────────
 
@@ -127,10 +139,10 @@ unfolding view phased holdable
 now-taking r p k o = rw (k, o, p)
 
 -- with the survivors' columns it is resolved
-now-resolved : (r : Run) → r .phase ≡ 1 → heldOk (r .held) ≡ true → ordered (r .held .sheet) ≡ true → sheetOk (r .sheet) ≡ true → ordered (r .sheet) ≡ true
-    → filled (r .sheet) ≡ true → view r ≡ resolved (heldIn (r .held)) (sheetIn (r .sheet))
+now-resolved : (r : Run) → r .phase ≡ 1 → heldOk (r .held) ≡ true → ordered (r .held .sheet) ≡ true → sheetOk (r .sheet) ≡ true → grouped (r .sheet) ≡ true
+    → ordered (r .sheet) ≡ true → filled (r .sheet) ≡ true → view r ≡ resolved (heldIn (r .held)) (sheetIn (r .sheet))
 unfolding view phased holdable writable
-now-resolved r p k o l q f = rw (k, o, p, l, q, f)
+now-resolved r p k o l g q f = rw (k, o, p, l, g, q, f)
 
 -- ── taking ───────────────────────────────────────────────────────────────────────────────────
 
@@ -176,4 +188,4 @@ module _ (r : Run) {b : Bool} (e : b ≡ isTaking r) (k : not b ≡ false) (q : 
   resolve-done d =
       goes r e k resolves _
       (resolving-done (r .held) q m d
-      ∙ ap (λ s. runOutcome s done) (sym (now-resolved _ refl (sources-valid r e k) (sources-order r e k) (m .valid d) (m .inOrder d) (m .whole d))))
+      ∙ ap (λ s. runOutcome s done) (sym (now-resolved _ refl (sources-valid r e k) (sources-order r e k) (m .valid d) (resolved-grouped (r .held) q m d) (m .inOrder d) (m .whole d))))

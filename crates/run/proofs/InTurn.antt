@@ -1,9 +1,10 @@
 -- The tests of a run's turn, and what a step out of turn answers.
 use mathlib.Core.Path.{_≡_, refl, sym, ap, subst, _∙_}
 use mathlib.Core.Bool.{Bool, true, false, cond, not, false≢true}
-use Prim.Native.Nat.{ℕ, zero, suc}
+use Prim.Native.Nat.{ℕ, zero, suc, _≤_, _<_}
 use lib.Dec.{eqb}
-use borrow.Author.Tests.{eq-eqb, ne-eqb, eqb-true, not-true, not-false}
+use native.Mathlib.Omega.{arith}
+use borrow.Author.Tests.{eq-eqb, ne-eqb, eqb-true, lt-ltb, le-ltb, not-true, not-false}
 use Rattle.lists.proofs.Tests.{both}
 use Rattle.columns.specs.declared.refusal.Refusal.the-variants.{OutOfTurn}
 use Rattle.cleaning.specs.Sheet as sheets
@@ -16,7 +17,7 @@ use Rattle.run_state.specs.declared.Held.{Held}
 use Rattle.run_state.specs.Valid.{countsOk, sheetOk, heldOk}
 use Rattle.run_state.specs.order.Ordered.{ordered, filled}
 use Rattle.run.specs.declared.Run.{Run}
-use Rattle.run.specs.View.{holdable, writable, phased, view, takingBy, resolvedBy, isTaking, isResolved}
+use Rattle.run.specs.View.{holdable, grouped, writable, phased, view, takingBy, resolvedBy, isTaking, isResolved}
 
 module _ (h : Held) {a : Bool} (e : a ≡ heldOk h) where
   pub not-held : not a ≡ true → false ≡ holdable h
@@ -42,14 +43,18 @@ module _ (s : Sheet) {a : Bool} (e : a ≡ sheetOk s) where
     unfolding sheetOk
     sheet-counts = both (countsOk s) _ (sym e ∙ not-false a k) .0
 
-    module _ {b : Bool} (f : b ≡ ordered s) where
+    pub no-group : s .groups .count < 1 → false ≡ writable s
+    unfolding writable grouped
+    no-group h = rw (← e, not-false a k, le-ltb 0 (s .groups .count) (omega arith))
+
+    module _ (h : 1 ≤ s .groups .count) {b : Bool} (f : b ≡ ordered s) where
       pub not-ordered : not b ≡ true → false ≡ writable s
-      unfolding writable
-      not-ordered m = rw (← e, not-false a k, ← f, not-true b m)
+      unfolding writable grouped
+      not-ordered m = rw (← e, not-false a k, lt-ltb 0 (s .groups .count) h, ← f, not-true b m)
 
       pub then-filled : not b ≡ false → {d : Bool} → d ≡ filled s → d ≡ writable s
-      unfolding writable
-      then-filled m g = rw (← e, not-false a k, ← f, not-false b m) g
+      unfolding writable grouped
+      then-filled m g = rw (← e, not-false a k, lt-ltb 0 (s .groups .count) h, ← f, not-false b m) g
 
 module _ (phase : ℕ) (a : Bool) where
   pub other-phase : (phase ≡ 0 → ⊥) → false ≡ takingBy phase a
@@ -163,7 +168,9 @@ module _ (r : Run) where
 
     sheet-tests : (sheetOk (r .sheet) ≡ true) × ((ordered (r .sheet) ≡ true) × (filled (r .sheet) ≡ true))
     unfolding writable
-    sheet-tests = let a = both (sheetOk (r .sheet)) _ (was-resolved .1 .1) in (a .0, both (ordered (r .sheet)) _ (a .1))
+    sheet-tests =
+        let a = both (sheetOk (r .sheet)) _ (was-resolved .1 .1) in
+        (a .0, both (ordered (r .sheet)) _ (both (grouped (r .sheet)) _ (a .1) .1))
 
     pub survivors-valid : sheetOk (r .sheet) ≡ true
     survivors-valid = sheet-tests .0

@@ -1,31 +1,34 @@
--- The steps of a run, out of what is handed back for the columns that it holds: taking, resolving and writing.
-use mathlib.Core.Path.{_≡_, refl, sym, ap}
-use mathlib.Core.Bool.{true}
+-- The steps of a run, out of what is handed back for the columns that it holds: taking and resolving.
+use mathlib.Core.Path.{_≡_, refl, sym, ap, _∙_}
+use mathlib.Core.Bool.{true, false, false≢true}
 use mathlib.Core.List.{List}
-use Prim.Native.Nat.{ℕ}
+use Prim.Native.Nat.{ℕ, zero, suc}
 use native.Mathlib.Omega.{arith}
-use lib.ListN.{length}
+use lib.Dec.{ltb}
+use borrow.Author.Tests.{lt-ltb}
+use Rattle.lists.specs.Lists.{isEmpty, upFrom}
 use Rattle.columns.specs.Refusal as verdict
 use Rattle.columns.specs.Refusal.{Verdict}
 use Rattle.columns.specs.declared.refusal.Refusal.{Refusal}
-use Rattle.cleaning.specs.Step.{takes, resolves, writes, refused, done}
-use Rattle.cleaning.specs.Runs.{taking, resolved, runOutcome, runStep, resolveHeld}
+use Rattle.columns.specs.declared.refusal.Refusal.the-variants.{GroupOrder}
+use Rattle.columns.proofs.FirstBroken.{each-none, not-refused}
+use Rattle.cleaning.specs.Step.{takes, resolves, refused, done}
+use Rattle.cleaning.specs.Survivors.{survivorSheet}
+use Rattle.cleaning.specs.Runs.{taking, resolved, runOutcome, heldRules, runStep, resolveHeld}
 use Rattle.cleaning.specs.Held as run
 use Rattle.cleaning.specs.Held.{holdMore}
-use Rattle.cleaning.specs.Sheet as sheets
 use Rattle.archive.specs.Parse.{parse}
 use Rattle.columns.specs.declared.refusal.Ruling.the-variants.{Kept, Broken}
 use Rattle.columns.proofs.Told.{told, told-kept}
 use Rattle.run_state.specs.declared.Held.{Held}
-use Rattle.run_state.specs.View.{sheetIn, heldIn}
+use Rattle.run_state.specs.View.{listed, factsAt, sheetIn, heldIn}
 use Rattle.run_state.specs.Valid.{heldOk}
 use Rattle.run_state.specs.order.Ordered.{ordered}
 use Rattle.run_take.specs.Took.{TookBy}
 use Rattle.run_take.specs.declared.Taken.{Taken}
 use Rattle.run_resolve.specs.Outcome.{rulesIn, newIn, ResolvedBy}
 use Rattle.run_resolve.specs.declared.Resolution.{Resolution}
-use Rattle.run_write.specs.Answers.{answerOf, Wrote}
-use Rattle.run_state.specs.declared.Writing.{Writing}
+use Rattle.run.specs.View.{grouped}
 
 -- ── taking ───────────────────────────────────────────────────────────────────────────────────
 
@@ -60,6 +63,11 @@ module _ (h : Held) (bytes : List ℕ) (t : Taken) (m : TookBy (holdMore (heldIn
   pub taken-order : t .ruling ≡ Kept → ordered (t .held .sheet) ≡ true
   taken-order d = taking-done d .inOrder
 
+some-group : {A : Type 0} (f : ℕ → A) (n : ℕ) → isEmpty (listed f n) ≡ false → ltb 0 n ≡ true
+unfolding isEmpty upFrom
+some-group f zero e = absurd (false≢true (sym e))
+some-group f (suc n) e = lt-ltb 0 (suc n) (omega arith)
+
 -- ── resolving ────────────────────────────────────────────────────────────────────────────────
 
 module _ (h : Held) (q : Resolution) (m : ResolvedBy h q) where
@@ -71,9 +79,9 @@ module _ (h : Held) (q : Resolution) (m : ResolvedBy h q) where
   unfolding runStep resolveHeld rulesIn newIn
   resolving-done d = rw (told-kept (rulesIn h) (m .ruled) d) (ap (λ s. runOutcome (resolved (heldIn h) s) done) (sym (m .view d)))
 
--- ── writing ──────────────────────────────────────────────────────────────────────────────────
-
-pub sheet-written : (h : run.Held) (s : sheets.Sheet) {is : List ℕ} {a : Writing} (was : List ℕ) → Wrote s was is a
-    → runStep (resolved h s) (writes (length was)) ≡ runOutcome (resolved h s) (answerOf a is)
-unfolding runStep
-sheet-written h s was w = ap (runOutcome (resolved h s)) (sym (w .answer))
+  -- what is resolved has a group
+  pub resolved-grouped : q .ruling ≡ Kept → grouped (q .sheet) ≡ true
+  unfolding rulesIn heldRules survivorSheet sheetIn grouped
+  resolved-grouped d =
+      let e = not-refused GroupOrder (isEmpty ((heldIn h) .sheet .groups)) (each-none _ (told-kept (rulesIn h) (m .ruled) d) .0) in
+      some-group (factsAt (q .sheet .groups)) (q .sheet .groups .count) (ap isEmpty (ap (λ s. s .groups) (m .view d)) ∙ e)

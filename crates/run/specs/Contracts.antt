@@ -3,11 +3,10 @@
 use mathlib.Core.Path.{_≡_}
 use mathlib.Core.List.{List}
 use mathlib.Core.Option.{none, some}
-use Prim.Native.Nat.{ℕ, _≤_}
-use lib.ListN.{length, drop}
-use Rattle.cleaning.specs.Step.{Call, writes, maps, counts, Answer, refused, done, told, counted}
-use Rattle.cleaning.specs.Runs.{runOutcome, runStep}
-use Rattle.run_write.specs.Answers.{lengthOf, answerOf}
+use Prim.Native.Nat.{ℕ}
+use Rattle.cleaning.specs.Step.{Call, writes, maps, counts, lists, Answer, refused, done, wrote, told, counted, printed}
+use Rattle.cleaning.specs.Runs.{RunState, runOutcome, runStep}
+use Rattle.run_write.specs.Answers.{Gives}
 use Rattle.run_state.specs.declared.Writing.{Writing}
 use Rattle.run.specs.View.{view}
 use Rattle.run.specs.declared.Run.{Run}
@@ -46,11 +45,19 @@ pub record Steps (c : Call) (before after : Run) (r : Reply) : Type 0 where
   pub answer : replied r ≡ (runStep (view before) c) .answer
   pub kept : Kept r before after
 
--- writing: the run stays as it is; the bytes are those of the step's answer, no more than were lent, and past them all is as it was
-pub record Writes (run : Run) (was is : List ℕ) (r : Writing) : Type 0 where
-  pub step : runStep (view run) (writes (length was)) ≡ runOutcome (view run) (answerOf r is)
-  pub rest : drop (lengthOf r) is ≡ drop (lengthOf r) was
-  pub within : lengthOf r ≤ length was
+-- what a write and a listing into so much room answer
+unfoldable pub writtenFrom : RunState → ℕ → Answer
+writtenFrom s room = (runStep s (writes room)) .answer
+
+unfoldable pub listedFrom : RunState → ℕ → Answer
+listedFrom s room = (runStep s (lists room)) .answer
+
+-- writing and listing: the run stays as it is, and gives the step's bytes for as much room as was lent
+abbrev pub Writes : Run → List ℕ → List ℕ → Writing → Type 0
+Writes run = Gives wrote (writtenFrom (view run))
+
+abbrev pub Lists : Run → List ℕ → List ℕ → Writing → Type 0
+Lists run = Gives printed (listedFrom (view run))
 
 -- asking for the new number of an old one, and for the reparented: the run stays as it is
 abbrev pub Maps : Run → ℕ → Number → Type 0

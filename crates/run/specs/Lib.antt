@@ -1,4 +1,2 @@
 pub mod View
 pub mod Contracts
-pub mod Traces
-pub mod Listed

@@ -1,7 +1,8 @@
--- What a run stands for. A run is a value, so its fields may be any: those that no call makes stand for `spoiled`, and every call to it is 40.
+-- What a run stands for. A run is a value, so its fields may be any. Its form is tested, not its history: a value of another form than a run's stands for
+-- `spoiled`, and every call to it is 40; one of a run's form is taken for that run, whoever made it, and the claim speaks of runs that calls make.
 use mathlib.Core.Bool.{Bool, cond, _&&_}
 use Prim.Native.Nat.{ℕ, zero, suc}
-use lib.Dec.{eqb}
+use lib.Dec.{eqb, ltb}
 use Rattle.cleaning.specs.Runs.{RunState, taking, resolved, spoiled}
 use Rattle.run_state.specs.declared.Sheet.{Sheet}
 use Rattle.run_state.specs.declared.Held.{Held}
@@ -14,9 +15,13 @@ use Rattle.run.specs.declared.Run.{Run}
 unfoldable pub holdable : Held → Bool
 holdable h = heldOk h && ordered (h .sheet)
 
+-- a resolved run has a group, since resolving refuses one that has taken nothing (24)
+unfoldable pub grouped : Sheet → Bool
+grouped s = ltb 0 (s .groups .count)
+
 -- columns of survivors, to be written group by group
 unfoldable pub writable : Sheet → Bool
-writable s = sheetOk s && (ordered s && filled s)
+writable s = sheetOk s && (grouped s && (ordered s && filled s))
 
 -- by phase: 0 takes sources, 1 is resolved
 unfoldable pub phased : ℕ → Run → RunState

@@ -21,6 +21,9 @@ pub(crate) fn is_writable(s: Sheet) -> bool
     if !run_state::valid::sheet_ok(s) {
         return false;
     }
+    if s.groups.count < 1 {
+        return false;
+    }
     if !run_state::order::is_ordered(s) {
         return false;
     }

@@ -13,7 +13,7 @@ use Rattle.columns.specs.declared.refusal.Ruling.{Ruling}
 use Rattle.columns.specs.declared.refusal.Ruling.the-variants.{Kept, Broken}
 use Rattle.archive.specs.Fits.{FileFits}
 use Rattle.archive.specs.Parse.{parse}
-use Rattle.cleaning.specs.Step.{Call, takes, resolves, Answer, refused, done}
+use Rattle.cleaning.specs.Step.{Call, takes, resolves, Bytes, Answer, refused, done, wrote}
 use Rattle.cleaning.specs.Held.{nothing, holdMore}
 use Rattle.cleaning.specs.History.{filesIn}
 use Rattle.cleaning.specs.Runs.{RunState, taking, resolved, runOutcome, freshRun, runStep}
@@ -27,25 +27,26 @@ use Rattle.run_take.specs.Took.{archiveRules}
 use Rattle.run_take.proofs.Answers.{not-held, rules-kept, is-archive, now-held}
 use Rattle.run_resolve.specs.Outcome.{ResolvedBy}
 use Rattle.run_resolve.specs.declared.Resolution.{Resolution}
-use Rattle.run_write.specs.Answers.{Wrote}
+use Rattle.run_write.specs.Answers.{Gives, Wrote}
 use Rattle.run_state.specs.declared.Writing.{Writing}
 use Rattle.run_state.specs.declared.Writing.the-variants.{Refused}
-use Rattle.run.proofs.OverHeld.{resolving-refused, resolving-done, sheet-written}
+use Rattle.run.specs.Contracts.{writtenFrom}
+use Rattle.run.proofs.OverHeld.{resolving-refused, resolving-done}
 use Rattle.run.proofs.Views.{fresh-order}
-use Rattle.run_clean.specs.Cleans.{after, writtenFrom, resolvedFrom, cleanedFrom, Gives}
+use Rattle.run_clean.specs.Cleans.{after, resolvedFrom, cleanedFrom}
 use Rattle.run_clean.specs.Survived.{Alone, Gathered, Survived, untaken, taken}
 
 -- a call, then others
-abbrev Then : Call → RunState → (RunState → ℕ → Answer) → ℕ → Answer
+abbrev pub Then : Call → RunState → (RunState → ℕ → Answer) → ℕ → Answer
 Then c s more room = after ((runStep s c) .answer) (more ((runStep s c) .state) room)
 
-module _ (c : Call) (more : RunState → ℕ → Answer) (s : RunState) (was : List ℕ) where
+module _ {made : Bytes → Answer} (c : Call) (more : RunState → ℕ → Answer) (s : RunState) (was : List ℕ) where
   -- a refused call ends it
-  stops : (x : Refusal) → runStep s c ≡ runOutcome s (refused x) → Gives (Then c s more) was was (Refused x)
+  pub stops : (x : Refusal) → runStep s c ≡ runOutcome s (refused x) → Gives made (Then c s more) was was (Refused x)
   stops x e = record { answers = ap (λ o. after (o .answer) (more (o .state) (length was))) (sym e); rest = refl; within = omega arith }
 
   -- an accepted one goes on
-  goes : {n : RunState} {is : List ℕ} {r : Writing} → runStep s c ≡ runOutcome n done → Gives (more n) was is r → Gives (Then c s more) was is r
+  pub goes : {n : RunState} {is : List ℕ} {r : Writing} → runStep s c ≡ runOutcome n done → Gives made (more n) was is r → Gives made (Then c s more) was is r
   goes e g = record { answers = g .answers ∙ ap (λ o. after (o .answer) (more (o .state) (length was))) (sym e); rest = g .rest; within = g .within }
 
 two-rulings : {A : Type 0} {r : Ruling} (x : Refusal) → r ≡ Broken x → r ≡ Kept → A
@@ -78,39 +79,36 @@ module _ (l : List ℕ) (q : Resolution) (k : Survived l q) (e : q .ruling ≡ K
 -- ── the calls ────────────────────────────────────────────────────────────────────────────────
 
 module _ (l was : List ℕ) where
-  not-taken : (x : Refusal) → holdMore nothing (parse l) ≡ verdict.refused x → Gives (cleanedFrom l) was was (Refused x)
+  not-taken : (x : Refusal) → holdMore nothing (parse l) ≡ verdict.refused x → Gives wrote (cleanedFrom l) was was (Refused x)
   unfolding cleanedFrom runStep
   not-taken x e = stops (takes l) resolvedFrom freshRun was x (rw e)
 
   module _ (h : Held) (a : holdMore nothing (parse l) ≡ verdict.accepted (heldIn h)) where
-    then-resolved : {is : List ℕ} {r : Writing} → Gives (resolvedFrom (taking (heldIn h))) was is r → Gives (cleanedFrom l) was is r
+    then-resolved : {is : List ℕ} {r : Writing} → Gives wrote (resolvedFrom (taking (heldIn h))) was is r → Gives wrote (cleanedFrom l) was is r
     unfolding cleanedFrom runStep
     then-resolved g = goes (takes l) resolvedFrom freshRun was (rw a) g
 
     module _ (q : Resolution) (m : ResolvedBy h q) where
-      not-resolved : (x : Refusal) → q .ruling ≡ Broken x → Gives (cleanedFrom l) was was (Refused x)
+      not-resolved : (x : Refusal) → q .ruling ≡ Broken x → Gives wrote (cleanedFrom l) was was (Refused x)
       unfolding resolvedFrom
       not-resolved x e = then-resolved (stops resolves writtenFrom (taking (heldIn h)) was x (resolving-refused h q m x e))
 
-      written : {is : List ℕ} {r : Writing} → q .ruling ≡ Kept → Wrote (sheetIn (q .sheet)) was is r → Gives (cleanedFrom l) was is r
-      unfolding resolvedFrom writtenFrom
-      written {is} {r} e w =
-          let z = sheet-written (heldIn h) (sheetIn (q .sheet)) was w in
-          then-resolved (goes resolves writtenFrom (taking (heldIn h)) was (resolving-done h q m e)
-          (record { answers = sym (ap (λ o. o .answer) z); rest = w .rest; within = w .within }))
+      written : {is : List ℕ} {r : Writing} → q .ruling ≡ Kept → Wrote (sheetIn (q .sheet)) was is r → Gives wrote (cleanedFrom l) was is r
+      unfolding resolvedFrom writtenFrom runStep
+      written e w = then-resolved (goes resolves writtenFrom (taking (heldIn h)) was (resolving-done h q m e) w)
 
   module _ (q : Resolution) (k : Survived l q) where
-    pub is-refusal : (x : Refusal) → q .ruling ≡ Broken x → Gives (cleanedFrom l) was was (Refused x)
+    pub is-refusal : (x : Refusal) → q .ruling ≡ Broken x → Gives wrote (cleanedFrom l) was was (Refused x)
     is-refusal x e = go k
       where
-        go : Survived l q → Gives (cleanedFrom l) was was (Refused x)
+        go : Survived l q → Gives wrote (cleanedFrom l) was was (Refused x)
         go (untaken y a b) = let z : y ≡ x = cc in rw z at (not-taken y a)
         go (taken h a b c m) = not-resolved h a q m x e
 
-    pub then-written : {is : List ℕ} {r : Writing} → q .ruling ≡ Kept → Wrote (sheetIn (q .sheet)) was is r → Gives (cleanedFrom l) was is r
+    pub then-written : {is : List ℕ} {r : Writing} → q .ruling ≡ Kept → Wrote (sheetIn (q .sheet)) was is r → Gives wrote (cleanedFrom l) was is r
     then-written {is} {r} e w = go k
       where
-        go : Survived l q → Gives (cleanedFrom l) was is r
+        go : Survived l q → Gives wrote (cleanedFrom l) was is r
         go (untaken x a b) = two-rulings x b e
         go (taken h a b c m) = written h a q m e w
 

@@ -1,6 +1,6 @@
 // A whole cleaning in one call: an archive taken alone by a fresh run, resolved and written. The columns of what is taken are filled and renewed in
 // place in one function, without the sets that no step reads, and no run is made.
-pub mod parts;
+mod parts;
 
 use columns::refusal::Refusal;
 use columns::refusal::Ruling;
@@ -31,7 +31,9 @@ use run_take::known_of;
 use run_take::rules_by;
 use run_write::write_sheet;
 ghost use mathlib.Core.Path.{_≡_};
-ghost use Rattle.run_clean.specs.Cleans.{cleanedFrom, Gives};
+ghost use Rattle.cleaning.specs.Step.{wrote};
+ghost use Rattle.run_write.specs.Answers.{Gives};
+ghost use Rattle.run_clean.specs.Cleans.{cleanedFrom};
 ghost use Rattle.run_clean.specs.Survived.{Alone, Gathered, Survived};
 
 // A refusal, with a sheet of no rows.
@@ -190,7 +192,7 @@ fn survivors(bytes: &[u8]) -> Resolution
 
 // Cleans an archive into lent bytes: how long the cleaned archive is, or why there is none.
 pub fn clean(bytes: &[u8], out: &mut [u8]) -> Writing
-    ensures { λ r. ⌜ Gives (cleanedFrom (now (bytes .entry))) (now (out .entry)) (now (out .exit)) r ⌝ }
+    ensures { λ r. ⌜ Gives wrote (cleanedFrom (now (bytes .entry))) (now (out .entry)) (now (out .exit)) r ⌝ }
 {
     let q = survivors(bytes);
     let b = q.ruling;

@@ -12,7 +12,7 @@ use Rattle.columns.specs.Limits.{kinds, maxRecords, maxNumbers, maxSubject, off
 use Rattle.archive.specs.Encode.{recordBytes, headFields, setsBytes, rowBytes, unresolvedBytes, rootBytes, coverBytes, countedBytes, coverRecord}
 use Rattle.archive_store.specs.Lent.{zip2, zip3, headFrom, setFrom, rowFrom, unresolvedFrom, rootFrom, rangeFrom, linksFrom, coverFrom}
 use Rattle.archive_store.specs.records.Sizes.{headSize, setsSize, rowsSize, unresolvedSize, rootsSize, coverBody}
-use Rattle.archive_write.specs.sizes.FileSize.{edgesSize, coverRecordSize}
+use Rattle.archive_store.specs.sizes.FileSize.{edgesSize, coverRecordSize}
 use Rattle.cleaning.specs.Sections.{unerasedRow}
 use Rattle.cleaning.proofs.Parts.{length-part}
 use Rattle.run_state.specs.declared.Subject.{Subject}

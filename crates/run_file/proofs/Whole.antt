@@ -13,9 +13,9 @@ use Rattle.columns.specs.Limits.{maxRecords, maxNumbers, maxSubject}
 use Rattle.archive.specs.File.{CoverColumns}
 use Rattle.archive.specs.Encode.{recordBytes, headFields, headBytes, setsBytes, edgesBytes, rowBytes, unresolvedBytes, rootBytes, countedBytes, coverRecord, fileBytes}
 use Rattle.archive_store.specs.records.Sizes.{headSize, rowsSize, unresolvedSize}
-use Rattle.archive_write.proofs.Files.{file-written}
-use Rattle.archive_write.specs.sizes.FileSize.{edgesSize, coverRecordSize, maxFileSize}
-use Rattle.archive_write.proofs.sizes.Sized.{SetHas, CoverCounts, CoverHas, length-headRecord, length-edges, length-rows, length-unresolved, length-roots, length-file}
+use Rattle.archive_store.proofs.Files.{file-written}
+use Rattle.archive_store.specs.sizes.FileSize.{edgesSize, coverRecordSize, maxFileSize}
+use Rattle.archive_store.proofs.sizes.Sized.{SetHas, CoverCounts, CoverHas, length-headRecord, length-edges, length-rows, length-unresolved, length-roots, length-file}
 use Rattle.cleaning.specs.Sections.{unerasedRow}
 use Rattle.run_state.specs.declared.Subject.{Subject}
 use Rattle.run_state.specs.declared.Unresolved.{Unresolved}

@@ -8,7 +8,7 @@ use Rattle.lists.specs.Lists.{flat}
 use Rattle.archive.specs.File.{File}
 use Rattle.archive.specs.Encode.{recordBytes, headFields, setsBytes, rowBytes, unresolvedBytes, rootBytes, countedBytes, fileBytes}
 use Rattle.archive_store.specs.records.Sizes.{headSize, rowsSize, unresolvedSize, rootsSize}
-use Rattle.archive_write.specs.sizes.FileSize.{edgesSize, fileSize, maxFileSize}
+use Rattle.archive_store.specs.sizes.FileSize.{edgesSize, fileSize, maxFileSize}
 use Rattle.cleaning.specs.Sections.{unerasedRow}
 use Rattle.run_state.specs.View.{listed, unresolvedAt, rootAt}
 use Rattle.run_state.specs.output.View.{subjectIn, depthIn, setIn, OutFile}

@@ -3,7 +3,7 @@
 mod long;
 mod parts;
 
-use archive_write::sizes::file_size;
+use archive_store::sizes::file_size;
 use long::cover_long;
 use long::subject_long;
 use parts::put_cover;
@@ -19,7 +19,7 @@ ghost use mathlib.Core.Path.{_≡_};
 ghost use Prim.Native.Nat.{_+_, _≤_, _<_};
 ghost use lib.ListN.{length};
 ghost use Rattle.columns.specs.Limits.{maxSubject, end64};
-ghost use Rattle.archive_write.specs.sizes.FileSize.{maxFileSize};
+ghost use Rattle.archive_store.specs.sizes.FileSize.{maxFileSize};
 ghost use Rattle.run_state.specs.output.View.{fileIn, Counted};
 ghost use Rattle.run_state.specs.output.Lent.{setsOf, noCover, lentUnresolved, lentRoots, lentFile};
 ghost use Rattle.run_file.specs.Long.{LongSets, LentRecords};

@@ -21,7 +21,7 @@ ghost use Rattle.lists.specs.Lists.{flat, part};
 ghost use Rattle.columns.specs.Limits.{maxRecords, maxNumbers, maxSubject};
 ghost use Rattle.archive.specs.Encode.{recordBytes, headFields, setsBytes, rowBytes, unresolvedBytes, rootBytes, coverBytes, countedBytes, coverRecord};
 ghost use Rattle.archive_store.specs.records.Sizes.{headSize, rowsSize, unresolvedSize, rootsSize, coverBody};
-ghost use Rattle.archive_write.specs.sizes.FileSize.{edgesSize, coverRecordSize};
+ghost use Rattle.archive_store.specs.sizes.FileSize.{edgesSize, coverRecordSize};
 ghost use Rattle.archive_store.specs.Lent.{coverFrom};
 ghost use Rattle.cleaning.specs.Sections.{unerasedRow};
 ghost use Rattle.run_state.specs.View.{listed, unresolvedAt, rootAt};

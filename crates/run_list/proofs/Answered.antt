@@ -1,5 +1,5 @@
 -- What a listing answers: the files of a sheet are the outputs of its summary, and each way out is the verdict.
-use mathlib.Core.Path.{_≡_, refl, sym, ap, _∙_}
+use mathlib.Core.Path.{_≡_, refl, sym, ap, ap₂, _∙_}
 use mathlib.Core.List.{List, [], _∷_, _++_}
 use mathlib.Core.Option.{none}
 use Prim.Native.Nat.{ℕ, _+_, _*_, _≤_, _<_}
@@ -13,14 +13,17 @@ use borrow.Author.Tests.{lt-ltb, le-ltb}
 use Rattle.lists.specs.Lists.{upFrom}
 use Rattle.lists.proofs.Flat.{map-ext}
 use Rattle.lists.proofs.Filters.{each-below}
-use Rattle.columns.specs.Refusal.{accepted, unless, refuse, firstOf}
+use Rattle.columns.specs.Refusal as verdict
+use Rattle.columns.specs.Refusal.{unless, refuse, firstOf}
 use Rattle.columns.specs.declared.refusal.Refusal.{Refusal}
 use Rattle.columns.specs.declared.refusal.Refusal.the-variants.{SliceShort}
 use Rattle.columns.specs.declared.refusal.Ruling.the-variants.{Kept, Broken}
 use Rattle.columns.proofs.Told.{told, told-kept}
 use Rattle.cleaning.specs.Sections.{Tidy, Filled, sectionFile, sectionRules}
 use Rattle.cleaning.specs.Writing.{outputOf, outputs, groupNumbers}
-use Rattle.cleaning.specs.Listing.{listingText}
+use Rattle.cleaning.specs.Lines.{listingText}
+use Rattle.cleaning.specs.Listed.{listingNeed, listed}
+use Rattle.cleaning.specs.Step.{printed, listInto}
 use Rattle.cleaning.specs.Sheet as plain
 use Rattle.cleaning.specs.Sheet.{groupsOfSheet, summaryOf}
 use Rattle.cleaning.proofs.SheetFiles.{file-section, filled-section, groups-length, rules-sections}
@@ -33,9 +36,8 @@ use Rattle.run_resolve.proofs.sheet.Asking.{few-held}
 use Rattle.run_resolve.specs.Outcome.{archiveIn}
 use Rattle.run_state.specs.declared.Writing.the-variants.{Length, Refused}
 use Rattle.run_text.specs.numbers.Wrote.{Wrote}
-use Rattle.run_list.specs.Need.{listingNeed}
 use Rattle.run_list.specs.Groups.{sectionFiles, NeededBy}
-use Rattle.run_list.specs.Listed.{Ready, listed, Lists}
+use Rattle.run_list.specs.Listed.{Ready, Lists}
 use Rattle.run_list.specs.declared.files.Needed.{Needed}
 use Rattle.run_list.proofs.WholeText.{need-parts}
 
@@ -69,7 +71,7 @@ module _ (h : Held) (s : Sheet) (ready : Ready h s) (hl : LongHeld h) (l : LongS
   pub list-refused : (was : List ℕ) (x : Refusal) → m .ruling ≡ Broken x → Lists (heldIn h) (sheetIn s) was was (Refused x)
   unfolding unless firstOf
   list-refused was x e = record {
-    answer = sym (by-sections (length was) ∙ rw (told (sectionRules (sheetIn s)) (d .rules) e));
+    answers = sym (ap listInto {y = verdict.refused x} (by-sections (length was) ∙ rw (told (sectionRules (sheetIn s)) (d .rules) e)));
     rest = refl;
     within = omega arith;
   }
@@ -84,8 +86,8 @@ module _ (h : Held) (s : Sheet) (ready : Ready h s) (hl : LongHeld h) (l : LongS
     pub list-short : (was : List ℕ) → length was < 46 * h .sheet .rows .count + (m .bytes + 32) → Lists (heldIn h) (sheetIn s) was was (Refused SliceShort)
     unfolding unless firstOf
     list-short was g = record {
-      answer = sym (by-sections (length was)
-          ∙ rw (rules-kept, lt-ltb (length was) (listingNeed (archiveIn h) (sectionFiles (sheetIn s))) (omega (arith, need-told))));
+      answers = sym (ap listInto {y = verdict.refused SliceShort} (by-sections (length was)
+          ∙ rw (rules-kept, lt-ltb (length was) (listingNeed (archiveIn h) (sectionFiles (sheetIn s))) (omega (arith, need-told)))));
       rest = refl;
       within = omega arith;
     }
@@ -105,7 +107,8 @@ module _ (h : Held) (s : Sheet) (ready : Ready h s) (hl : LongHeld h) (l : LongS
         let p : is ≡ t ++ drop (length t) was = w .stored ∙ sets-eq t was 0 (omega (arith, w .short, need-told)) ∙ rw z in
         let q : take r is ≡ t = rw (p, n) (take-at t (drop (length t) was) (length t) refl) in
         record {
-          answer = ap accepted q ∙ sym (by-sections (length was) ∙ rw (rules-kept, le-ltb (length was) need (omega (arith, need-told))));
+          answers = ap₂ (λ k l. printed (record { length = k; bytes = l })) n q
+              ∙ sym (ap listInto {y = verdict.accepted t} (by-sections (length was) ∙ rw (rules-kept, le-ltb (length was) need (omega (arith, need-told)))));
           rest = rw (p, n) (drop-at t (drop (length t) was) (length t) refl);
           within = omega (arith, w .short, need-told);
         }

@@ -7,7 +7,7 @@ use native.Mathlib.Omega.{arith}
 use lib.ListN.{length, length-map}
 use lib.Seq.{length-take-le}
 use Rattle.columns.specs.Building.{Built, buildRules, builtOf}
-use Rattle.cleaning.specs.Listing.{fileLines}
+use Rattle.cleaning.specs.Lines.{fileLines}
 use Rattle.cleaning.specs.Sheet as plain
 use Rattle.cleaning.specs.Sections.{unerasedRow, sectionStart, sectionRows, sectionFirst, sectionTags, sectionGraph, sectionFileOf, sectionFile}
 use Rattle.cleaning.proofs.Parts.{length-part}
@@ -25,8 +25,9 @@ use Rattle.run_sets.specs.section.Parted.{judged}
 use Rattle.run_sets.specs.ByVerdict.{Holds, SetsBy}
 use Rattle.run_sets.specs.declared.GroupSets.{GroupSets}
 use Rattle.run_sets.proofs.Judged.{rules-are, held-sets}
-use Rattle.run_text.specs.files.Files.{setsText, fileText, fileSize, entries, Within}
-use Rattle.run_list.specs.Need.{fileNeed}
+use Rattle.cleaning.specs.Listed.{fileSize}
+use Rattle.run_text.specs.files.Files.{setsText, fileText, entries, Within}
+use Rattle.cleaning.specs.Listed.{fileNeed}
 use Rattle.run_list.specs.Groups.{LongDeltas, Shows}
 
 section-lines : (s : plain.Sheet) (g : ℕ) (b : Built) → fileText g (sectionFirst s g) (length (sectionFileOf s g b .rows)) b ≡ fileLines (sectionFileOf s g b)

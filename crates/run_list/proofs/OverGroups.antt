@@ -13,7 +13,7 @@ use Rattle.columns.specs.Building.{buildRules}
 use Rattle.columns.specs.declared.refusal.Refusal.{Refusal}
 use Rattle.columns.specs.declared.refusal.Ruling.the-variants.{Kept, Broken}
 use Rattle.archive.specs.File.{File}
-use Rattle.cleaning.specs.Listing.{fileLines}
+use Rattle.cleaning.specs.Lines.{fileLines}
 use Rattle.cleaning.specs.Sheet as plain
 use Rattle.cleaning.specs.Sections.{sectionGraph, sectionFile, sectionRules}
 use Rattle.run_state.specs.declared.Sheet.{Sheet}
@@ -21,9 +21,10 @@ use Rattle.run_state.specs.View.{factsAt, sheetIn}
 use Rattle.run_state.specs.output.View.{builtIn}
 use Rattle.run_write.proofs.Rest.{rulesFrom, rules-end, rules-next, rules-first, kept-rules, goes-on, stops}
 use Rattle.run_text.specs.numbers.Wrote.{Wrote}
-use Rattle.run_text.specs.files.Files.{fileText, fileSize, entries, Within}
+use Rattle.cleaning.specs.Listed.{fileSize}
+use Rattle.run_text.specs.files.Files.{fileText, entries, Within}
 use Rattle.run_text.proofs.lines.Columns.{Going}
-use Rattle.run_list.specs.Need.{fileNeed, filesNeed}
+use Rattle.cleaning.specs.Listed.{fileNeed, filesNeed}
 use Rattle.run_list.specs.Groups.{sectionFiles, Shows, NeededBy}
 use Rattle.run_list.specs.declared.files.Shown.{Shown}
 use Rattle.run_list.proofs.Along.{part-more, parts-end}

@@ -13,7 +13,7 @@ use Rattle.run_renumber.specs.Numbers.{numbersFrom}
 use Rattle.cleaning.specs.Archive.{Archive, at}
 use Rattle.cleaning.specs.Cleaning.{renumber, newNumber}
 use Rattle.cleaning.specs.Held.{archiveHeld}
-use Rattle.cleaning.specs.Listing.{mapLine}
+use Rattle.cleaning.specs.Lines.{mapLine}
 use Rattle.cleaning.proofs.Slots.{Columns, flags-length, erased-says, numbers-new}
 use Rattle.cleaning.proofs.HeldColumns.{held-columns}
 use Rattle.run_state.specs.declared.Held.{Held}

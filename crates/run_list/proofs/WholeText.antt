@@ -10,7 +10,7 @@ use Rattle.lists.specs.Lists.{flat}
 use Rattle.lists.specs.Text.{text}
 use Rattle.archive.specs.File.{File}
 use Rattle.cleaning.specs.Cleaning.{reparented}
-use Rattle.cleaning.specs.Listing.{decimal, line, fileLines, listingText}
+use Rattle.cleaning.specs.Lines.{decimal, line, fileLines, listingText}
 use Rattle.run_state.specs.declared.Held.{Held}
 use Rattle.run_state.specs.Valid.{heldOk}
 use Rattle.run_state.specs.order.Ordered.{ordered}
@@ -18,7 +18,7 @@ use Rattle.run_state.specs.order.Long.{LongHeld}
 use Rattle.run_resolve.specs.Outcome.{archiveIn}
 use Rattle.run_text.specs.numbers.Wrote.{Wrote}
 use Rattle.run_text.proofs.numbers.Joined.{then, renamed}
-use Rattle.run_list.specs.Need.{filesNeed, listingNeed}
+use Rattle.cleaning.specs.Listed.{filesNeed, listingNeed}
 use Rattle.run_list.specs.Rows.{mapsText}
 use Rattle.run_list.proofs.OverRows.{event-count}
 

@@ -9,13 +9,14 @@ use Rattle.columns.specs.Limits.{maxNumbers}
 use Rattle.columns.specs.Answers.{ruling}
 use Rattle.columns.specs.Building.{buildRules}
 use Rattle.archive.specs.File.{File}
-use Rattle.cleaning.specs.Listing.{fileLines}
+use Rattle.cleaning.specs.Lines.{fileLines}
 use Rattle.cleaning.specs.Sheet.{Sheet}
 use Rattle.cleaning.specs.Sections.{sectionGraph, sectionFile, sectionRules}
 use Rattle.run_state.specs.declared.output.Sets.{Sets}
 use Rattle.run_state.specs.output.View.{builtIn}
-use Rattle.run_text.specs.files.Files.{fileText, fileSize, entries, Within}
-use Rattle.run_list.specs.Need.{fileNeed, filesNeed}
+use Rattle.cleaning.specs.Listed.{fileSize}
+use Rattle.run_text.specs.files.Files.{fileText, entries, Within}
+use Rattle.cleaning.specs.Listed.{fileNeed, filesNeed}
 use Rattle.run_list.specs.declared.files.Shown.{Shown}
 use Rattle.run_list.specs.declared.files.Needed.{Needed}
 

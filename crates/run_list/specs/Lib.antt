@@ -1,4 +1,3 @@
-pub mod Need
 pub mod Rows
 pub mod Groups
 pub mod Listed

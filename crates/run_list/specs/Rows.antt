@@ -4,7 +4,7 @@ use Prim.Native.Nat.{ℕ, _+_}
 use lib.ListN.{length, getD}
 use Rattle.lists.specs.Lists.{flat, upFrom}
 use Rattle.cleaning.specs.Archive.{Archive}
-use Rattle.cleaning.specs.Listing.{mapLine}
+use Rattle.cleaning.specs.Lines.{mapLine}
 use Rattle.run_state.specs.View.{flagged}
 use Rattle.run_text.specs.lines.Parts.{mapText}
 

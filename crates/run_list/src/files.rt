@@ -16,15 +16,16 @@ ghost use Prim.Native.Nat.{_+_, _≤_, _<_};
 ghost use lib.ListN.{length};
 ghost use Rattle.lists.specs.Lists.{flat};
 ghost use Rattle.columns.specs.Limits.{maxRecords, maxNumbers};
-ghost use Rattle.cleaning.specs.Listing.{fileLines};
+ghost use Rattle.cleaning.specs.Lines.{fileLines};
 ghost use Rattle.cleaning.specs.Sections.{sectionUnresolved, sectionRules};
 ghost use Rattle.run_state.specs.View.{listed, unresolvedAt, sheetIn};
 ghost use Rattle.run_state.specs.Valid.{sheetOk};
 ghost use Rattle.run_state.specs.order.Ordered.{ordered};
 ghost use Rattle.run_group.specs.parts.Parts.{SpanOf};
 ghost use Rattle.run_text.specs.numbers.Wrote.{Wrote};
-ghost use Rattle.run_text.specs.files.Files.{fileSize, entries, Within};
-ghost use Rattle.run_list.specs.Need.{filesNeed};
+ghost use Rattle.cleaning.specs.Listed.{fileSize};
+ghost use Rattle.run_text.specs.files.Files.{entries, Within};
+ghost use Rattle.cleaning.specs.Listed.{filesNeed};
 ghost use Rattle.run_list.specs.Groups.{sectionFiles, LongDeltas, Shows, NeededBy};
 
 // ── one file ─────────────────────────────────────────────────────────────────────────────────

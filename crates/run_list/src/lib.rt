@@ -15,11 +15,11 @@ ghost use mathlib.Core.Option.{none};
 ghost use Prim.Native.Nat.{_≤_};
 ghost use lib.ListN.{length};
 ghost use Rattle.cleaning.specs.Held.{archiveHeld};
-ghost use Rattle.cleaning.specs.Listing.{listingText};
+ghost use Rattle.cleaning.specs.Lines.{listingText};
 ghost use Rattle.cleaning.specs.Sections.{sectionRules};
 ghost use Rattle.run_state.specs.View.{sheetIn, heldIn};
 ghost use Rattle.run_text.specs.numbers.Wrote.{Wrote};
-ghost use Rattle.run_list.specs.Need.{listingNeed};
+ghost use Rattle.cleaning.specs.Listed.{listingNeed};
 ghost use Rattle.run_list.specs.Groups.{sectionFiles};
 ghost use Rattle.run_list.specs.Listed.{Ready, Lists};
 

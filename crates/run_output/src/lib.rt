@@ -19,7 +19,7 @@ ghost use Prim.Native.Nat.{suc, _+_, _-_, _≤_, _<_};
 ghost use Rattle.lists.specs.Lists.{part};
 ghost use Rattle.columns.specs.Limits.{end64};
 ghost use Rattle.columns.specs.Reading.{labelsOf};
-ghost use Rattle.archive_write.specs.sizes.FileSize.{maxFileSize};
+ghost use Rattle.archive_store.specs.sizes.FileSize.{maxFileSize};
 ghost use Rattle.cleaning.specs.Sections.{between, coverWhere, sectionFileOf};
 ghost use Rattle.run_state.specs.View.{hasCover, listed, linkAt, sheetIn};
 ghost use Rattle.run_state.specs.Valid.{sheetOk};

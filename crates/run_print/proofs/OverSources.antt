@@ -1,6 +1,6 @@
--- What is printed over what a run holds is the listing by its definition, where the room is that of any listing.
-use mathlib.Core.Path.{_≡_, refl, ap, ap₂, subst, _∙_}
-use mathlib.Core.Bool.{not}
+-- What is said over what a run holds is the listing by its definition, where the room is that of any listing.
+use mathlib.Core.Path.{_≡_, refl, ap, _∙_}
+use mathlib.Core.Bool.{Bool, true, false, not, cond}
 use mathlib.Core.List.{List, [], _∷_, map}
 use mathlib.Core.Option.{Option, none, some}
 use Prim.Native.Nat.{ℕ, _≤_}
@@ -9,10 +9,10 @@ use lib.Dec.{ltb}
 use lib.ListN.{length}
 use borrow.Author.Tests.{le-ltb, ltb-false, not-false}
 use Rattle.lists.specs.Lists.{isEmpty, last, Each}
-use Rattle.columns.specs.Limits.{maxNumbers}
+use Rattle.columns.specs.Limits.{maxNumbers, maxListed}
 use Rattle.columns.specs.Refusal.{unless, refuse, firstOf}
 use Rattle.columns.specs.declared.refusal.Refusal.{Refusal}
-use Rattle.columns.specs.declared.refusal.Refusal.the-variants.{OverRecords, OverNumbers, GroupOrder, NoSurvivor}
+use Rattle.columns.specs.declared.refusal.Refusal.the-variants.{OverRecords, OverNumbers, GroupOrder, NoSurvivor, SliceShort}
 use Rattle.columns.proofs.FirstBroken.{each-none, not-refused}
 use Rattle.archive.specs.File.{File}
 use Rattle.archive.specs.Fits.{FileFits}
@@ -25,51 +25,47 @@ use Rattle.cleaning.specs.Memo.{tables}
 use Rattle.cleaning.specs.Resolving.{entries, groupsSurvive, resolveRules}
 use Rattle.cleaning.specs.Summary.{Summary, tabled}
 use Rattle.cleaning.specs.Writing.{outputs, writeRules, bytesOf, written}
-use Rattle.cleaning.specs.Step.{takes, resolves, taking, resolved, fresh, Outcome, takeMore, resolveBy, resolve, step}
-use Rattle.cleaning.specs.Sheet.{summaryOf}
-use Rattle.cleaning.specs.Held.{heldOf, archiveHeld}
-use Rattle.cleaning.specs.Survivors.{survivorSheet}
-use Rattle.cleaning.specs.Runs.{freshRun, slotted, runStep}
-use Rattle.cleaning.specs.Listing.{refusedLine, listingText, afterwards, writing, writingFrom, cleaning}
+use Rattle.cleaning.specs.Step.{takes, resolves, lists, Answer, refused, done, wrote, told, counted, printed, taking, resolved, fresh, Outcome, takeMore, resolveBy, listInto, resolve, step}
+use Rattle.cleaning.specs.Held.{heldOf}
+use Rattle.cleaning.specs.Lines.{refusedLine, listingText}
+use Rattle.cleaning.specs.Listed.{listingNeed, listed}
+use Rattle.cleaning.specs.Listing.{afterwards, writing, writingFrom, cleaning, listing}
 use Rattle.cleaning.proofs.Taken.{Followed, taken-followed}
 use Rattle.cleaning.proofs.Invariant.{Inv}
 use Rattle.cleaning.proofs.Holding.{hold, run-step}
-use Rattle.cleaning.proofs.HeldArchive.{archive-held}
-use Rattle.cleaning.proofs.HeldRows.{rows-held}
-use Rattle.cleaning.proofs.HeldColumns.{tables-length}
-use Rattle.cleaning.proofs.SurvivorSheet.{summary-held}
 use Rattle.cleaning.proofs.Fitting.{Fitting, Limited, fitting-taken, limited-taken}
 use Rattle.cleaning.specs.History.{filesIn}
 use Rattle.run_text.specs.files.Files.{listingRoom}
-use Rattle.run_list.specs.Need.{listingNeed}
-use Rattle.run_list.specs.Listed.{listed}
-use Rattle.run.specs.Listed.{listedIn}
-use Rattle.run_print.specs.Prints.{said, listedText, resolvedText}
+use Rattle.run.specs.Contracts.{listedFrom}
+use Rattle.run_clean.specs.Cleans.{after}
+use Rattle.run_print.specs.Whole.{resolvedList, takenList, listingFrom, said}
 use Rattle.run_print.proofs.Room.{room-enough}
 
+said-after : (a b : Answer) → said (after a b) ≡ afterwards refusedLine a (said b)
+said-after (refused x) b = refl
+said-after done b = refl
+said-after (wrote w) b = refl
+said-after (told n) b = refl
+said-after (counted n) b = refl
+said-after (printed t) b = refl
+
 -- what a write of a resolved run is made into
-abbrev pub lines : Archive → List File → List ℕ → List ℕ
+abbrev lines : Archive → List File → List ℕ → List ℕ
 lines A fs w = listingText A fs
 
 module _ (room : ℕ) where
-  said-listed : (A : Archive) (S : Summary) → listingNeed A (outputs S) ≤ room → said (listed room A S) ≡ writing refusedLine (lines A (outputs S)) (written S)
+  said-listed : (A : Archive) (S : Summary) → listingNeed A (outputs S) ≤ room → said (listInto (listed room A S)) ≡ writing refusedLine (lines A (outputs S)) (written S)
   unfolding listed written unless firstOf
   said-listed A S h = rw (le-ltb room (listingNeed A (outputs S)) h) (go (writeRules S))
     where
-      go : (x : Option Refusal) → said (unless (firstOf (x ∷ none ∷ [])) (listingText A (outputs S))) ≡ writing refusedLine (lines A (outputs S)) (unless x (bytesOf S))
+      go : (x : Option Refusal) → said (listInto (unless (firstOf (x ∷ none ∷ [])) (listingText A (outputs S)))) ≡ writing refusedLine (lines A (outputs S)) (unless x (bytesOf S))
       go none = refl
       go (some x) = refl
 
   module _ (r : listingRoom ≤ room) (t : Taken) (f : Followed none (t .sources)) (h : Each Fitting (t .sources)) (l : Limited (t .sources)) where
-    summary-says : summaryOf (survivorSheet (heldOf (t .sources)) (slotted (length ((archiveOf t) .events)) (tables (archiveOf t)))) ≡ tabled (archiveOf t) (tables (archiveOf t))
-    summary-says =
-        let held = heldOf (t .sources) in
-        subst (λ A. summaryOf (survivorSheet held (slotted (length (A .events)) (tables A))) ≡ tabled A (tables A)) (archive-held (t .sources) f)
-        (summary-held held (tables (archiveHeld held)) (rows-held (t .sources) f) (tables-length (archiveHeld held)))
-
     resolved-says : resolveRules t (archiveOf t) (tables (archiveOf t)) ≡ none
-        → listedText room (hold (resolved t (tables (archiveOf t)))) ≡ writingFrom refusedLine lines (resolved t (tables (archiveOf t)))
-    unfolding listedText listedIn hold resolveRules
+        → said (listedFrom (hold (resolved t (tables (archiveOf t)))) room) ≡ writingFrom refusedLine lines (resolved t (tables (archiveOf t)))
+    unfolding listedFrom Inv step resolveRules
     resolved-says e =
         let A = archiveOf t in
         let ts = tables A in
@@ -77,26 +73,27 @@ module _ (room : ℕ) where
         let some-source = not-refused GroupOrder (isEmpty (t .sources)) (rules .0) in
         let few = ltb-false maxNumbers (entries ts) (not-refused OverNumbers (ltb maxNumbers (entries ts)) (rules .1 .0)) in
         let survive = not-false (groupsSurvive A) (not-refused NoSurvivor (not (groupsSurvive A)) (rules .1 .1 .0)) in
-        ap₂ (λ B S. said (listed room B S)) (archive-held (t .sources) f) summary-says
+        ap (λ o. said (o .answer)) (run-step (resolved t ts) (lists room) (t .sources) (refl, f, refl))
         ∙ said-listed A (tabled A ts) (omega (arith, room-enough t f h l some-source few survive))
 
     taken-by : (x : Option Refusal) → resolveRules t (archiveOf t) (tables (archiveOf t)) ≡ x
-        → afterwards refusedLine ((resolveBy t (tables (archiveOf t)) x) .answer) (listedText room (hold ((resolveBy t (tables (archiveOf t)) x) .state)))
+        → afterwards refusedLine ((resolveBy t (tables (archiveOf t)) x) .answer) (said (listedFrom (hold ((resolveBy t (tables (archiveOf t)) x) .state)) room))
         ≡ afterwards refusedLine ((resolveBy t (tables (archiveOf t)) x) .answer) (writingFrom refusedLine lines ((resolveBy t (tables (archiveOf t)) x) .state))
     taken-by none e = resolved-says e
     taken-by (some x) e = refl
 
-    pub taken-says : resolvedText room (hold (taking t))
+    taken-says : said (resolvedList (hold (taking t)) room)
         ≡ afterwards refusedLine ((step (taking t) resolves) .answer) (writingFrom refusedLine lines ((step (taking t) resolves) .state))
-    unfolding resolvedText Inv step resolve
+    unfolding resolvedList Inv step resolve
     taken-says =
-        ap (λ o. afterwards refusedLine (o .answer) (listedText room (o .state))) (run-step (taking t) resolves (t .sources) (refl, f))
+        ap (λ o. said (after (o .answer) (listedFrom (o .state) room))) (run-step (taking t) resolves (t .sources) (refl, f))
+        ∙ said-after ((step (taking t) resolves) .answer) (listedFrom (hold ((step (taking t) resolves) .state)) room)
         ∙ taken-by (resolveRules t (archiveOf t) (tables (archiveOf t))) refl
 
   -- ── an archive taken alone ───────────────────────────────────────────────────────────────────
 
   abbrev Says : Outcome → Type 0
-  Says o = afterwards refusedLine (o .answer) (resolvedText room (hold (o .state)))
+  Says o = said (after (o .answer) (resolvedList (hold (o .state)) room))
       ≡ afterwards refusedLine (o .answer) (afterwards refusedLine ((step (o .state) resolves) .answer) (writingFrom refusedLine lines ((step (o .state) resolves) .state)))
 
   abbrev noSource : Taken
@@ -120,8 +117,16 @@ module _ (room : ℕ) where
     unfolding step
     step-says b h = parse-says (parse b) h
 
-    pub bytes-say : (b : List ℕ) → Each FileFits (filesIn (parse b))
-        → afterwards refusedLine ((runStep freshRun (takes b)) .answer) (resolvedText room ((runStep freshRun (takes b)) .state)) ≡ cleaning refusedLine lines b
-    unfolding cleaning Inv hold heldOf
+    bytes-say : (b : List ℕ) → Each FileFits (filesIn (parse b)) → said (takenList b room) ≡ cleaning refusedLine lines b
+    unfolding takenList cleaning Inv hold heldOf
     bytes-say b h =
-        ap (λ o. afterwards refusedLine (o .answer) (resolvedText room (o .state))) (run-step fresh (takes b) [] (refl, tt)) ∙ step-says b h
+        ap (λ o. said (after (o .answer) (resolvedList (o .state) room))) (run-step fresh (takes b) [] (refl, tt)) ∙ step-says b h
+
+    -- the whole output of the listing program
+    pub listing-said : (b : List ℕ) → Each FileFits (filesIn (parse b)) → said (listingFrom b room) ≡ listing b
+    unfolding listingFrom listing
+    listing-said b h = go (ltb maxListed (length b))
+      where
+        go : (long : Bool) → said (cond long (refused SliceShort) (takenList b room)) ≡ cond long (refusedLine SliceShort) (cleaning refusedLine lines b)
+        go true = refl
+        go false = bytes-say b h

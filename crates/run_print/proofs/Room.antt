@@ -24,7 +24,7 @@ use Rattle.cleaning.proofs.Goodness.{good-sources}
 use Rattle.cleaning.proofs.Tabled.{tabled-summary}
 use Rattle.cleaning.proofs.OutputLimits.{few-events, few-forward, few-reverse, few-inbound}
 use Rattle.run_text.specs.files.Files.{filesRoom, listingRoom}
-use Rattle.run_list.specs.Need.{fileNeed, filesNeed, listingNeed}
+use Rattle.cleaning.specs.Listed.{fileNeed, filesNeed, listingNeed}
 
 needs-sum : (fs : List File)
     → filesNeed fs

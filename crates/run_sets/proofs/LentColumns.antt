@@ -32,7 +32,7 @@ use Rattle.run_state.proofs.order.TidySheets.{below-events, slots-below}
 use Rattle.run_group.specs.sections.Laid.{edgesBefore}
 use Rattle.run_group.proofs.sections.Before.{none-before}
 use Rattle.columns_encode.specs.declared.kept.Encoded.{Encoded}
-use Rattle.columns_build.specs.Lent.{Answers}
+use Rattle.columns_encode.specs.Lent.{Answers}
 use Rattle.run_sets.specs.section.Parted.{partGraph, judged}
 use Rattle.run_sets.specs.declared.GroupSets.{GroupSets}
 use Rattle.run_sets.specs.ByVerdict.{SetsBy, lentSets}

@@ -32,7 +32,7 @@ use Rattle.columns_encode.proofs.built.BuiltLimits.{part-full}
 use Rattle.cleaning.specs.Writing.{Edge, edgesInto, inboundColumns}
 use Rattle.cleaning.proofs.Parts.{length-part, parts-from}
 use Rattle.run_group.specs.sections.Laid.{edgesOfRow}
-use Rattle.columns_build.specs.Lent.{Answers}
+use Rattle.columns_encode.specs.Lent.{Answers}
 use Rattle.run_sets.specs.section.Parted.{partGraph, judged}
 use Rattle.run_state.specs.declared.output.Sets.{Sets}
 use Rattle.run_state.specs.output.View.{setIn, builtIn}

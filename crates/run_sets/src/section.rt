@@ -1,8 +1,8 @@
 // The rules and the three sets of some of the rows of flat columns, built as a file of their own.
 use arrays::index;
 use columns::depth::Depth;
-use columns_build::encode::encode_lent;
 use columns_encode::kept::Encoded;
+use columns_encode::lent::encode_lent;
 use run_group::sections::edges::edges_into;
 use run_group::sections::offsets::rebase;
 ghost use mathlib.Core.Path.{_≡_};
@@ -13,10 +13,9 @@ ghost use lib.ListN.{length, take, drop};
 ghost use Rattle.lists.specs.Lists.{starts, part};
 ghost use Rattle.columns.specs.Limits.{end64};
 ghost use Rattle.columns.specs.EdgeSet.{offsetsForm, cut};
-ghost use Rattle.columns.specs.Building.{build};
 ghost use Rattle.columns_rules.specs.records.Recorded.{depthOf, labelsGiven};
 ghost use Rattle.columns_encode.specs.Encoded.{Rooms};
-ghost use Rattle.columns_build.specs.Lent.{graphOf, slicesOf, Answers};
+ghost use Rattle.columns_encode.specs.Lent.{buildLent, slicesOf, Answers};
 ghost use Rattle.run_group.specs.sections.Laid.{edgesBefore};
 ghost use Rattle.run_sets.specs.section.Parted.{partGraph, Few, judged};
 
@@ -53,7 +52,7 @@ fn build_columns(
 ) -> Encoded
     requires { ⌜ (n ≤ 1024) × ((2 * n + 1 ≤ length (now base)) × ((lo ≤ hi) × (hi ≤ length (now targets)))) ⌝ }
     requires { ⌜ (m ≤ length (now cs)) × ((m ≤ length (now ps)) × (m ≤ length (now ks))) ⌝ }
-    ensures { λ r. ⌜ Answers (build (graphOf (now (subject .entry)) first n (take (2 * n + 1) (now (base .entry))) (take (hi - lo) (drop lo (now (targets .entry)))) (now (children .entry)) (now (kinds .entry)) (now (flags .entry)) depth labelled (now (chains .entry)) (now (seqs .entry)) (take m (now (cs .entry))) (take m (now (ps .entry))) (take m (now (ks .entry))) 0 n) (slicesOf (length (now (fo .entry))) (length (now (fd .entry))) (length (now (ro .entry))) (length (now (rd .entry))) (length (now (io .entry))) (length (now (id .entry))))) r (now (fo .entry)) (now (fd .entry)) (now (ro .entry)) (now (rd .entry)) (now (io .entry)) (now (id .entry)) (now (fo .exit)) (now (fd .exit)) (now (ro .exit)) (now (rd .exit)) (now (io .exit)) (now (id .exit)) ⌝ }
+    ensures { λ r. ⌜ Answers (buildLent (now (subject .entry)) first n (take (2 * n + 1) (now (base .entry))) (take (hi - lo) (drop lo (now (targets .entry)))) (now (children .entry)) (now (kinds .entry)) (now (flags .entry)) depth labelled (now (chains .entry)) (now (seqs .entry)) (take m (now (cs .entry))) (take m (now (ps .entry))) (take m (now (ks .entry))) 0 n (slicesOf (length (now (fo .entry))) (length (now (fd .entry))) (length (now (ro .entry))) (length (now (rd .entry))) (length (now (io .entry))) (length (now (id .entry))))) r (now (fo .entry)) (now (fd .entry)) (now (ro .entry)) (now (rd .entry)) (now (io .entry)) (now (id .entry)) (now (fo .exit)) (now (fd .exit)) (now (ro .exit)) (now (rd .exit)) (now (io .exit)) (now (id .exit)) ⌝ }
 {
     let k = 2 * n + 1;
     encode_lent(

@@ -2,14 +2,15 @@
 pub mod long;
 
 use crate::Sheet;
+use archive_store::order::is_level;
+use archive_store::order::rises;
 use long::sheet_long;
 ghost use mathlib.Core.Path.{_≡_};
 ghost use mathlib.Core.Bool.{true};
 ghost use Prim.Native.Nat.{_≤_};
 ghost use lib.ListN.{length, take};
-ghost use lib.Seq.{slice};
 ghost use Rattle.lists.specs.Lists.{all};
-ghost use Rattle.lists.specs.Order.{rising, risesAbove, notFalling};
+ghost use Rattle.lists.specs.Order.{notFalling};
 ghost use Rattle.cleaning.specs.Sections.{reaches};
 ghost use Rattle.run_state.specs.Valid.{below, countsOk};
 ghost use Rattle.run_state.specs.order.Ordered.{groupsOrdered, countsIn, columnsOrdered, ordered, filled};
@@ -63,53 +64,6 @@ fn groups_ordered(groups: &[u8], n: usize, count: usize) -> bool
         return false;
     }
     groups_there(groups, n, count)
-}
-
-// Whether none of the first n numbers falls.
-fn is_level(column: &[u64], n: usize) -> bool
-    requires { ⌜ n ≤ length (now column) ⌝ }
-    ensures { λ r. ⌜ r ≡ notFalling (take n (now (column .entry))) ⌝ }
-{
-    let mut low = 0;
-    let mut i = 0;
-    while i < n {
-        let x = column[i];
-        if x < low {
-            return false;
-        }
-        low = x;
-        i += 1;
-    }
-    true
-}
-
-// Whether the numbers before place n rise from the second on, the second above `first`.
-fn rises_from(column: &[u64], n: usize, first: u64) -> bool
-    requires { ⌜ (1 ≤ n) × (n ≤ length (now column)) ⌝ }
-    ensures { λ r. ⌜ r ≡ risesAbove first (slice 1 n (now (column .entry))) ⌝ }
-{
-    let mut low = first;
-    let mut i = 1;
-    while i < n {
-        let x = column[i];
-        if x <= low {
-            return false;
-        }
-        low = x;
-        i += 1;
-    }
-    true
-}
-
-// Whether the first n numbers rise.
-fn rises(column: &[u64], n: usize) -> bool
-    requires { ⌜ n ≤ length (now column) ⌝ }
-    ensures { λ r. ⌜ r ≡ rising (take n (now (column .entry))) ⌝ }
-{
-    if n == 0 {
-        return true;
-    }
-    rises_from(column, n, column[0])
 }
 
 // Whether every group up to the count has one of the first n rows, whose groups don't fall.

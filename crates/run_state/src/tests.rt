@@ -1,7 +1,7 @@
 // Tests of one or two columns: the form of offsets, numbers below their event, records of rows that are there.
 use arrays::index;
-use columns_read::sets::is_form;
 use columns_rules::records::parts::is_in_file;
+use columns_slots::sets::is_form;
 ghost use mathlib.Core.Path.{_≡_};
 ghost use mathlib.Core.Bool.{true};
 ghost use mathlib.Core.List.{[]};

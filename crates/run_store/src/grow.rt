@@ -190,7 +190,7 @@ fn put_behind(out: &mut [u64], at: usize, first: u64, count: u64, offsets: &[u64
     requires { ⌜ Readable first (columnsOf count (now offsets) (now deltas)) ⌝ }
     ensures { λ _. ⌜ now (out .exit) ≡ sets (now (out .entry)) at (joined (slotsOf first (columnsOf count (now (offsets .entry)) (now (deltas .entry))))) ⌝ }
 {
-    columns_read::sets::write_csr(first, count, offsets, deltas, &mut out[at..]);
+    columns_slots::sets::write_csr(first, count, offsets, deltas, &mut out[at..]);
 }
 
 // The targets of a set whose rules are kept.

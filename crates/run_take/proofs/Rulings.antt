@@ -14,7 +14,7 @@ use Rattle.lists.proofs.Once.{or-is-false}
 use Rattle.columns.specs.Limits.{maxRecords, maxNumbers, maxGroups}
 use Rattle.columns.specs.Refusal.{refuse, firstOf}
 use Rattle.columns.specs.declared.refusal.Refusal.{Refusal}
-use Rattle.columns.specs.declared.refusal.Refusal.the-variants.{RecordBroken, OverRecords, OverNumbers}
+use Rattle.columns.specs.declared.refusal.Refusal.the-variants.{OverRecords, OverNumbers}
 use Rattle.columns.proofs.FirstBroken.{each-none, not-refused}
 use Rattle.columns.specs.Answers.{ruling}
 use Rattle.columns.specs.declared.refusal.Ruling.{Ruling}
@@ -26,7 +26,7 @@ use Rattle.archive_read.specs.declared.files.Totals.{Totals}
 use Rattle.archive_read.specs.declared.files.Summed.{Summed}
 use Rattle.archive_read.specs.declared.files.Summed.the-variants as summed
 use Rattle.archive_read.specs.Sums.{totals, totalsOf}
-use Rattle.archive_read.specs.groups.Groups.{filesOf, isRead, groupsOver}
+use Rattle.archive_groups.specs.Groups.{filesOf, isRead, groupsOver}
 use Rattle.cleaning.specs.Held.{recordsOver, numbersOver, lookBack, holdRules}
 use Rattle.cleaning.specs.Held as run
 use Rattle.cleaning.specs.History.{filesIn}
@@ -114,9 +114,9 @@ module _ (h : Held) (o : Parsed (List File)) {r : Ruling} (v : r ≡ ruling (lim
 
 -- ── 23 ───────────────────────────────────────────────────────────────────────────────────────
 
-pub not-archive : (h : run.Held) (o : Parsed (List File)) {x : Summed} → x ≡ totalsOf o → x ≡ summed.Broken → Broken RecordBroken ≡ ruling (archiveRules h o)
+pub not-archive : (h : run.Held) (o : Parsed (List File)) {x : Summed} {y : Refusal} → x ≡ totalsOf o → x ≡ summed.Refused y → Broken y ≡ ruling (archiveRules h o)
 unfolding totalsOf archiveRules
-not-archive h broken e f = refl
+not-archive h broken e f = cc
 not-archive h (got fs end) e f = absurd (let z : _≡_ {A = ℕ} 0 1 = cc in omega arith)
 
 module _ (o : Parsed (List File)) {x : Summed} {t : Totals} (e : x ≡ totalsOf o) (f : x ≡ summed.Sums t) where

@@ -1,9 +1,8 @@
 // A taking, whole: 23 over the archive's bytes, 42 and 43 over the run and the archive, the rules of the archive's files, and the files stored.
+use archive_groups::groups_over;
 use archive_read::files::Summed;
 use archive_read::files::Totals;
 use archive_read::files::sum_up;
-use archive_read::groups::groups_over;
-use columns::refusal::Refusal;
 use columns::refusal::Ruling;
 use run_rules::files::all::files_rules;
 use run_rules::limits::count;
@@ -131,10 +130,10 @@ pub fn rules_by(h: Held, k: Known, bytes: &[u8]) -> Ruling
     ensures { λ r. ⌜ r ≡ ruling (archiveRules (heldIn h) (parse (now (bytes .entry)))) ⌝ }
 {
     let x = sum_up(bytes);
-    let Summed::Sums(t) = x else {
-        return Ruling::Broken(Refusal::RecordBroken);
-    };
-    hold_rules(h, k, bytes, t)
+    match x {
+        Summed::Refused(y) => Ruling::Broken(y),
+        Summed::Sums(t) => hold_rules(h, k, bytes, t),
+    }
 }
 
 // What a run holds with an archive more; a refused archive leaves it as it was.

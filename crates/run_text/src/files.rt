@@ -11,10 +11,11 @@ ghost use Prim.Native.Nat.{_+_, _*_, _≤_};
 ghost use lib.ListN.{length};
 ghost use Rattle.lists.specs.Text.{text};
 ghost use Rattle.columns.specs.Limits.{maxRecords, maxNumbers};
-ghost use Rattle.cleaning.specs.Listing.{decimal, signed, line, setLines};
+ghost use Rattle.cleaning.specs.Lines.{decimal, signed, line, setLines};
 ghost use Rattle.run_state.specs.output.View.{setIn, builtIn};
 ghost use Rattle.run_text.specs.numbers.Wrote.{Wrote};
-ghost use Rattle.run_text.specs.files.Files.{columnsOf, setSize, setsText, setsSize, fileText, fileSize, entries, Within};
+ghost use Rattle.cleaning.specs.Listed.{fileSize};
+ghost use Rattle.run_text.specs.files.Files.{columnsOf, setSize, setsText, setsSize, fileText, entries, Within};
 
 // ── a set ────────────────────────────────────────────────────────────────────────────────────
 

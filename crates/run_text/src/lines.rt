@@ -10,7 +10,7 @@ ghost use mathlib.Core.List.{_∷_, [], map};
 ghost use Prim.Native.Nat.{_+_, _*_, _≤_};
 ghost use lib.ListN.{length};
 ghost use Rattle.lists.specs.Text.{text};
-ghost use Rattle.cleaning.specs.Listing.{decimal, signed, line, refusedLine};
+ghost use Rattle.cleaning.specs.Lines.{decimal, signed, line, refusedLine};
 ghost use Rattle.run_text.specs.numbers.Wrote.{Wrote};
 ghost use Rattle.run_text.specs.lines.Parts.{spaced, newText, mapText, headText};
 

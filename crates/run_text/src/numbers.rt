@@ -5,7 +5,7 @@ use archive_bytes::unsigned;
 ghost use mathlib.Core.List.{_∷_, []};
 ghost use Prim.Native.Nat.{_+_, _≤_, _<_};
 ghost use lib.ListN.{length};
-ghost use Rattle.cleaning.specs.Listing.{decimal, signed};
+ghost use Rattle.cleaning.specs.Lines.{decimal, signed};
 ghost use Rattle.run_text.specs.numbers.Wrote.{Wrote};
 
 pub fn put_byte(out: &mut [u8], at: usize, b: u8) -> usize

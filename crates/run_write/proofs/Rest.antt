@@ -13,7 +13,7 @@ use Rattle.columns.specs.Refusal.{firstOf, firstIn}
 use Rattle.columns.specs.Building.{buildRules}
 use Rattle.columns.specs.declared.refusal.Refusal.{Refusal}
 use Rattle.archive.specs.Encode.{fileBytes, encode}
-use Rattle.archive_write.specs.sizes.FileSize.{maxFileSize}
+use Rattle.archive_store.specs.sizes.FileSize.{maxFileSize}
 use Rattle.cleaning.specs.Sheet.{Sheet}
 use Rattle.cleaning.specs.Sections.{sectionGraph, sectionFile}
 use Rattle.columns.specs.Answers.{ruling}

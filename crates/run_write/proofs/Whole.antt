@@ -1,5 +1,5 @@
 -- All groups: where the loops start and end, and what writing answers.
-use mathlib.Core.Path.{_≡_, refl, sym, ap, _∙_}
+use mathlib.Core.Path.{_≡_, refl, sym, ap, ap₂, _∙_}
 use mathlib.Core.Bool.{true, cond}
 use mathlib.Core.List.{List, _++_}
 use mathlib.Core.Option.{none}
@@ -18,7 +18,7 @@ use Rattle.columns.specs.declared.refusal.Refusal.the-variants.{SliceShort}
 use Rattle.cleaning.specs.Sheet.{summaryOf}
 use Rattle.cleaning.specs.Writing.{written}
 use Rattle.cleaning.specs.Sections.{sectionRules, sectionBytes}
-use Rattle.cleaning.specs.Step.{refused, wrote, writeInto}
+use Rattle.cleaning.specs.Step.{allOf, refused, wrote, writeInto}
 use Rattle.cleaning.proofs.SheetFiles.{written-sections}
 use Rattle.run_state.specs.declared.Sheet.{Sheet}
 use Rattle.run_state.specs.View.{factsAt, sheetIn}
@@ -105,7 +105,7 @@ module _ (s : Sheet) (l : LongSheet s) (k : sheetOk s ≡ true) (o : ordered s �
     pub wrote-refused : (x : Refusal) → m .ruling ≡ Broken x → Wrote (sheetIn s) was was (Refused x)
     unfolding unless
     wrote-refused x e = record {
-      answer = sym (ap (writeInto (length was)) (as-sections ∙ ap (λ r. unless r (sectionBytes (sheetIn s))) (told (sectionRules (sheetIn s)) (d .rules) e)));
+      answers = sym (ap (writeInto (length was)) (as-sections ∙ ap (λ r. unless r (sectionBytes (sheetIn s))) (told (sectionRules (sheetIn s)) (d .rules) e)));
       rest = refl;
       within = omega arith;
     }
@@ -114,14 +114,14 @@ module _ (s : Sheet) (l : LongSheet s) (k : sheetOk s ≡ true) (o : ordered s �
       no-rule : sectionRules (sheetIn s) ≡ none
       no-rule = told-kept (sectionRules (sheetIn s)) (d .rules) e
 
-      all-accepted : writeInto (length was) (written (summaryOf (sheetIn s))) ≡ cond (leb (length (sectionBytes (sheetIn s))) (length was)) (wrote (sectionBytes (sheetIn s))) (refused SliceShort)
+      all-accepted : writeInto (length was) (written (summaryOf (sheetIn s))) ≡ cond (leb (length (sectionBytes (sheetIn s))) (length was)) (wrote (allOf (sectionBytes (sheetIn s)))) (refused SliceShort)
       unfolding unless
       all-accepted = ap (writeInto (length was)) (as-sections ∙ ap (λ r. unless r (sectionBytes (sheetIn s))) no-rule)
 
       pub wrote-short : length was < m .length → Wrote (sheetIn s) was was (Refused SliceShort)
       wrote-short h =
           let q : length was < length (sectionBytes (sheetIn s)) = omega (arith, d .length-is no-rule) in
-          record { answer = sym (all-accepted ∙ rw (lt-leb (length (sectionBytes (sheetIn s))) (length was) q)); rest = refl; within = omega arith }
+          record { answers = sym (all-accepted ∙ rw (lt-leb (length (sectionBytes (sheetIn s))) (length was) q)); rest = refl; within = omega arith }
 
       module _ (h : m .length ≤ length was) where
         wrote-all : {is : List ℕ} → is ≡ sets was 0 (sectionBytes (sheetIn s)) → Wrote (sheetIn s) was is (Length (m .length))
@@ -132,7 +132,7 @@ module _ (s : Sheet) (l : LongSheet s) (k : sheetOk s ≡ true) (o : ordered s �
             let p : is ≡ w ++ drop (length w) was = q ∙ sets-eq w was 0 (omega arith) ∙ rw z in
             let t : take (m .length) is ≡ w = rw (p, n) (take-at w (drop (length w) was) (length w) refl) in
             record {
-              answer = ap wrote t ∙ sym (all-accepted ∙ rw (le-leb (length w) (length was) (omega arith)));
+              answers = ap₂ (λ k l. wrote (record { length = k; bytes = l })) n t ∙ sym (all-accepted ∙ rw (le-leb (length w) (length was) (omega arith)));
               rest = rw (p, n) (drop-at w (drop (length w) was) (length w) refl);
               within = h;
             }

@@ -8,7 +8,7 @@ use lib.Seq.{sets}
 use Rattle.cleaning.specs.Sheet.{Sheet, summaryOf}
 use Rattle.cleaning.specs.Sections.{sectionRules, sectionBytes}
 use Rattle.cleaning.specs.Writing.{written}
-use Rattle.cleaning.specs.Step.{Answer, refused, wrote, writeInto}
+use Rattle.cleaning.specs.Step.{Bytes, Answer, refused, wrote, writeInto}
 use Rattle.columns.specs.Answers.{ruling}
 use Rattle.run_write.specs.declared.Measured.{Measured}
 use Rattle.run_state.specs.declared.Writing.{Writing}
@@ -29,13 +29,17 @@ abbrev pub lengthOf : Writing → ℕ
 lengthOf (Length n) = n
 lengthOf (Refused x) = 0
 
--- a call's answer with the bytes up to its length
-abbrev pub answerOf : Writing → List ℕ → Answer
-answerOf (Length n) is = wrote (take n is)
-answerOf (Refused x) is = refused x
+-- the answer of a call that makes bytes: their number, with the bytes up to it
+abbrev pub answerOf : (Bytes → Answer) → Writing → List ℕ → Answer
+answerOf made (Length n) is = made (record { length = n; bytes = take n is })
+answerOf made (Refused x) is = refused x
 
--- the answer for as much room as was lent: no more bytes than that, and past them all is as it was
-pub record Wrote (s : Sheet) (was is : List ℕ) (r : Writing) : Type 0 where
-  pub answer : answerOf r is ≡ writeInto (length was) (written (summaryOf s))
+-- what such a call gives for as much room as was lent: no more bytes than that, and past them all is as it was
+pub record Gives (made : Bytes → Answer) (answer : ℕ → Answer) (was is : List ℕ) (r : Writing) : Type 0 where
+  pub answers : answerOf made r is ≡ answer (length was)
   pub rest : drop (lengthOf r) is ≡ drop (lengthOf r) was
   pub within : lengthOf r ≤ length was
+
+-- a sheet written
+abbrev pub Wrote : Sheet → List ℕ → List ℕ → Writing → Type 0
+Wrote s = Gives wrote (λ room. writeInto room (written (summaryOf s)))

@@ -3,6 +3,7 @@
 use archive_read::files::Summed;
 use archive_read::files::Totals;
 use archive_read::files::sum_up;
+use columns::refusal::number;
 ghost use Prim.Native.Nat.{_≤_, _<_};
 
 // 1 where the bytes are an archive, 0 where they are refused with 23.
@@ -12,7 +13,7 @@ fn accepted(bytes: &[u8]) -> usize
     let x = sum_up(bytes);
     match x {
         Summed::Sums(_) => 1,
-        Summed::Broken => 0,
+        Summed::Refused(_) => 0,
     }
 }
 
@@ -67,7 +68,7 @@ fn print_counts(bytes: &[u8]) {
     let x = sum_up(bytes);
     match x {
         Summed::Sums(t) => print_totals(t),
-        Summed::Broken => print_number(23),
+        Summed::Refused(why) => print_number(number(why) as usize),
     }
 }
 

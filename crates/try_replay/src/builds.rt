@@ -23,8 +23,8 @@ fn is_set(
 ) -> bool {
     let mut bytes = [0u8; 32768];
     let mut numbers = [0u64; 4096];
-    archive_bytes::number_columns::put_i64s(deltas, n, &mut bytes, 0);
-    archive_bytes::number_columns::load_u64s(&bytes, 0, n, &mut numbers);
+    archive_cursor::number_columns::put_i64s(deltas, n, &mut bytes, 0);
+    archive_cursor::number_columns::load_u64s(&bytes, 0, n, &mut numbers);
     if count(words, at) != n {
         return false;
     }

@@ -76,10 +76,10 @@ fn replay(name: &[u8], question: u64, words: &[u64], signed: &[i64], shorts: &[u
 
 // A line for each question.
 fn replay_all(
-    words: &[u64; 40960],
-    signed: &[i64; 40960],
-    shorts: &[u32; 40960],
-    bytes: &[u8; 40960],
+    words: &[u64; 53248],
+    signed: &[i64; 53248],
+    shorts: &[u32; 53248],
+    bytes: &[u8; 53248],
 ) {
     replay(b"build", 1, words, signed, shorts, bytes);
     replay(b"read", 2, words, signed, shorts, bytes);
@@ -97,9 +97,9 @@ fn replay_all(
 }
 
 // The low 32 and the low 8 bits of each word.
-fn narrow(words: &[u64; 40960], shorts: &mut [u32; 40960], bytes: &mut [u8; 40960]) {
+fn narrow(words: &[u64; 53248], shorts: &mut [u32; 53248], bytes: &mut [u8; 53248]) {
     let mut i = 0;
-    while i < 40960 {
+    while i < 53248 {
         shorts[i] = (words[i] % 4294967296) as u32;
         bytes[i] = (words[i] % 256) as u8;
         i += 1;
@@ -107,14 +107,14 @@ fn narrow(words: &[u64; 40960], shorts: &mut [u32; 40960], bytes: &mut [u8; 4096
 }
 
 fn main() {
-    let mut input = [0u8; 327680];
+    let mut input = [0u8; 425984];
     let n = io::read_full(0, &mut input) / 8;
-    let mut words = [0u64; 40960];
-    let mut signed = [0i64; 40960];
-    let mut shorts = [0u32; 40960];
-    let mut bytes = [0u8; 40960];
-    archive_bytes::number_columns::load_u64s(&input, 0, n, &mut words);
-    archive_bytes::number_columns::load_i64s(&input, 0, n, &mut signed);
+    let mut words = [0u64; 53248];
+    let mut signed = [0i64; 53248];
+    let mut shorts = [0u32; 53248];
+    let mut bytes = [0u8; 53248];
+    archive_cursor::number_columns::load_u64s(&input, 0, n, &mut words);
+    archive_cursor::number_columns::load_i64s(&input, 0, n, &mut signed);
     narrow(&words, &mut shorts, &mut bytes);
     replay_all(&words, &signed, &shorts, &bytes);
 }

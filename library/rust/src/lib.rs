@@ -19,7 +19,7 @@ use std::thread;
 /// No cleaned archive is longer.
 pub const CLEANED_MAX: usize = 196_448;
 
-/// No listing is longer; one is made only where there is so much room.
+/// No listing needs more room.
 pub const LISTING_ROOM: usize = 437_792;
 
 /// A call uses less stack, copies of a run that debug builds make among it, but more than many threads have: each is made on a thread of its
@@ -51,8 +51,8 @@ pub fn clean_to_vec(bytes: &[u8]) -> Result<Vec<u8>, Refusal> {
     in_vec(CLEANED_MAX, |out| clean(bytes, out))
 }
 
-/// The listing of an archive's cleaning into `out`, of at least `LISTING_ROOM` bytes: how long it is. Where the archive is refused its
-/// text is that refusal.
+/// The listing of an archive's cleaning into `out`: how long it is. A refused call writes nothing, an accepted one nothing past its length.
+/// `LISTING_ROOM` bytes are enough for any; an archive of more than 65,536 bytes is refused with 41.
 pub fn list(bytes: &[u8], out: &mut [u8]) -> Result<usize, Refusal> {
     length(on_stack(|| unsafe { ridgeoven_list(bytes.as_ptr(), bytes.len(), out.as_mut_ptr(), out.len()) }))
 }

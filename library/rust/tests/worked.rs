@@ -1,6 +1,6 @@
 //! Document 01's worked archive, and what is refused.
 
-use ridgeoven::{CLEANED_MAX, Refusal, Run, clean, clean_to_vec, list, list_to_vec};
+use ridgeoven::{CLEANED_MAX, LISTING_ROOM, Refusal, Run, clean, clean_to_vec, list, list_to_vec};
 
 const ARCHIVE: &[u8] = include_bytes!("../../../crates/clean/stdin");
 const CLEANED: &[u8] = include_bytes!("../../../crates/clean/stdout");
@@ -27,13 +27,18 @@ fn room() {
     let mut short = vec![0x5a; CLEANED.len() - 1];
     assert_eq!(clean(ARCHIVE, &mut short), Err(Refusal(41)));
     assert_eq!(list(ARCHIVE, &mut short), Err(Refusal(41)));
+    assert_eq!(list(&ARCHIVE[1..], &mut short), Err(Refusal(23)));
     assert!(short.iter().all(|byte| *byte == 0x5a));
 }
 
 #[test]
 fn refused() {
     assert_eq!(clean_to_vec(&ARCHIVE[..ARCHIVE.len() - 1]), Err(Refusal(23)));
-    assert_eq!(list_to_vec(&ARCHIVE[..ARCHIVE.len() - 1]).as_deref(), Ok(&b"refused 23\n"[..]));
+    assert_eq!(list_to_vec(&ARCHIVE[..ARCHIVE.len() - 1]), Err(Refusal(23)));
+    assert_eq!(list_to_vec(&[0; 65537]), Err(Refusal(41)));
+    let mut listed = [0x5a; LISTING_ROOM];
+    assert_eq!(list(&ARCHIVE[..ARCHIVE.len() - 1], &mut listed), Err(Refusal(23)));
+    assert!(listed.iter().all(|byte| *byte == 0x5a));
     assert_eq!(
         Refusal(23).to_string(),
         "refused 23: a record of the archive is broken: its length, version, kind, order, or something that it holds"

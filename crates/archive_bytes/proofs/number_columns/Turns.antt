@@ -1,6 +1,6 @@
--- Columns in lent bytes: one turn of each loop that loads or stores one, and each answer of the functions over them.
+-- Columns in lent bytes: one turn of each loop that loads or stores one, and whether there is room.
 use mathlib.Core.Path.{_≡_, refl, sym, _∙_}
-use mathlib.Core.Bool.{Bool, true, false, not}
+use mathlib.Core.Bool.{Bool, true, false}
 use mathlib.Core.List.{List, map}
 use Prim.Native.Nat.{ℕ, _≤_, _<_, _+_, _-_, _*_, _/_}
 use native.Mathlib.Nat.{add-zero, add-suc, le-div-iff-mul-le}
@@ -13,13 +13,12 @@ use lib.Seq.{sets, slice, slice-cons, drop-cons}
 use mir.Syntax.{w64}
 use mir.Val.{SFits, toZ, ofZ}
 use mir.ValLaws.{toZ-ofZ}
-use borrow.Author.Tests.{le-leb, lt-leb, leb-true, leb-false, not-true, not-false}
+use borrow.Author.Tests.{lt-leb, leb-true, leb-false}
 use Rattle.lists.specs.Lists.{flat}
 use Rattle.lists.proofs.Slices.{slice-none, sets-append}
 use Rattle.archive_bytes.specs.Bytes.{be, bytesOf, signedOf, unsignedOf, column}
 use Rattle.archive_bytes.proofs.Numbers.{length-bytesOf}
 use Rattle.archive_bytes.proofs.Several.{be-front, several-none, several-cons}
-use Rattle.archive_bytes.specs.number_columns.Room.{room}
 
 -- ── loading ──────────────────────────────────────────────────────────────────────────────────
 
@@ -69,23 +68,6 @@ pub copy-starts : (l s : List ℕ) (at : ℕ) → sets l at s ≡ sets l (at + 0
 copy-starts l s at = rw (add-zero at)
 
 -- ── whether there is room ────────────────────────────────────────────────────────────────────
-
-module _ {A : Type 0} (w n : ℕ) (xs : List A) (l : List ℕ) (at : ℕ) where
-  pub too-few : length xs < n → false ≡ room w n xs l at
-  unfolding room
-  too-few h = rw (lt-leb n (length xs) h)
-
-  module _ {b : Bool} (k : n ≤ length xs) (e : b ≡ leb (at + n * w) (length l)) where
-    pub not-there : not b ≡ true → false ≡ room w n xs l at
-    unfolding room
-    not-there h = rw (le-leb n (length xs) k, ← e, not-true b h)
-
-    pub are-there : not b ≡ false → true ≡ room w n xs l at
-    unfolding room
-    are-there h = rw (le-leb n (length xs) k, ← e, not-false b h)
-
-pub in-range : {b : Bool} (w n at : ℕ) (l : List ℕ) → b ≡ leb (at + n * w) (length l) → not b ≡ false → at + n * w ≤ length l
-in-range {b} w n at l e h = leb-true (at + n * w) (length l) (sym e ∙ not-false b h)
 
 -- a number of things against a quotient
 module _ (len at n w : ℕ) where

@@ -2,7 +2,7 @@
 use mathlib.Core.Path.{_≡_, refl, sym, _∙_, subst}
 use mathlib.Core.Bool.{true, false}
 use mathlib.Core.Logic.{inl, inr}
-use mathlib.Core.List.{List, [], _∷_}
+use mathlib.Core.List.{List, [], _∷_, _++_}
 use mathlib.Core.Option.{Option, none, some}
 use Prim.Native.Nat.{ℕ, suc, _+_, _-_, _*_, _≤_, _<_}
 use native.Mathlib.Omega.{arith}
@@ -12,25 +12,27 @@ use lib.Seq.{getD-take, getD-drop}
 use borrow.Author.Tests.{ltb-true, ltb-false, leb-true, le-ltb}
 use Rattle.lists.specs.Lists.{all, any, distinct, upFrom, part, Each}
 use Rattle.lists.specs.Order.{sort}
-use Rattle.lists.proofs.Tests.{tested}
+use Rattle.lists.proofs.Tests.{tested, any-append}
+use Rattle.lists.proofs.Once.{or-is-false}
 use Rattle.lists.proofs.Each.{each-both, each-getD}
 use Rattle.lists.proofs.Flat.{length-upFrom, getD-upFrom}
-use Rattle.columns.specs.Limits.{kinds, end64}
+use Rattle.columns.specs.Limits.{kinds, maxNumbers, end64}
 use Rattle.columns.specs.Refusal.{accepted, unless, firstOf, firstIn, Lent, short, limits}
-use Rattle.columns.specs.EdgeSet.{forward, reverse, inbound, offsetsForm, setOf}
-use Rattle.columns.specs.Reading.{Labels, labelsIn, coverRules, setRules, granuleRules, granuleOf, readGranule}
+use Rattle.columns.specs.EdgeSet.{EdgeSet, forward, reverse, inbound, offsetsForm, setOf}
+use Rattle.columns.specs.Reading.{Labels, labelsIn, coverRules, setRules, setLengths, columnLengths, granuleRules, granuleOf, readBeside, readGranule}
 use Rattle.columns.specs.Questions.{listOf}
-use Rattle.columns.specs.Building.{Graph, Built, endOf, slotsIn, has, greater, recordCount, numbersOk, slotRules, labelsRules, inboundRules, allInboundRules, childrenTo, slotTable, naming, reverseLists, inboundLists, granuleStart, forwardPart, reversePart, inboundPart, buildRules, builtOf, graphRecords, graphLengths, build}
+use Rattle.columns.specs.Building.{Graph, Built, endOf, slotsIn, has, greater, recordCount, numbersOk, slotRules, labelsRules, inboundRules, allInboundRules, childrenTo, slotTable, naming, reverseLists, inboundLists, granuleStart, forwardPart, reversePart, inboundPart, buildRules, builtOf, graphRecords, graphLengths, buildBeside}
 use Rattle.columns.specs.declared.refusal.Refusal.{Refusal}
-use Rattle.columns.specs.declared.refusal.Refusal.the-variants.{EdgeEntries, NumberRange, InboundChild, InboundTwice, GranuleRows}
-use Rattle.columns.proofs.FirstBroken.{each-none, each-none-in, not-refused, passed}
+use Rattle.columns.specs.declared.refusal.Refusal.the-variants.{EdgeEntries, NumberRange, InboundChild, InboundTwice, GranuleRows, OverNumbers}
+use Rattle.columns.proofs.FirstBroken.{each-none, none-of, each-none-in, not-refused, passed, fails}
 use Rattle.columns.proofs.Offsets.{cut-length, form-length}
+use Rattle.columns.proofs.Checks.{kept-form}
 use Rattle.columns.proofs.ReadBack.{AllowedFrom, slots-set, set-rules}
 use Rattle.columns.proofs.Turned.{length-table, turned, turned-rising, inbound-edges, inbound-rising}
 use Rattle.columns_rules.proofs.records.RecordParts.{there}
 use Rattle.columns_rules.proofs.spans.GranuleTables.{part-table}
-use Rattle.columns_encode.specs.built.ReadsBack.{lentColumns, ReadsBack}
-use Rattle.columns_encode.proofs.built.BuiltLimits.{part-full, read-limits, own-labels, labels-back}
+use Rattle.columns_encode.specs.built.ReadsBack.{lentColumns, Roomy, ReadsBack}
+use Rattle.columns_encode.proofs.built.BuiltLimits.{part-full, few, built-within, read-limits, own-labels, labels-back}
 use Rattle.columns_encode.proofs.built.BuiltSides.{table-side, part-side, forward-side, reverse-side, inbound-side}
 
 unless-accepted : {A : Type 0} (o : Option Refusal) (x b : A) → unless o x ≡ accepted b → (o ≡ none) × (b ≡ x)
@@ -153,12 +155,26 @@ module _ (g : Graph) (room : List Lent) (small : limits (graphRecords g) (graphL
       (rw inbound-table (table-side inbound (granuleStart g) (endOf g) (λ number kind. sort (childrenTo number kind (g .inbound .children) (g .inbound .parents) (g .inbound .kindsGiven))) (g .granuleRows)
       (omega (arith, numbers, inside)) (λ p k l u j. inbound-side (endOf g) p k (g .inbound .children) (g .inbound .parents) (g .inbound .kindsGiven) children)))
 
+  -- ── room ─────────────────────────────────────────────────────────────────────────────────────
+
+  room-of : (set : ℕ) (s : EdgeSet) → setRules set (granuleStart g) (g .granuleRows) (endOf g) s ≡ none → length (s .deltas) ≤ maxNumbers → Roomy s
+  room-of set s k d = record {
+    offsets = omega (arith, form-length (g .granuleRows) (s .count) (s .offsets) (kept-form set (granuleStart g) (g .granuleRows) (endOf g) s k), few g room small form full inside, inside);
+    deltas = d;
+  }
+
+  rooms-back : Roomy (builtOf g .forward) × Roomy (builtOf g .reverse) × Roomy (builtOf g .inbound)
+  unfolding columnLengths setLengths builtOf
+  rooms-back =
+      let w = built-within g room small form full inside none refl in
+      (room-of forward (builtOf g .forward) forward-kept (w .1 .0), room-of reverse (builtOf g .reverse) reverse-kept (w .1 .1 .1 .0), room-of inbound (builtOf g .inbound) inbound-kept (w .1 .1 .1 .1 .1 .0))
+
   -- ── a reader ─────────────────────────────────────────────────────────────────────────────────
 
   read-back : (labels : Option Labels) (lent : List Lent) → coverRules (g .granuleRows) labels ≡ none → any short lent ≡ false
       → readGranule (granuleStart g) (g .granuleRows) (endOf g) (lentColumns (builtOf g) labels) lent
       ≡ accepted (record { forward = forwardPart g; reverse = reversePart g; inbound = inboundPart g; labels = labelsIn labels })
-  unfolding readGranule granuleRules granuleOf firstOf unless builtOf
+  unfolding readGranule readBeside granuleRules granuleOf firstOf unless builtOf
   read-back labels lent c s =
       rw (
         read-limits g room small form full inside labels lent c s,
@@ -183,6 +199,9 @@ module _ (g : Graph) (room : List Lent) (small : limits (graphRecords g) (graphL
   back : ReadsBack g (builtOf g)
   unfolding builtOf
   back = record {
+    forward-room = rooms-back .0;
+    reverse-room = rooms-back .1;
+    inbound-room = rooms-back .2;
     forward-kept = forward-kept;
     reverse-kept = reverse-kept;
     inbound-kept = inbound-kept;
@@ -198,9 +217,17 @@ module _ (g : Graph) (room : List Lent) (small : limits (graphRecords g) (graphL
     given-rising = λ k n h i. rw (inbound-list k n h (i .0) (i .1)) (inbound-rising (g .first) (g .rows) (g .inbound) k n once);
   }
 
+-- columns that are lent beside the graph's own loosen no limit
+fewer : (records idle columns : List ℕ) (lent : List Lent) → limits records (idle ++ columns) lent ≡ none → limits records columns lent ≡ none
+unfolding limits
+fewer records idle columns lent e =
+    let p = each-none _ e in
+    let f = or-is-false (any (ltb maxNumbers) idle) _ (sym (any-append (ltb maxNumbers) idle columns) ∙ not-refused OverNumbers _ (p .1 .0)) in
+    none-of _ (p .0, (fails OverNumbers _ (f .1), (p .1 .1 .0, tt)))
+
 -- what building accepts reads back, where the inbound children are numbers of 64 bits, as a lent column's are
-pub built-reads-back : (g : Graph) (lent : List Lent) (b : Built) → build g lent ≡ accepted b → Each (λ c. c < end64) (g .inbound .children) → ReadsBack g b
-unfolding build
-built-reads-back g lent b e wide =
-    let made = unless-accepted (firstOf (limits (graphRecords g) (graphLengths g) lent ∷ buildRules g ∷ [])) (builtOf g) b e in
-    subst (ReadsBack g) (sym (made .1)) (back g lent (each-none _ (made .0) .0) (each-none _ (made .0) .1 .0) wide)
+pub built-reads-back : (idle : List ℕ) (g : Graph) (lent : List Lent) (b : Built) → buildBeside idle g lent ≡ accepted b → Each (λ c. c < end64) (g .inbound .children) → ReadsBack g b
+unfolding buildBeside
+built-reads-back idle g lent b e wide =
+    let made = unless-accepted (firstOf (limits (graphRecords g) (idle ++ graphLengths g) lent ∷ buildRules g ∷ [])) (builtOf g) b e in
+    subst (ReadsBack g) (sym (made .1)) (back g lent (fewer (graphRecords g) idle (graphLengths g) lent (each-none _ (made .0) .0)) (each-none _ (made .0) .1 .0) wide)

@@ -65,7 +65,7 @@ part-full from n rows lists e h = simp (length-take, length-drop) (omega arith)
 
 module _ (g : Graph) (room : List Lent) (small : limits (graphRecords g) (graphLengths g) room ≡ none) (form : offsetsForm (g .rows) (length (g .targets)) (g .offsets) ≡ true)
     (full : length (slotsIn g) ≡ kinds * g .rows) (inside : g .granuleFirst + g .granuleRows ≤ g .rows) where
-  few : g .rows ≤ maxRecords
+  pub few : g .rows ≤ maxRecords
   unfolding graphRecords
   few = few-rows (g .rows) _ (graphLengths g) room small
 
@@ -82,7 +82,7 @@ module _ (g : Graph) (room : List Lent) (small : limits (graphRecords g) (graphL
   targets-few : length (joined (slotsIn g)) ≤ length (g .targets)
   targets-few = cut-fewer (length (g .targets)) (g .offsets) (g .targets) (form-climbs (g .rows) (length (g .targets)) (g .offsets) form)
 
-  built-within : (labels : Option Labels) → coverRules (g .granuleRows) labels ≡ none → Each (λ x. x ≤ maxNumbers) (columnLengths (lentColumns (builtOf g) labels))
+  pub built-within : (labels : Option Labels) → coverRules (g .granuleRows) labels ≡ none → Each (λ x. x ≤ maxNumbers) (columnLengths (lentColumns (builtOf g) labels))
   unfolding columnLengths builtOf forwardPart reversePart inboundPart graphLengths reverseLists inboundLists
   built-within labels c =
       let w = columns-within in

@@ -5,11 +5,12 @@ use mathlib.Core.Logic.{_↔_}
 use mathlib.Core.List.{List}
 use mathlib.Core.Option.{Option, none, some}
 use Prim.Native.Nat.{ℕ, _+_, _≤_, _<_}
+use lib.ListN.{length}
 use Rattle.lists.specs.Lists.{any, mem, part, Each}
 use Rattle.lists.specs.Order.{rising}
-use Rattle.columns.specs.Limits.{kinds, end32}
+use Rattle.columns.specs.Limits.{kinds, offsetsRoom, numbersRoom, end32}
 use Rattle.columns.specs.Refusal.{accepted, Lent, short}
-use Rattle.columns.specs.EdgeSet.{forward, reverse, inbound}
+use Rattle.columns.specs.EdgeSet.{EdgeSet, forward, reverse, inbound}
 use Rattle.columns.specs.Reading.{GranuleColumns, Labels, labelsIn, coverRules, setRules, slotsOf, readGranule}
 use Rattle.columns.specs.Questions.{listOf}
 use Rattle.columns.specs.Building.{Graph, Built, endOf, slotsIn, granuleStart, forwardPart, reversePart, inboundPart}
@@ -29,12 +30,21 @@ abbrev pub Labels32 : Option Labels → Type 0
 Labels32 none = Unit {0}
 Labels32 (some c) = Each (λ x. x < end32) (c .chains) × Each (λ x. x < end32) (c .seqs)
 
+-- a set whose columns have room in slices of the lengths that building is to be lent
+pub record Roomy (s : EdgeSet) : Type 0 where
+  pub offsets : length (s .offsets) ≤ offsetsRoom
+  pub deltas : length (s .deltas) ≤ numbersRoom
+
 -- a number of the granule
 abbrev pub InGranule : Graph → ℕ → Type 0
 InGranule g n = (granuleStart g ≤ n) × (n < granuleStart g + g .granuleRows)
 
 pub record ReadsBack (g : Graph) (b : Built) : Type 0 where
-  -- 17 to 19 refuse none of the three sets
+  -- what was lent had room for the three sets
+  pub forward-room : Roomy (b .forward)
+  pub reverse-room : Roomy (b .reverse)
+  pub inbound-room : Roomy (b .inbound)
+  -- 17 to 19 refuse none of them
   pub forward-kept : setRules forward (granuleStart g) (g .granuleRows) (endOf g) (b .forward) ≡ none
   pub reverse-kept : setRules reverse (granuleStart g) (g .granuleRows) (endOf g) (b .reverse) ≡ none
   pub inbound-kept : setRules inbound (granuleStart g) (g .granuleRows) (endOf g) (b .inbound) ≡ none

@@ -8,13 +8,13 @@ use Prim.Native.Nat.{ℕ, suc, _≤_, _+_, _-_}
 use native.Mathlib.Omega.{arith}
 use lib.Dec.{eqb, leb, ltb}
 use lib.IntN.{ℤ}
-use lib.ListN.{length, drop, length-append, length-map}
-use lib.Seq.{slice, sets, sets-eq, length-slice, take-at}
+use lib.ListN.{length, length-append, length-map}
+use lib.Seq.{slice, length-slice, take-at}
 use borrow.Author.Tests.{leb-true, eqb-true, ltb-true, ltb-false}
 use Rattle.lists.specs.Lists.{joined}
 use Rattle.lists.specs.Order.{climbsTo}
 use Rattle.lists.proofs.Tests.{both, tested}
-use Rattle.lists.proofs.Slices.{slice-behind, take-none}
+use Rattle.lists.proofs.Slices.{slice-behind}
 use Rattle.columns.specs.EdgeSet.{EdgeSet, cut, cutFrom, fromTo, eventOf, targetOf}
 use Rattle.columns.specs.Reading.{targetsFrom, slotsOf, setRules}
 use Rattle.columns.proofs.Offsets.{low-high, form-climbs}
@@ -58,14 +58,6 @@ module _ (first high : ℕ) (deltas : List ℤ) (fits : high ≤ length deltas) 
   unfolding climbsTo
   climb a b bs e = let p = both (leb a b) (climbsTo high b bs) e in (leb-true a b (p .0), p .1)
 
-  total : (s a : ℕ) (bs : List ℕ) → climbsTo high a bs ≡ true → a + length (joined (targetsFrom first s (cutFrom a bs deltas))) ≤ high
-  total s a [] e = let l = low-high high a [] e in rw (targets-none s a, joined-none) (omega arith)
-  total s a (b ∷ bs) e =
-      let c = climb a b bs e in
-      let k = low-high high b bs (c .1) in
-      let l = slot-long s a b k in
-      rw (targets-cons s a b bs, joined-cons, length-append) (omega (arith, total (suc s) b bs (c .1), l, c .0))
-
   same-lists : (s a : ℕ) (bs p r l : List ℕ) → climbsTo high a bs ≡ true → length p ≡ a → l ≡ p ++ (joined (targetsFrom first s (cutFrom a bs deltas)) ++ r)
       → cutFrom a bs l ≡ targetsFrom first s (cutFrom a bs deltas)
   same-lists s a [] p r l e h f = cut-none a l ∙ sym (targets-none s a)
@@ -91,26 +83,10 @@ module _ (first high : ℕ) (deltas : List ℤ) (fits : high ≤ length deltas) 
         go [] f g = absurd (false≢true f)
         go (o ∷ os) f g = let p = both (eqb o 0) (climbsTo high o os) f in let z : o ≡ 0 = eqb-true o 0 (p .0) in same-lists 0 o os [] r l (p .1) (sym z) g
 
-    all-total : length (joined (targetsFrom first 0 (cut offsets deltas))) ≤ high
-    unfolding cut fromTo
-    all-total = go offsets e
-      where
-        go : (os : List ℕ) → fromTo 0 high os ≡ true → length (joined (targetsFrom first 0 (cut os deltas))) ≤ high
-        go [] f = absurd (false≢true f)
-        go (o ∷ os) f = let p = both (eqb o 0) (climbsTo high o os) f in let t = total 0 o os (p .1) in omega arith
-
--- the targets of a set whose rules are kept, in a slice with room for as many as there are deltas
-pub stored : (set first rows end : ℕ) (s : EdgeSet) → setRules set first rows end s ≡ none → (l : List ℕ) → length (s .deltas) ≤ length l
-    → cut (s .offsets) (sets l 0 (joined (slotsOf first s))) ≡ slotsOf first s
+-- the targets of a set whose rules are kept, at the start of a column
+pub stored : (set first rows end : ℕ) (s : EdgeSet) → setRules set first rows end s ≡ none → (r : List ℕ) → cut (s .offsets) (joined (slotsOf first s) ++ r) ≡ slotsOf first s
 unfolding slotsOf
-stored set first rows end s k l h = elim (tested (ltb 0 (s .count))) [
-  | inl f ↦ go (length (s .deltas)) (omega arith) (kept-climbs set first rows end s k (ltb-true 0 (s .count) f))
-  | inr f ↦ go 0 (omega arith) (let z : s .count ≡ 0 = omega (arith, ltb-false 0 (s .count) f) in rw z at (form-climbs rows (s .count) (s .offsets) (kept-form set first rows end s k)))
+stored set first rows end s k r = elim (tested (ltb 0 (s .count))) [
+  | inl f ↦ all-same first (length (s .deltas)) (s .deltas) (omega arith) (s .offsets) (kept-climbs set first rows end s k (ltb-true 0 (s .count) f)) _ r refl
+  | inr f ↦ all-same first 0 (s .deltas) (omega arith) (s .offsets) (let z : s .count ≡ 0 = omega (arith, ltb-false 0 (s .count) f) in rw z at (form-climbs rows (s .count) (s .offsets) (kept-form set first rows end s k))) _ r refl
 ]
-  where
-    go : (high : ℕ) → high ≤ length (s .deltas) → fromTo 0 high (s .offsets) ≡ true → cut (s .offsets) (sets l 0 (joined (targetsFrom first 0 (cut (s .offsets) (s .deltas))))) ≡ targetsFrom first 0 (cut (s .offsets) (s .deltas))
-    go high fits e =
-        let ts = joined (targetsFrom first 0 (cut (s .offsets) (s .deltas))) in
-        let n : length ts ≤ high = all-total first high (s .deltas) fits (s .offsets) e in
-        let c : sets l 0 ts ≡ ts ++ drop (0 + length ts) l = sets-eq ts l 0 (omega (arith, n, fits, h)) ∙ ap (λ (m : List ℕ). (m ++ ts) ++ drop (0 + length ts) l) (take-none l) in
-        all-same first high (s .deltas) fits (s .offsets) e (sets l 0 ts) (drop (0 + length ts) l) c

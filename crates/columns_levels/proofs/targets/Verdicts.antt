@@ -1,28 +1,25 @@
 -- What the verdict of a reading says of the set, and the parents that its stored targets have.
 use mathlib.Core.Path.{_≡_, refl, sym, _∙_, ap, fun-ext}
-use mathlib.Core.Bool.{Bool, true, false, _||_}
-use mathlib.Core.List.{List, [], _∷_, _++_, append-nil}
+use mathlib.Core.List.{List, [], _∷_, _++_, append-assoc}
 use mathlib.Core.Option.{Option, none, some}
 use Prim.Native.Nat.{ℕ, _≤_, _<_}
 use native.Mathlib.Omega.{arith}
-use lib.Dec.{ltb}
 use lib.ListN.{length, take, drop}
-use lib.Seq.{sets, length-take-le, take-all}
-use borrow.Author.Tests.{ltb-false}
+use lib.Seq.{length-take-le}
 use Rattle.lists.specs.Lists.{any, joined}
 use Rattle.columns.specs.Refusal.{unless, firstOf, short, limits}
 use Rattle.columns.specs.EdgeSet.{EdgeSet, cut}
 use Rattle.columns.specs.Reading.{setRules, slotsOf, setLengths, decodeSet}
 use Rattle.columns.specs.Questions.{listOf}
-use Rattle.columns.specs.Answers.{kindOf, room, lentRules, inOne, countedOf, writtenOver}
+use Rattle.columns.specs.Answers.{kindOf, room, lentRules, ruling, inOne, countedOf, writtenOver}
 use Rattle.columns.specs.declared.kind.Kind.{Kind}
 use Rattle.columns.specs.declared.kind.Kind.the-variants.{Prev, Auth}
 use Rattle.columns.specs.declared.refusal.Refusal.{Refusal}
-use Rattle.columns.specs.declared.refusal.Refusal.the-variants.{SliceShort}
+use Rattle.columns.specs.declared.refusal.Ruling.the-variants.{Kept}
 use Rattle.columns.specs.declared.refusal.Counted.{Counted}
 use Rattle.columns.specs.declared.refusal.Counted.the-variants as counted
-use Rattle.columns.proofs.FirstBroken.{each-none, not-refused}
-use Rattle.columns.proofs.Checks.{few-numbers, few-deltas}
+use Rattle.columns.proofs.FirstBroken.{each-none}
+use Rattle.columns.proofs.Checks.{lent-room}
 use Rattle.columns_levels.specs.frontier.Frontier.{parentsIn}
 use Rattle.columns_levels.proofs.targets.Stored.{stored}
 
@@ -57,33 +54,18 @@ module _ (n first rows end : ℕ) (s : EdgeSet) (r : Counted) (e : r ≡ counted
 
 module _ (n first rows end : ℕ) (s : EdgeSet) (k : lentRules 0 first rows end s (room n) ≡ none) where
   pub whole : 4096 ≤ n
-  unfolding lentRules limits any short
-  whole = ltb-false n 4096 (go (ltb n 4096) (not-refused SliceShort _ (each-none _ (each-none _ k .0) .1 .1 .0)))
-    where
-      go : (b : Bool) → b || false ≡ false → b ≡ false
-      go true f = f
-      go false f = refl
-
-  few : length (s .deltas) ≤ 4096
-  unfolding lentRules
-  few = few-deltas s (few-numbers _ _ (room n) (each-none _ k .0))
+  whole = lent-room 0 first rows end s n Kept (ap ruling (sym k)) refl
 
   kept : setRules 0 first rows end s ≡ none
   unfolding lentRules
   kept = each-none _ k .1 .0
 
-  targets-are : (l : List ℕ) → writtenOver l (inOne (decodeSet 0 first rows end s (room n))) ≡ sets l 0 (joined (slotsOf first s))
+  pub parents-are : (l t : List ℕ) → t ≡ writtenOver (take n l) (inOne (decodeSet 0 first rows end s (room n))) ++ drop n l → cut (s .offsets) t ≡ slotsOf first s
   unfolding writtenOver inOne decodeSet lentRules unless
-  targets-are l = rw k
-
-  pub parents-are : (l t : List ℕ) → t ≡ writtenOver (take n l) (inOne (decodeSet 0 first rows end s (room n))) ++ drop n l → n ≤ 4096 → length l ≡ 4096
-      → cut (s .offsets) t ≡ slotsOf first s
-  parents-are l t e h j =
-      let a : take n l ≡ l = take-all n l (let w = whole in omega arith) in
-      let b : drop n l ≡ [] = lib.ListN.drop-of-length-le l {i = n} (let w = whole in omega arith) in
-      let d : writtenOver (take n l) (inOne (decodeSet 0 first rows end s (room n))) ++ drop n l ≡ writtenOver l (inOne (decodeSet 0 first rows end s (room n))) = rw (a, b) (append-nil (writtenOver l (inOne (decodeSet 0 first rows end s (room n))))) in
-      let c : t ≡ sets l 0 (joined (slotsOf first s)) = e ∙ d ∙ targets-are l in
-      rw c (stored 0 first rows end s kept l (omega (arith, few)))
+  parents-are l t e =
+      let ts = joined (slotsOf first s) in
+      let c : t ≡ (ts ++ drop (length ts) (take n l)) ++ drop n l = rw k at e in
+      rw (c, append-assoc ts (drop (length ts) (take n l)) (drop n l)) (stored 0 first rows end s kept (drop (length ts) (take n l) ++ drop n l))
 
 -- stored targets have the parents of the set
 pub parents-fun : (first kind : ℕ) (offsets t : List ℕ) (lists : List (List ℕ)) → cut offsets t ≡ lists → parentsIn first kind offsets t ≡ listOf first lists kind

@@ -1,4 +1,5 @@
 -- `columns_read::decode_granule_edges` meets its contract.
+use mathlib.Core.Path.{refl}
 use borrow.Author.Needs.{needs}
 use Rattle.columns_read.proofs.ThreeSets.{forward-readable, reverse-readable, inbound-readable, granule-counted, forward-written, reverse-written, inbound-written, granule-refused, granule-as-was}
 use Rattle.columns_read.proofs.decode_granule_edges.Statement.{statement}
@@ -18,8 +19,8 @@ returns c =
     let out = c .before .before .before .before .before .before .write-granule .ensures in (
       granule-counted _ _ _ _ _ _ _ _ _ _ _ rules _ _ _ tight kept _ (out .0),
       (
-        forward-written _ _ _ _ _ _ _ _ _ _ _ rules _ _ _ tight kept _ _ (out .1 .0),
-        (reverse-written _ _ _ _ _ _ _ _ _ _ _ rules _ _ _ tight kept _ _ (out .1 .1 .0), inbound-written _ _ _ _ _ _ _ _ _ _ _ rules _ _ _ tight kept _ _ (out .1 .1 .1)),
+        forward-written _ _ _ _ _ _ _ _ _ _ _ rules _ _ _ tight kept _ _ refl (out .1 .0),
+        (reverse-written _ _ _ _ _ _ _ _ _ _ _ rules _ _ _ tight kept _ _ refl (out .1 .1 .0), inbound-written _ _ _ _ _ _ _ _ _ _ _ rules _ _ _ tight kept _ _ refl (out .1 .1 .1)),
       ),
     )
 

@@ -1,6 +1,6 @@
 -- `columns_read::is_granule_over` meets its contract.
 use borrow.Author.Needs.{needs}
-use Rattle.columns_read.proofs.ThreeSets.{four-over, two-over, labels-over, none-over}
+use Rattle.columns_read.proofs.ThreeSets.{four-over, others-over}
 use Rattle.columns_read.proofs.is_granule_over.Statement.{statement}
 use Rattle.columns_read.proofs.is_granule_over.Tie as tie
 
@@ -8,15 +8,7 @@ returns : tie.Need-returns
 returns c = search four-over
 
 returns-2 : tie.Need-returns-2
-returns-2 c = search two-over
-
-returns-3 : tie.Need-returns-3
-returns-3 c = search labels-over
-
-returns-4 : tie.Need-returns-4
-returns-4 c = search none-over
+returns-2 c = search others-over
 
 pub is-granule-over-spec : {M : Type 1} → statement M
-is-granule-over-spec =
-    tie.close
-    (tie.spec (λ c κs. search needs) returns (λ c κs. search needs) returns-2 (λ c κs. search needs) returns-3 returns-4)
+is-granule-over-spec = tie.close (tie.spec (λ c κs. search needs) returns (λ c κs. search needs) returns-2)

@@ -1,12 +1,14 @@
 -- The new keys in order, cut to the limit, are the level.
 use mathlib.Core.Path.{_≡_, refl, sym, _∙_, ap}
 use mathlib.Core.List.{List}
-use Prim.Native.Nat.{ℕ, _+_}
+use Prim.Native.Nat.{ℕ, _+_, _≤_}
 use native.Mathlib.Omega.{arith}
 use lib.ListN.{length, take}
 use lib.Seq.{slice, sets, length-take-le}
 use Rattle.lists.specs.Order.{sort}
+use Rattle.lists.proofs.Slices.{sets-front}
 use Rattle.columns.specs.Walk.{level}
+use Rattle.columns.specs.Answers.{writtenIn}
 use Rattle.columns_levels.specs.frontier.Frontier.{copied, Laid}
 use Rattle.columns_walk.specs.level.Step.{unvisited, News}
 
@@ -16,9 +18,11 @@ module _ (buf buf′ new : List ℕ) (e : ℕ) (x : Laid 0 buf buf′ e new) whe
   pub laid-count : e ≡ length new
   laid-count = sym (ap length (sym (x .list)) ∙ length-take-le e buf′ (x .upto))
 
-  pub laid-out : (out out′ : List ℕ) → out′ ≡ copied out 0 (slice 0 (0 + e) buf′) → out′ ≡ sets out 0 new
+  pub laid-out : (out out′ : List ℕ) → out′ ≡ copied out 0 (slice 0 (0 + e) buf′) → length buf′ ≡ 4096 → 4096 ≤ length out → out′ ≡ writtenIn out new
   unfolding copied
-  laid-out out out′ q = let z : 0 + e ≡ e = omega arith in q ∙ ap (λ (j : ℕ). sets out 0 (slice 0 j buf′)) z ∙ ap (λ (j : List ℕ). sets out 0 j) (x .list)
+  laid-out out out′ q k h =
+      let z : 0 + e ≡ e = omega arith in
+      q ∙ ap (λ (j : ℕ). sets out 0 (slice 0 j buf′)) z ∙ ap (λ (j : List ℕ). sets out 0 j) (x .list) ∙ sets-front out new (omega (arith, laid-count, x .upto))
 
 -- ── hand ─────────────────────────────────────────────────────────────────────────────────────
 
@@ -33,5 +37,5 @@ module _ (p : ℕ → List ℕ) (limit n r : ℕ) (visited frontier keys : List 
   pub level-count : (e : ℕ) → e ≡ length (take limit (sort (slice n r keys))) → e ≡ length (level p limit visited frontier)
   level-count e q = q ∙ ap length level-keys
 
-  pub level-out : (out out′ : List ℕ) → out′ ≡ sets out 0 (take limit (sort (slice n r keys))) → out′ ≡ sets out 0 (level p limit visited frontier)
-  level-out out out′ q = q ∙ ap (λ (l : List ℕ). sets out 0 l) level-keys
+  pub level-out : (out out′ : List ℕ) → out′ ≡ writtenIn out (take limit (sort (slice n r keys))) → out′ ≡ writtenIn out (level p limit visited frontier)
+  level-out out out′ q = q ∙ ap (λ (l : List ℕ). writtenIn out l) level-keys

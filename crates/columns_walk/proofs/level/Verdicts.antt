@@ -8,7 +8,6 @@ use Prim.Native.Nat.{ℕ, _≤_, _<_, min}
 use native.Mathlib.Omega.{arith}
 use lib.Dec.{ltb}
 use lib.ListN.{length, take, drop}
-use lib.Seq.{sets}
 use borrow.Author.Tests.{lt-ltb, le-ltb, ltb-true, ltb-false}
 use Rattle.lists.specs.Lists.{any}
 use Rattle.lists.proofs.Tests.{tested, any-append}
@@ -19,7 +18,7 @@ use Rattle.columns.specs.EdgeSet.{EdgeSet}
 use Rattle.columns.specs.Reading.{setRules, slotsOf, setLengths, decodeSet}
 use Rattle.columns.specs.Questions.{listOf}
 use Rattle.columns.specs.Walk.{level}
-use Rattle.columns.specs.Answers.{room, limitsOf, lentRules, inOne, countedOf, writtenOver}
+use Rattle.columns.specs.Answers.{room, limitsOf, lentRules, inOne, countedOf, writtenIn, writtenOver}
 use Rattle.columns.specs.declared.refusal.Refusal.{Refusal}
 use Rattle.columns.specs.declared.refusal.Refusal.the-variants.{SliceShort, OverRecords, OverNumbers}
 use Rattle.columns.specs.declared.refusal.Counted.{Counted}
@@ -65,11 +64,11 @@ module _ (first rows end : ℕ) (s : EdgeSet) (kind limit : ℕ) (visited fronti
       pub room-out : 4096 ≤ a
       room-out = let w = whole n first rows end s all-kept in omega arith
 
-      module _ (l t : List ℕ) (g : t ≡ writtenOver (take n l) (inOne (decodeSet 0 first rows end s (room n))) ++ drop n l) (h : length l ≡ 4096) (slot : ℕ) (ks : slot ≡ kind) where
+      module _ (l t : List ℕ) (g : t ≡ writtenOver (take n l) (inOne (decodeSet 0 first rows end s (room n))) ++ drop n l) (slot : ℕ) (ks : slot ≡ kind) where
         same-level : level (parentsIn first slot (s .offsets) t) limit visited frontier ≡ level (listOf first (slotsOf first s) kind) limit visited frontier
         same-level =
             ap (λ (i : ℕ). level (parentsIn first i (s .offsets) t) limit visited frontier) ks
-            ∙ ap (λ (p : ℕ → List ℕ). level p limit visited frontier) (parents-fun first kind (s .offsets) t (slotsOf first s) (parents-are n first rows end s all-kept l t g (omega arith) h))
+            ∙ ap (λ (p : ℕ → List ℕ). level p limit visited frontier) (parents-fun first kind (s .offsets) t (slotsOf first s) (parents-are n first rows end s all-kept l t g))
 
         accepted-next : next first rows end s kind limit visited frontier (room a) ≡ accepted (level (parentsIn first slot (s .offsets) t) limit visited frontier)
         unfolding unless
@@ -79,7 +78,7 @@ module _ (first rows end : ℕ) (s : EdgeSet) (kind limit : ℕ) (visited fronti
         unfolding countedOf
         next-counted c q = rw (accepted-next, q)
 
-        pub next-written : (out out′ : List ℕ) → out′ ≡ sets out 0 (level (parentsIn first slot (s .offsets) t) limit visited frontier)
+        pub next-written : (out out′ : List ℕ) → out′ ≡ writtenIn out (level (parentsIn first slot (s .offsets) t) limit visited frontier)
             → out′ ≡ writtenOver out (next first rows end s kind limit visited frontier (room a))
         unfolding writtenOver
         next-written out out′ q = rw (accepted-next, q)

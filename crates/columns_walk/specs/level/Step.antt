@@ -1,5 +1,5 @@
 -- Document 01, `GraphWalk::next`: one level over one file's forward columns, from what was visited and the last level. A walk is this step
--- repeated (`repeated` in proofs/Repeated): each level goes behind what was visited, its length off the limit, until one is empty.
+-- repeated (`repeated` in proofs/level/Repeated): each level goes behind what was visited, its length off the limit, until one is empty.
 use mathlib.Core.Path.{_≡_}
 use mathlib.Core.Bool.{not}
 use mathlib.Core.List.{List, [], _∷_, _++_}

@@ -1,5 +1,5 @@
 -- `run_print::list_held` meets its contract.
-use Rattle.run_print.proofs.Chain.{unresolved, list-ready, line-of-refusal, all-listed}
+use Rattle.run_print.proofs.Chain.{unresolved, list-ready, then-listed}
 use borrow.Author.Needs.{needs}
 use Rattle.run_print.proofs.list_held.Statement.{statement}
 use Rattle.run_print.proofs.list_held.Tie as tie
@@ -11,13 +11,9 @@ returns : tie.Need-returns
 returns c = search unresolved
 
 returns-2 : tie.Need-returns-2
-returns-2 c = search line-of-refusal
-
-returns-3 : tie.Need-returns-3
-returns-3 c = search (needs, all-listed)
+returns-2 c = search then-listed
 
 pub list-held-spec : {M : Type 1} → statement M
 list-held-spec =
     tie.close
-    (tie.spec (λ c κs. search needs) (λ c. search needs) (λ c κs. search needs) (λ c. search needs) list-requires (λ c. search needs)
-    (λ c κs. search needs) (λ c. search needs) (λ c. search needs) returns (λ c. search needs) returns-2 (λ c. search needs) returns-3)
+    (tie.spec (λ c κs. search needs) (λ c. search needs) (λ c. search needs) list-requires returns (λ c. search needs) returns-2)

@@ -18,7 +18,7 @@ use Rattle.columns.proofs.Offsets.{low-high}
 use Rattle.archive.specs.File.{File}
 use Rattle.archive_read.specs.declared.files.Totals.{Totals}
 use Rattle.archive_read.specs.Sums.{totals}
-use Rattle.archive_read.specs.groups.Groups.{groupsOver}
+use Rattle.archive_groups.specs.Groups.{groupsOver}
 use Rattle.cleaning.specs.Held.{recordsOver, numbersOver}
 use Rattle.run_state.specs.declared.Edges.{Edges}
 use Rattle.run_state.specs.declared.Held.{Held}

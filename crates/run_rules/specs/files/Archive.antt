@@ -9,7 +9,7 @@ use Rattle.columns.specs.declared.refusal.Refusal.{Refusal}
 use Rattle.archive.specs.File.{File}
 use Rattle.archive.specs.Reader.{Parsed, broken, got}
 use Rattle.archive_read.specs.declared.files.Summed.{Summed}
-use Rattle.archive_read.specs.declared.files.Summed.the-variants.{Sums, Broken}
+use Rattle.archive_read.specs.declared.files.Summed.the-variants.{Sums, Refused}
 use Rattle.cleaning.specs.Source.{Source}
 use Rattle.cleaning.specs.Held.{ending}
 use Rattle.cleaning.specs.Taking.{filesRules}
@@ -23,7 +23,7 @@ rulesOf before (got fs end) = filesRules before fs
 
 -- an archive whose sums are within the limits that columns are loaded by
 abbrev pub Within : Summed → Type 0
-Within Broken = ⊥
+Within (Refused r) = ⊥
 Within (Sums t) =
     (t .events ≤ maxRecords) × (t .ranges ≤ maxRecords) × (t .links ≤ maxRecords) × (t .forward ≤ maxNumbers) × (t .reverse ≤ maxNumbers) × (t .inbound ≤ maxNumbers)
 

@@ -1,4 +1,4 @@
--- Document 01, 42 and 43: the figures of what a run holds and of an archive's files, added. proofs/Limits has that they are the definitions'.
+-- Document 01, 42 and 43: the figures of what a run holds and of an archive's files, added. proofs/limits/Limits has that they are the definitions'.
 use mathlib.Core.Bool.{Bool, _||_}
 use mathlib.Core.List.{[], _∷_}
 use mathlib.Core.Option.{Option}

@@ -3,11 +3,12 @@
 use archive_bytes::number_columns::fill_i64s;
 use archive_bytes::number_columns::fill_u64s;
 use columns::refusal::Ruling;
-use columns_read::sets::set_rules;
+use columns::set::Set;
+use columns_slots::sets::set_rules;
 ghost use mathlib.Core.Path.{_≡_};
 ghost use Prim.Native.Nat.{_+_, _*_, _≤_};
 ghost use lib.ListN.{length, take};
-ghost use Rattle.columns.specs.Answers.{ruling, columnsOf};
+ghost use Rattle.columns.specs.Answers.{setNumber, ruling, columnsOf};
 ghost use Rattle.columns.specs.Reading.{setRules};
 ghost use Rattle.archive_read.specs.bodies.View.{setEnd, setIn};
 ghost use Rattle.run_rules.specs.parts.Back.{setsRules, laterRules};
@@ -32,7 +33,7 @@ fn load_set(
 
 // The rules of the set of n deltas whose columns stand at the front of two arrays.
 fn loaded_rules(
-    set: u64,
+    set: Set,
     first: u64,
     rows: usize,
     end: u64,
@@ -42,7 +43,7 @@ fn loaded_rules(
 ) -> Ruling
     requires { ⌜ (rows ≤ 1024) × (n ≤ 4096) ⌝ }
     requires { ⌜ (length (now offsets) ≡ 2049) × (length (now deltas) ≡ 4096) ⌝ }
-    ensures { λ r. ⌜ r ≡ ruling (setRules set first rows end (columnsOf n (take (2 * rows + 1) (now (offsets .entry))) (take n (now (deltas .entry))))) ⌝ }
+    ensures { λ r. ⌜ r ≡ ruling (setRules (setNumber set) first rows end (columnsOf n (take (2 * rows + 1) (now (offsets .entry))) (take n (now (deltas .entry))))) ⌝ }
 {
     let k = 2 * rows + 1;
     set_rules(set, first, rows, end, n as u64, &offsets[..k], &deltas[..n])
@@ -51,7 +52,7 @@ fn loaded_rules(
 // The rules of the set of n deltas that starts at place p.
 fn rule_set(
     b: &[u8],
-    set: u64,
+    set: Set,
     first: u64,
     rows: usize,
     end: u64,
@@ -61,7 +62,7 @@ fn rule_set(
     deltas: &mut [i64; 4096],
 ) -> Ruling
     requires { ⌜ (rows ≤ 1024) × ((n ≤ 4096) × (setEnd rows p n ≤ length (now b))) ⌝ }
-    ensures { λ r. ⌜ r ≡ ruling (setRules set first rows end (setIn (now (b .entry)) rows p n)) ⌝ }
+    ensures { λ r. ⌜ r ≡ ruling (setRules (setNumber set) first rows end (setIn (now (b .entry)) rows p n)) ⌝ }
 {
     load_set(b, rows, p, n, offsets, deltas);
     loaded_rules(set, first, rows, end, n, offsets, deltas)
@@ -84,10 +85,10 @@ fn later_rules(
     requires { ⌜ (setEnd rows p n ≤ length (now b)) × (setEnd rows q m ≤ length (now b)) ⌝ }
     ensures { λ r. ⌜ r ≡ ruling (laterRules first rows end (setIn (now (b .entry)) rows p n) (setIn (now (b .entry)) rows q m)) ⌝ }
 {
-    let r = rule_set(b, 1, first, rows, end, p, n, offsets, deltas);
+    let r = rule_set(b, Set::Reverse, first, rows, end, p, n, offsets, deltas);
     match r {
         Ruling::Broken(x) => Ruling::Broken(x),
-        Ruling::Kept => rule_set(b, 2, first, rows, end, q, m, offsets, deltas),
+        Ruling::Kept => rule_set(b, Set::Inbound, first, rows, end, q, m, offsets, deltas),
     }
 }
 
@@ -109,7 +110,7 @@ pub fn sets_rules(
     requires { ⌜ (setEnd rows 0 k ≤ length (now b)) × ((setEnd rows p n ≤ length (now b)) × (setEnd rows q m ≤ length (now b))) ⌝ }
     ensures { λ r. ⌜ r ≡ ruling (setsRules first rows end (setIn (now (b .entry)) rows 0 k) (setIn (now (b .entry)) rows p n) (setIn (now (b .entry)) rows q m)) ⌝ }
 {
-    let r = rule_set(b, 0, first, rows, end, 0, k, offsets, deltas);
+    let r = rule_set(b, Set::Forward, first, rows, end, 0, k, offsets, deltas);
     match r {
         Ruling::Broken(x) => Ruling::Broken(x),
         Ruling::Kept => later_rules(b, first, rows, end, p, n, q, m, offsets, deltas),

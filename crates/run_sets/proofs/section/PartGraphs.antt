@@ -1,8 +1,8 @@
 -- What is lent of some rows is their graph, and it keeps building's limits.
-use mathlib.Core.Path.{_≡_, refl, sym, _∙_, ap, ap₂}
+use mathlib.Core.Path.{_≡_, sym, _∙_, ap, ap₂}
 use mathlib.Core.Bool.{Bool, true, false}
 use mathlib.Core.Logic.{inl, inr}
-use mathlib.Core.List.{List, [], _++_, map}
+use mathlib.Core.List.{List, [], _∷_, _++_, map}
 use Prim.Native.Nat.{ℕ, zero, suc, _+_, _-_, _*_, _≤_, _<_}
 use native.Mathlib.Omega.{arith}
 use lib.Dec.{ltb}
@@ -15,8 +15,8 @@ use Rattle.lists.proofs.Tests.{tested}
 use Rattle.lists.proofs.Flat.{length-starts}
 use Rattle.columns.specs.Limits.{maxNumbers}
 use Rattle.columns.specs.Refusal.{unless, firstOf, short, limits}
-use Rattle.columns.specs.Reading.{labelLengths}
-use Rattle.columns.specs.Building.{greater, recordCount, buildRules, builtOf, graphLengths, graphRecords, build}
+use Rattle.columns.specs.Reading.{labelLengths, idleLabels}
+use Rattle.columns.specs.Building.{greater, recordCount, buildRules, builtOf, graphLengths, graphRecords, buildBeside}
 use Rattle.columns.specs.EdgeSet.{offsetsForm, cut}
 use Rattle.columns.proofs.Offsets.{form-climbs, joined-cut, starts-cut}
 use Rattle.columns_rules.proofs.SlotTables.{table-of, length-cut}
@@ -25,7 +25,7 @@ use Rattle.columns_rules.specs.records.Recorded.{depthOf, labelsGiven}
 use Rattle.columns.specs.declared.depth.Depth as given
 use Rattle.columns_encode.specs.Encoded.{Rooms}
 use Rattle.columns_encode.specs.declared.kept.Encoded.{Encoded}
-use Rattle.columns_build.specs.Lent.{graphOf, slicesOf, Answers}
+use Rattle.columns_encode.specs.Lent.{graphOf, slicesOf, buildLent, Answers}
 use Rattle.cleaning.specs.Writing.{Edge, inboundColumns}
 use Rattle.cleaning.proofs.Offsets.{starts-part, joined-part}
 use Rattle.cleaning.proofs.Parts.{length-part}
@@ -85,10 +85,14 @@ greater-few : (a b : ℕ) → a ≤ 1024 → b ≤ 1024 → greater a b ≤ 1024
 unfolding greater
 greater-few a b h k = elim (tested (ltb a b)) [ inl e ↦ rw e k | inr e ↦ rw e h ]
 
-labels-few : (labelled : Bool) (chains seqs : List ℕ) → length chains ≤ 4096 → length seqs ≤ 4096 → any (ltb maxNumbers) (labelLengths (labelsGiven labelled chains seqs)) ≡ false
+-- the columns that are lent, label columns whether they are read or not
+columns-few : (o t c p k : ℕ) (labelled : Bool) (chains seqs : List ℕ) → o ≤ 4096 → t ≤ 4096 → c ≤ 4096 → p ≤ 4096 → k ≤ 4096 → length chains ≤ 4096 → length seqs ≤ 4096
+    → any (ltb maxNumbers) (idleLabels labelled chains seqs ++ (o ∷ t ∷ c ∷ p ∷ k ∷ labelLengths (labelsGiven labelled chains seqs))) ≡ false
 unfolding any
-labels-few false chains seqs h k = refl
-labels-few true chains seqs h k = rw (le-ltb 4096 (length chains) h, le-ltb 4096 (length seqs) k)
+columns-few o t c p k false chains seqs ho ht hc hp hk h j =
+    rw (le-ltb 4096 (length chains) h, le-ltb 4096 (length seqs) j, le-ltb 4096 o ho, le-ltb 4096 t ht, le-ltb 4096 c hc, le-ltb 4096 p hp, le-ltb 4096 k hk)
+columns-few o t c p k true chains seqs ho ht hc hp hk h j =
+    rw (le-ltb 4096 o ho, le-ltb 4096 t ht, le-ltb 4096 c hc, le-ltb 4096 p hp, le-ltb 4096 k hk, le-ltb 4096 (length chains) h, le-ltb 4096 (length seqs) j)
 
 slices-long : (fo fd ro rd io id : ℕ) → Rooms fo fd ro rd io id → any short (slicesOf fo fd ro rd io id) ≡ false
 unfolding any short
@@ -105,20 +109,15 @@ slices-long fo fd ro rd io id w =
 module _ (subject : List ℕ) (first n : ℕ) (offs ts cs ks fs : List ℕ) (depth : given.Depth) (labelled : Bool) (chains seqs ic ip ik : List ℕ) (fo fd ro rd io id : ℕ) where
   build-judged : n ≤ 1024 → Few (length cs) (length ks) (length fs) (length chains) (length seqs) → length offs ≤ 4096 → length ts ≤ 4096 → length ic ≤ 4096 → length ip ≤ 4096 → length ik ≤ 4096
       → Rooms fo fd ro rd io id
-      → build (graphOf subject first n offs ts cs ks fs depth labelled chains seqs ic ip ik 0 n) (slicesOf fo fd ro rd io id)
+      → buildLent subject first n offs ts cs ks fs depth labelled chains seqs ic ip ik 0 n (slicesOf fo fd ro rd io id)
       ≡ judged (graphOf subject first n offs ts cs ks fs depth labelled chains seqs ic ip ik 0 n)
-  unfolding build limits graphRecords graphLengths any firstOf judged
+  unfolding buildBeside limits graphRecords graphLengths any firstOf judged
   build-judged a w b c d e f g =
       let q = greater-few (length cs) (greater (length ks) (length fs)) (w .children-few) (greater-few (length ks) (length fs) (w .kinds-few) (w .flags-few)) in
       rw (
         le-ltb 1024 n a,
         le-ltb 1024 (recordCount cs ks fs) q,
-        le-ltb 4096 (length offs) b,
-        le-ltb 4096 (length ts) c,
-        le-ltb 4096 (length ic) d,
-        le-ltb 4096 (length ip) e,
-        le-ltb 4096 (length ik) f,
-        labels-few labelled chains seqs (w .chains-few) (w .seqs-few),
+        columns-few (length offs) (length ts) (length ic) (length ip) (length ik) labelled chains seqs b c d e f (w .chains-few) (w .seqs-few),
         slices-long fo fd ro rd io id g,
       )
       (ap (λ o. unless o (builtOf (graphOf subject first n offs ts cs ks fs depth labelled chains seqs ic ip ik 0 n)))
@@ -198,7 +197,7 @@ module _ (start total : ℕ) (offsets targets : List ℕ) (a n : ℕ) (h : a + n
 
       pub part-answers : (r : Encoded) (fo : List ℕ) (fd : List ℤ) (ro : List ℕ) (rd : List ℤ) (io : List ℕ) (id : List ℤ) (fo′ : List ℕ) (fd′ : List ℤ) (ro′ : List ℕ) (rd′ : List ℤ) (io′ : List ℕ) (id′ : List ℤ)
           → Rooms (length fo) (length fd) (length ro) (length rd) (length io) (length id)
-          → Answers (build (graphOf subject (start + a) n (take (2 * n + 1) offs) (take (hi - lo) (drop lo targets)) cs ks fs depth labelled chains seqs (take m ic) (take m ip) (take m ik) 0 n)
+          → Answers (buildLent subject (start + a) n (take (2 * n + 1) offs) (take (hi - lo) (drop lo targets)) cs ks fs depth labelled chains seqs (take m ic) (take m ip) (take m ik) 0 n
           (slicesOf (length fo) (length fd) (length ro) (length rd) (length io) (length id))) r fo fd ro rd io id fo′ fd′ ro′ rd′ io′ id′
           → Answers (judged (partGraph subject start total (cut offsets targets) (record { children = cs; kindsGiven = ks; flags = fs }) (depthOf depth) (labelsGiven labelled chains seqs) a n))
           r fo fd ro rd io id fo′ fd′ ro′ rd′ io′ id′

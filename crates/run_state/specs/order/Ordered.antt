@@ -1,5 +1,5 @@
 -- Columns in order, as tests that compute: the groups of rows and of links do not fall and are there, roots rise, the children of unresolved
--- records do not fall. With the tests of crate held they make a sheet tidy: proofs/TidySheets.
+-- records do not fall. With those of specs/Valid they make a sheet tidy: proofs/order/TidySheets.
 use mathlib.Core.Bool.{Bool, _&&_}
 use mathlib.Core.List.{List}
 use Prim.Native.Nat.{ℕ}

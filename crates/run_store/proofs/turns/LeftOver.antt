@@ -38,8 +38,8 @@ use Rattle.run_state.specs.Valid.{heldOk}
 use Rattle.run_state.specs.order.Long.{LongHeld}
 use Rattle.run_rules.specs.limits.Figures.{figures, manyRecords, manyNumbers}
 use Rattle.run_rules.proofs.limits.Limits.{records-same, numbers-same}
-use Rattle.archive_read.specs.groups.Groups.{groupsOver}
-use Rattle.archive_read.proofs.groups.Marked.{from-run}
+use Rattle.archive_groups.specs.Groups.{groupsOver}
+use Rattle.archive_groups.proofs.Marked.{from-run}
 use Rattle.run_store.specs.parts.Grown.{edgesWith, unresolvedWith, rootsWith, groupsNew, groupsJoined, groupsWith}
 use Rattle.run_store.specs.joined.Joined.{sheetMore, heldMore}
 use Rattle.run_store.proofs.joined.StaysOk.{links-count}

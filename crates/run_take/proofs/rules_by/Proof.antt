@@ -14,4 +14,4 @@ returns-2 : tie.Need-returns-2
 returns-2 c = search then-held
 
 pub rules-by-spec : {M : Type 1} → statement M
-rules-by-spec = tie.close (tie.spec (λ c κs. search needs) (λ c. search needs) (λ c. search needs) returns hold-rules-requires returns-2)
+rules-by-spec = tie.close (tie.spec (λ c κs. search needs) (λ c. search needs) (λ c. search needs) hold-rules-requires returns returns-2)

@@ -8,7 +8,7 @@ use lib.ListN.{length, take}
 use lib.Seq.{length-take-le}
 use Rattle.lists.specs.Text.{text}
 use Rattle.columns.specs.Limits.{maxRecords, maxNumbers, offsetsRoom}
-use Rattle.cleaning.specs.Listing.{decimal, signed, line, setLines}
+use Rattle.cleaning.specs.Lines.{decimal, signed, line, setLines}
 use Rattle.run_state.specs.declared.output.Set.{Set}
 use Rattle.run_state.specs.declared.output.Sets.{Sets}
 use Rattle.run_state.specs.output.View.{setIn, builtIn}
@@ -16,7 +16,8 @@ use Rattle.run_text.specs.numbers.Wrote.{Wrote}
 use Rattle.run_text.proofs.numbers.Joined.{then, renamed}
 use Rattle.run_text.proofs.lines.Lines.{ending, whole-line}
 use Rattle.run_text.specs.lines.Parts.{spaced, headText}
-use Rattle.run_text.specs.files.Files.{columnsOf, setSize, setsText, setsSize, fileText, fileSize, entries}
+use Rattle.cleaning.specs.Listed.{fileSize}
+use Rattle.run_text.specs.files.Files.{columnsOf, setSize, setsText, setsSize, fileText, entries}
 
 -- ── a set ────────────────────────────────────────────────────────────────────────────────────
 

@@ -11,7 +11,7 @@ use mir.Syntax.{w64}
 use mir.Val.{SFits, toZ, ofZ}
 use mir.ValLaws.{toZ-ofZ}
 use Rattle.lists.proofs.Slices.{sets-append}
-use Rattle.cleaning.specs.Listing.{signed}
+use Rattle.cleaning.specs.Lines.{signed}
 use Rattle.run_text.specs.numbers.Wrote.{Wrote}
 use Rattle.run_text.specs.lines.Parts.{spaced}
 

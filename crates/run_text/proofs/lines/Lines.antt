@@ -12,7 +12,7 @@ use mir.ValLaws.{toZ-ofZ}
 use Rattle.lists.specs.Text.{text}
 use Rattle.columns.specs.Refusal.{numberOf}
 use Rattle.columns.specs.declared.refusal.Refusal.{Refusal}
-use Rattle.cleaning.specs.Listing.{decimal, signed, line, refusedLine}
+use Rattle.cleaning.specs.Lines.{decimal, signed, line, refusedLine}
 use Rattle.run_text.specs.numbers.Wrote.{Wrote}
 use Rattle.run_text.proofs.numbers.Joined.{then, renamed}
 use Rattle.run_text.specs.lines.Parts.{spaced, newText, mapText, headText}

@@ -14,7 +14,7 @@ use mir.ValLaws.{toZ-ofZ}
 use borrow.Author.Tests.{lt-ltb, le-ltb, ltb-true, ltb-false}
 use Rattle.lists.proofs.Tests.{tested}
 use Rattle.archive_bytes.specs.Bytes.{unsignedOf}
-use Rattle.cleaning.specs.Listing.{digitsFrom, decimal, signed}
+use Rattle.cleaning.specs.Lines.{digitsFrom, decimal, signed}
 
 -- ── digits ───────────────────────────────────────────────────────────────────────────────────
 

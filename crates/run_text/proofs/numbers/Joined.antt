@@ -10,7 +10,7 @@ use mir.Syntax.{w64}
 use mir.Val.{Fits, SFits, toZ, ofZ}
 use Rattle.lists.proofs.Slices.{sets-append}
 use Rattle.archive_bytes.specs.Bytes.{unsignedOf}
-use Rattle.cleaning.specs.Listing.{decimal, signed}
+use Rattle.cleaning.specs.Lines.{decimal, signed}
 use Rattle.run_text.proofs.numbers.Decimals.{decimal-one, decimal-more, decimal-short, decimal-size, signed-plain, signed-minus}
 use Rattle.run_text.specs.numbers.Wrote.{Wrote}
 

@@ -7,8 +7,7 @@ use Rattle.lists.specs.Text.{text}
 use Rattle.columns.specs.Limits.{maxRecords, maxNumbers, maxGroups}
 use Rattle.columns.specs.EdgeSet.{EdgeSet}
 use Rattle.columns.specs.Building.{Built}
-use Rattle.archive.specs.File.{File}
-use Rattle.cleaning.specs.Listing.{setLines}
+use Rattle.cleaning.specs.Lines.{setLines}
 use Rattle.run_state.specs.declared.output.Sets.{Sets}
 use Rattle.run_text.specs.lines.Parts.{headText}
 
@@ -33,13 +32,6 @@ setSize name n m = 17 + 2 * name + 21 * (n + m)
 -- the three sets of a file, each by a name of 7 letters
 abbrev pub setsSize : ℕ → ℕ → ℕ
 setsSize rows deltas = 156 + 126 * rows + 21 * deltas
-
-abbrev pub fileSize : ℕ → ℕ → ℕ
-fileSize rows deltas = 224 + 126 * rows + 21 * deltas
-
--- the deltas of a file's three sets
-abbrev pub deltasOf : File → ℕ
-deltasOf f = length (f .forward .deltas) + (length (f .reverse .deltas) + length (f .inbound .deltas))
 
 -- all output files of a run
 abbrev pub filesRoom : ℕ

@@ -5,7 +5,7 @@ use mathlib.Core.Option.{none, some}
 use Prim.Native.Nat.{ℕ}
 use Rattle.lists.specs.Lists.{flat}
 use Rattle.lists.specs.Text.{text}
-use Rattle.cleaning.specs.Listing.{decimal, line, newWord}
+use Rattle.cleaning.specs.Lines.{decimal, line, newWord}
 
 -- each word after a space
 abbrev pub spaced : List (List ℕ) → List ℕ

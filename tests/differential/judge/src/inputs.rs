@@ -1,24 +1,36 @@
 //! Archives by number: each seed gives one, valid, next to an edge, or damaged.
 
 use crate::archive::{File, Row, Set};
-use crate::damage::damage;
+use crate::damage::{DAMAGES, damage};
 use crate::neighbours;
 use crate::random::Random;
 use crate::shapes::{self, Size};
 use crate::write;
 
-pub fn archive(seed: u64, size: Size) -> Vec<u8> {
+/// An archive, and the names of the changes and damages that made it another.
+pub struct Made {
+    pub bytes: Vec<u8>,
+    pub kinds: Vec<&'static str>,
+}
+
+pub fn archive(seed: u64, size: Size) -> Made {
     let mut random = Random::new(seed);
     let mut files = shapes::archive(&mut random, size);
+    let mut kinds = Vec::new();
     let fate = random.below(8);
     if fate >= 4 {
-        neighbours::change(&mut random, &mut files);
+        kinds.extend(neighbours::change(&mut random, &mut files));
     }
     let mut bytes = write::archive(&files);
     if fate == 7 {
-        damage(&mut random, &mut bytes);
+        kinds.extend(damage(&mut random, &mut bytes));
     }
-    bytes
+    Made { bytes, kinds }
+}
+
+/// Every name that an archive may have.
+pub fn kinds() -> Vec<&'static str> {
+    neighbours::CHANGES.map(|(name, _)| name).into_iter().chain(DAMAGES.map(|(name, _)| name)).collect()
 }
 
 /// How many archives of so many events there are with every choice of parents and erased events.

@@ -24,7 +24,7 @@ mod taking;
 mod vectors;
 mod write;
 
-use commands::{Done, archives, questions as asking};
+use commands::{Done, archives, kinds, questions as asking};
 use options::Options;
 use std::env;
 use std::process::ExitCode;
@@ -33,6 +33,8 @@ const USAGE: &str = "\
 differential vectors FOLDER                     compare the original with kept archives
 differential archives [--seed N] [--count N] [--seconds N] [--size small|middle|large]
                                                 check generated archives
+differential kinds [--seed N] [--count N] [--seconds N]
+                                                check that every kind of change, damage and refusal is made
 differential short [--events N]                 check every archive of N events (3)
 differential keep FOLDER [--seed N] [--count N] [--size S] [--bytes N] [--short all]
                                                 write generated archives with the original's answers;
@@ -68,6 +70,7 @@ fn command(mut words: impl Iterator<Item = String>) -> Done {
     match name.as_str() {
         "vectors" => archives::vectors(&words.next().ok_or("no folder")?),
         "archives" => archives::archives(&Options::read(words, &["seed", "count", "seconds", "size"])?),
+        "kinds" => kinds::kinds(&Options::read(words, &["seed", "count", "seconds"])?),
         "short" => archives::short(&Options::read(words, &["events"])?),
         "keep" => {
             let folder = words.next().ok_or("no folder")?;

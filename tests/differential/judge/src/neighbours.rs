@@ -32,9 +32,12 @@ pub const CHANGES: [(&str, Change); 20] = [
     ("new lists", new_lists),
 ];
 
-pub fn change(random: &mut Random, files: &mut Vec<File>) {
-    let (_, change) = random.of(&CHANGES);
+/// One change; its name, where it changed something.
+pub fn change(random: &mut Random, files: &mut Vec<File>) -> Option<&'static str> {
+    let (name, change) = random.of(&CHANGES);
+    let before = files.clone();
     change(random, files);
+    (*files != before).then_some(name)
 }
 
 fn any<'a>(random: &mut Random, files: &'a mut [File]) -> &'a mut File {

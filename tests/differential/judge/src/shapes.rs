@@ -17,6 +17,19 @@ pub enum Size {
     Large,
 }
 
+impl Size {
+    /// The size where none is asked for: mostly small.
+    pub fn by(seed: u64) -> Self {
+        if seed % 100 == 0 {
+            Self::Large
+        } else if seed % 4 == 0 {
+            Self::Middle
+        } else {
+            Self::Small
+        }
+    }
+}
+
 /// What a whole archive has in common.
 struct Style {
     start: u64,

@@ -1,6 +1,6 @@
 -- `run::listing::list` meets its contract.
 use Rattle.run.proofs.InTurn.{resolved-is}
-use Rattle.run.proofs.ListCall.{list-early, list-ready, list-now}
+use Rattle.run.proofs.Calls.{list-early, list-ready, list-now}
 use borrow.Author.Needs.{needs}
 use Rattle.run.proofs.listing.list.Statement.{statement}
 use Rattle.run.proofs.listing.list.Tie as tie

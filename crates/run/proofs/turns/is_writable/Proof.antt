@@ -1,5 +1,5 @@
 -- `run::turns::is_writable` meets its contract.
-use Rattle.run.proofs.InTurn.{not-sheet, sheet-counts, not-ordered, then-filled}
+use Rattle.run.proofs.InTurn.{not-sheet, no-group, sheet-counts, not-ordered, then-filled}
 use borrow.Author.Needs.{needs}
 use Rattle.run.proofs.turns.is_writable.Statement.{statement}
 use Rattle.run.proofs.turns.is_writable.Tie as tie
@@ -7,17 +7,20 @@ use Rattle.run.proofs.turns.is_writable.Tie as tie
 returns : tie.Need-returns
 returns c = search not-sheet
 
+returns-2 : tie.Need-returns-2
+returns-2 c = search no-group
+
 is-ordered-requires : tie.Need-is-ordered-requires
 is-ordered-requires c κs = search sheet-counts
 
-returns-2 : tie.Need-returns-2
-returns-2 c = search not-ordered
+returns-3 : tie.Need-returns-3
+returns-3 c = search not-ordered
 
 is-filled-requires : tie.Need-is-filled-requires
 is-filled-requires c κs = search sheet-counts
 
-returns-3 : tie.Need-returns-3
-returns-3 c = search then-filled
+returns-4 : tie.Need-returns-4
+returns-4 c = search then-filled
 
 pub is-writable-spec : {M : Type 1} → statement M
-is-writable-spec = tie.close (tie.spec (λ c κs. search needs) returns is-ordered-requires returns-2 is-filled-requires returns-3)
+is-writable-spec = tie.close (tie.spec (λ c κs. search needs) returns returns-2 is-ordered-requires returns-3 is-filled-requires returns-4)

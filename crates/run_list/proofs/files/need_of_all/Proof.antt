@@ -5,7 +5,7 @@ use Rattle.cleaning.specs.Sections.{sectionRules}
 use Rattle.run_state.specs.View.{sheetIn}
 use Rattle.run_write.proofs.Rest.{rulesFrom}
 use Rattle.run_write.proofs.Whole.{groups-few, all-rules}
-use Rattle.run_list.specs.Need.{filesNeed}
+use Rattle.cleaning.specs.Listed.{filesNeed}
 use Rattle.run_list.specs.Groups.{sectionFiles}
 use Rattle.run_list.proofs.OverGroups.{needFrom, all-need, turn-within, turn-rules, turn-need, turn-broken, need-known, need-refused}
 use borrow.Author.Needs.{needs}

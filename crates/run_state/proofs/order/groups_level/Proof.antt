@@ -4,7 +4,7 @@ use Prim.Native.Nat.{_-_, _≤_}
 use lib.ListN.{take}
 use lib.Seq.{slice}
 use Rattle.lists.specs.Order.{levelAbove, notFalling}
-use Rattle.run_state.proofs.order.Turns.{level-done, level-falls, level-on, level-start}
+use Rattle.archive_store.proofs.order.Turns.{level-done, level-falls, level-on, level-start}
 use borrow.Author.Needs.{needs}
 use Rattle.run_state.proofs.order.groups_level.Statement.{statement}
 use Rattle.run_state.proofs.order.groups_level.Tie as tie

@@ -3,7 +3,7 @@ use mathlib.Core.Path.{_≡_}
 use mathlib.Core.List.{map}
 use Prim.Native.Nat.{_+_, _-_, _*_, _≤_}
 use lib.ListN.{length, drop}
-use Rattle.cleaning.specs.Listing.{decimal}
+use Rattle.cleaning.specs.Lines.{decimal}
 use Rattle.run_text.specs.lines.Parts.{spaced}
 use Rattle.run_text.proofs.lines.Columns.{Going, begin, turn, ended}
 use borrow.Author.Needs.{needs}

@@ -53,8 +53,8 @@ pub fn archives(options: &Options) -> Done {
     let mut counts = BTreeMap::new();
     let size = options.size()?;
     for seed in options.seeds(10_000)? {
-        let size = size.unwrap_or(if seed % 100 == 0 { Size::Large } else if seed % 4 == 0 { Size::Middle } else { Size::Small });
-        let bytes = inputs::archive(seed, size);
+        let size = size.unwrap_or_else(|| Size::by(seed));
+        let bytes = inputs::archive(seed, size).bytes;
         if !passes(&bytes, &format!("seed {seed}, size {size:?}")) {
             return Ok(false);
         }
@@ -85,7 +85,11 @@ pub fn keep(folder: &str, options: &Options) -> Done {
     let mut kept = 0;
     for seed in options.seeds(40)? {
         let short = options.word("short").is_some();
-        let bytes = if short { inputs::short(EVENTS, Random::new(seed).below(inputs::shorts(EVENTS))) } else { inputs::archive(seed, size) };
+        let bytes = if short {
+            inputs::short(EVENTS, Random::new(seed).below(inputs::shorts(EVENTS)))
+        } else {
+            inputs::archive(seed, size).bytes
+        };
         if bytes.len() <= most {
             vectors::keep(Path::new(folder), &format!("seed-{seed:06}"), &bytes).map_err(|error| format!("{folder}: {error}"))?;
             kept += 1;

@@ -1,4 +1,4 @@
-//! Whole archives asked of the proved library (feature `archives`): its cleaned bytes and its listing beside those of the run over the
+//! Whole archives asked of the proved library (feature `port`): its cleaned bytes and its listing beside those of the run over the
 //! original, and twins, which differ only in what was erased and must be cleaned to the same bytes.
 
 use super::boundary::{Answer, ridgeoven_clean, ridgeoven_list};
@@ -6,7 +6,7 @@ use super::lent::Lent;
 use crate::cleaning;
 use crate::refusals::Number;
 
-/// No cleaned archive is longer, and a listing is made from so many bytes on.
+/// No cleaned archive is longer, and no listing needs more room.
 pub const CLEANED: usize = 196_448;
 const LISTED: usize = 437_792;
 

@@ -1,4 +1,4 @@
-//! The functions of the proved library's crates `ffi_columns`, `ffi_cover`, `ffi_archive`, `ffi_clean` and `ffi_run`. A slice is two
+//! The functions of the proved library's crates `ffi_columns`, `ffi_build`, `ffi_cover`, `ffi_archive`, `ffi_clean` and `ffi_run`. A slice is two
 //! parameters, its pointer and its length. Every function answers a record whose first part is a refusal's number, or 0; outputs are
 //! lent. The README beside the workspace says what each is given.
 

@@ -1,4 +1,4 @@
-//! A run of the proved library call by call (feature `archives`) beside a run over the original: the files of an archive taken in several
+//! A run of the proved library call by call (feature `port`) beside a run over the original: the files of an archive taken in several
 //! takings, calls out of turn and takings that are refused among them, then resolved, asked and written.
 
 use super::archives::CLEANED;

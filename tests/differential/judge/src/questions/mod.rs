@@ -9,6 +9,7 @@ mod short;
 
 use crate::cases::{Answer, Part};
 use crate::random::Random;
+use crate::refusals::Number;
 #[cfg(feature = "port")]
 pub use columns::OneFile;
 
@@ -16,6 +17,8 @@ pub struct Question {
     pub name: &'static str,
     /// N for a number, L for a list, in order.
     pub form: &'static str,
+    /// The refusals that its inputs reach.
+    pub refusals: &'static [Number],
     pub make: fn(&mut Random) -> Vec<Part>,
     /// All short inputs, where there is a list of them.
     pub short: fn() -> Vec<Vec<Part>>,
@@ -24,18 +27,53 @@ pub struct Question {
 }
 
 pub const ALL: [Question; 12] = [
-    Question { name: "build", form: "LNNLLLLLLNLLLLLNN", make: making::build, short: short::build, ask: columns::build },
-    Question { name: "read", form: "NNNNLLNLLNLLNLL", make: making::read, short: short::none, ask: columns::read },
-    Question { name: "parents", form: "NNNNLLNN", make: making::parents, short: short::parents, ask: columns::parents },
-    Question { name: "children", form: "NNNNLLNLLNN", make: making::children, short: short::children, ask: columns::children },
-    Question { name: "label", form: "NNLLN", make: making::label, short: short::none, ask: columns::label },
-    Question { name: "roots", form: "NNL", make: making::roots, short: short::none, ask: columns::roots },
-    Question { name: "walk", form: "NNNNLLNNN", make: making::walk, short: short::walk, ask: columns::walk },
-    Question { name: "cover", form: "LLLLLL", make: making::cover, short: short::cover, ask: cover::build },
-    Question { name: "stored", form: "LLLL", make: making::stored, short: short::none, ask: cover::stored },
-    Question { name: "decode", form: "LLLLLLL", make: making::decode, short: short::none, ask: cover::decode },
-    Question { name: "window", form: "LLLNNN", make: making::window, short: short::window, ask: cover::window },
-    Question { name: "links", form: "LLLLL", make: making::links, short: short::none, ask: cover::links },
+    Question {
+        name: "build",
+        form: "LNNLLLLLLNLLLLLNN",
+        refusals: &[1, 2, 3, 4, 5, 6, 7, 8, 9, 10, 11, 12, 13, 14, 15],
+        make: making::build,
+        short: short::build,
+        ask: columns::build,
+    },
+    Question {
+        name: "read",
+        form: "NNNNLLNLLNLLNLL",
+        refusals: &[17, 18, 19, 20, 21],
+        make: making::read,
+        short: short::none,
+        ask: columns::read,
+    },
+    Question {
+        name: "parents",
+        form: "NNNNLLNN",
+        refusals: &[17, 18, 19],
+        make: making::parents,
+        short: short::parents,
+        ask: columns::parents,
+    },
+    Question {
+        name: "children",
+        form: "NNNNLLNLLNN",
+        refusals: &[17, 18, 19],
+        make: making::children,
+        short: short::children,
+        ask: columns::children,
+    },
+    Question { name: "label", form: "NNLLN", refusals: &[20, 21], make: making::label, short: short::none, ask: columns::label },
+    Question { name: "roots", form: "NNL", refusals: &[16], make: making::roots, short: short::none, ask: columns::roots },
+    Question {
+        name: "walk",
+        form: "NNNNLLNNN",
+        refusals: &[17, 18, 19],
+        make: making::walk,
+        short: short::walk,
+        ask: columns::walk,
+    },
+    Question { name: "cover", form: "LLLLLL", refusals: &[], make: making::cover, short: short::cover, ask: cover::build },
+    Question { name: "stored", form: "LLLL", refusals: &[], make: making::stored, short: short::none, ask: cover::stored },
+    Question { name: "decode", form: "LLLLLLL", refusals: &[22], make: making::decode, short: short::none, ask: cover::decode },
+    Question { name: "window", form: "LLLNNN", refusals: &[22], make: making::window, short: short::window, ask: cover::window },
+    Question { name: "links", form: "LLLLL", refusals: &[22], make: making::links, short: short::none, ask: cover::links },
 ];
 
 pub fn named(name: &str) -> Option<&'static Question> {

@@ -1,0 +1,3 @@
+pub mod Short
+pub mod cursor
+pub mod number_columns

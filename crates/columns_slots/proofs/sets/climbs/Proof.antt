@@ -1,0 +1,30 @@
+-- `columns_slots::sets::climbs` meets its contract.
+use mathlib.Core.Path.{_≡_}
+use Prim.Native.Nat.{_-_}
+use lib.ListN.{length, drop}
+use borrow.Author.Needs.{needs}
+use Rattle.lists.specs.Order.{climbsTo}
+use Rattle.columns_slots.proofs.sets.Turns.{climb-done, climb-falls, climb-on}
+use Rattle.columns_slots.proofs.sets.climbs.Statement.{statement}
+use Rattle.columns_slots.proofs.sets.climbs.Tie as tie
+
+abbrev Inv-loop : tie.InvT-loop
+Inv-loop high offsets low₀ i₀ low i = climbsTo high 0 (drop 1 offsets) ≡ climbsTo high low (drop i offsets)
+
+abbrev μ-loop : tie.MeasureT-loop
+μ-loop high offsets low₀ i₀ low i = length offsets - i
+
+returns : tie.Need-returns Inv-loop μ-loop
+returns c = search climb-falls
+
+loop-again : tie.Need-loop-again Inv-loop μ-loop
+loop-again c = search climb-on
+
+returns-2 : tie.Need-returns-2 Inv-loop μ-loop
+returns-2 c = search climb-done
+
+pub climbs-spec : {M : Type 1} → statement M
+climbs-spec =
+    tie.close
+    (tie.spec Inv-loop μ-loop (λ c. search needs) (λ c. search needs) (λ c. search needs) returns (λ c. search needs) (λ c. search needs)
+    loop-again returns-2)
