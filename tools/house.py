@@ -6,8 +6,8 @@
 Doors: a function of one storey is called from another only if README's table of doors lists it; the boundary, the programs and the tries
 may also call every public function. Promises: a public function of README's table has an `ensures` and no `requires`, and as many must-fail
 edits as the table says; every exported function is in the table, and no function that can be called from outside a crate with public
-functions has a `requires`. Edits: the first line of each names a public function, a definition, or
-the function of a near miss, and the wrong answer that it rules out."""
+functions has a `requires`. Edits: the first line of each names a public function, a definition, or the function of a near miss, and the
+wrong answer that it rules out; the text that it changes stands in its file once."""
 import pathlib
 import re
 import sys
@@ -113,14 +113,31 @@ def defined(crate, rest):
     return any(re.search(rf"^ *(?:\w+ )*{re.escape(name)} (?:\(.*\) )?:", file.read_text(), re.M) or f"record {name} " in file.read_text() for file in files)
 
 
+def misplaced(edit):
+    """The old texts of an edit that do not stand in their files just once."""
+    crate, file, old, changed = edit.parents[1], None, None, {}
+    for line in edit.read_text().splitlines():
+        key, _, text = line.partition(": ")
+        if key == "file":
+            file = crate / text
+            changed.setdefault(file, file.read_text() if file.exists() else "")
+        elif key == "old":
+            old = text
+            if changed[file].count(old) != 1:
+                yield old
+        elif key == "new":
+            changed[file] = changed[file].replace(old, text)
+
+
 def edits(public):
-    """How many edits name each function, and what is wrong with an edit's first line."""
+    """How many edits name each function, and what is wrong with an edit's first line or its places."""
     count, wrong = {}, []
     for edit in sorted(CRATES.glob("*/must-fail/*.edit")):
         head = HEAD.match(edit.read_text())
         if not head:
             wrong.append(f"{edit.relative_to(ROOT)}: its first line is not '# `function`: the wrong answer'")
             continue
+        wrong += [f"{edit.relative_to(ROOT)}: stands not just once in its file: {text}" for text in misplaced(edit)]
         path = head[1] + head[2]
         count[path] = count.get(path, 0) + 1
         there = defined(head[1], head[2]) if head[2].startswith(".") else path in public or (head[3] and contract(path) is not None)
