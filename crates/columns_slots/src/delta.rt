@@ -1,10 +1,9 @@
 // A delta of an event and the target that it names, event minus delta, in numbers of 64 bits.
-use columns::set::Set;
 ghost use mathlib.Core.Path.{_≡_};
 ghost use mathlib.Core.Bool.{true};
 ghost use lib.IntN.{natAbs};
 ghost use Rattle.columns.specs.EdgeSet.{targetOf, allowed, sound};
-ghost use Rattle.columns.specs.Answers.{setNumber, named};
+ghost use Rattle.columns.specs.Answers.{named};
 
 // How far a delta reaches, whichever way.
 fn magnitude(delta: i64) -> u64
@@ -29,25 +28,25 @@ pub(crate) fn target(event: u64, delta: i64) -> u64
     event - far
 }
 
-// Whether a target lies on its set's side.
-fn is_allowed(set: Set, end: u64, event: u64, target: u64) -> bool
-    ensures { λ r. ⌜ r ≡ allowed (setNumber set) end event target ⌝ }
+// Whether a target lies on the side of a set, which is given by its number.
+fn is_allowed(set: u64, end: u64, event: u64, target: u64) -> bool
+    ensures { λ r. ⌜ r ≡ allowed set end event target ⌝ }
 {
-    match set {
-        Set::Forward => target < event,
-        Set::Reverse => {
-            if target <= event {
-                return false;
-            }
-            target < end
-        }
-        Set::Inbound => end <= target,
+    if set == 0 {
+        return target < event;
     }
+    if set == 1 {
+        if target <= event {
+            return false;
+        }
+        return target < end;
+    }
+    end <= target
 }
 
 // Whether a delta names a number on its set's side. A delta below 0 leads up, and may lead past the greatest number.
-pub(crate) fn is_sound(set: Set, end: u64, event: u64, delta: i64) -> bool
-    ensures { λ r. ⌜ r ≡ sound (setNumber set) end event delta ⌝ }
+pub(crate) fn is_sound(set: u64, end: u64, event: u64, delta: i64) -> bool
+    ensures { λ r. ⌜ r ≡ sound set end event delta ⌝ }
 {
     let far = magnitude(delta);
     if delta < 0 {

@@ -73,10 +73,10 @@ fn event(first: u64, slot: usize) -> u64
     first + row
 }
 
-// Whether each of an event's deltas from one place up to another is sound.
-fn all_sound(set: Set, end: u64, event: u64, deltas: &[i64], from: usize, to: usize) -> bool
+// Whether each of an event's deltas from one place up to another is sound. The set is given by its number, which costs less to hand on than the enum.
+fn all_sound(set: u64, end: u64, event: u64, deltas: &[i64], from: usize, to: usize) -> bool
     requires { ⌜ to ≤ length (now deltas) ⌝ }
-    ensures { λ r. ⌜ r ≡ all (sound (setNumber set) end event) (slice from to (now (deltas .entry))) ⌝ }
+    ensures { λ r. ⌜ r ≡ all (sound set end event) (slice from to (now (deltas .entry))) ⌝ }
 {
     let mut i = from;
     while i < to {
@@ -90,7 +90,7 @@ fn all_sound(set: Set, end: u64, event: u64, deltas: &[i64], from: usize, to: us
 
 // Whether a slot's row has a number and its deltas are sound.
 fn is_slot_sound(
-    set: Set,
+    set: u64,
     first: u64,
     end: u64,
     offsets: &[u64],
@@ -98,7 +98,7 @@ fn is_slot_sound(
     slot: usize,
 ) -> bool
     requires { ⌜ (slot + 1 < length (now offsets)) × (fromTo 0 (length (now deltas)) (now offsets) ≡ true) ⌝ }
-    ensures { λ r. ⌜ r ≡ (ltb (eventOf first slot) end64 && all (sound (setNumber set) end (eventOf first slot)) (getD (cut (now (offsets .entry)) (now (deltas .entry))) slot [])) ⌝ }
+    ensures { λ r. ⌜ r ≡ (ltb (eventOf first slot) end64 && all (sound set end (eventOf first slot)) (getD (cut (now (offsets .entry)) (now (deltas .entry))) slot [])) ⌝ }
 {
     if !has_event(first, slot) {
         return false;
@@ -110,7 +110,7 @@ fn is_slot_sound(
 
 // The same of a slot and the next one, which are of one row.
 fn is_row_sound(
-    set: Set,
+    set: u64,
     first: u64,
     end: u64,
     offsets: &[u64],
@@ -118,7 +118,7 @@ fn is_row_sound(
     slot: usize,
 ) -> bool
     requires { ⌜ (slot + 2 < length (now offsets)) × (fromTo 0 (length (now deltas)) (now offsets) ≡ true) ⌝ }
-    ensures { λ r. ⌜ r ≡ (ltb (eventOf first slot) end64 && all (sound (setNumber set) end (eventOf first slot)) (getD (cut (now (offsets .entry)) (now (deltas .entry))) slot [] ++ getD (cut (now (offsets .entry)) (now (deltas .entry))) (slot + 1) [])) ⌝ }
+    ensures { λ r. ⌜ r ≡ (ltb (eventOf first slot) end64 && all (sound set end (eventOf first slot)) (getD (cut (now (offsets .entry)) (now (deltas .entry))) slot [] ++ getD (cut (now (offsets .entry)) (now (deltas .entry))) (slot + 1) [])) ⌝ }
 {
     if !has_event(first, slot) {
         return false;
@@ -129,9 +129,9 @@ fn is_row_sound(
 }
 
 // The same of every slot: row by row, and of the slot that is left over.
-fn are_sound(set: Set, first: u64, end: u64, offsets: &[u64], deltas: &[i64]) -> bool
+fn are_sound(set: u64, first: u64, end: u64, offsets: &[u64], deltas: &[i64]) -> bool
     requires { ⌜ fromTo 0 (length (now deltas)) (now offsets) ≡ true ⌝ }
-    ensures { λ r. ⌜ r ≡ soundFrom (setNumber set) first end 0 (cut (now (offsets .entry)) (now (deltas .entry))) ⌝ }
+    ensures { λ r. ⌜ r ≡ soundFrom set first end 0 (cut (now (offsets .entry)) (now (deltas .entry))) ⌝ }
 {
     let mut slot = 0;
     while slot + 2 < offsets.len() {
@@ -144,6 +144,25 @@ fn are_sound(set: Set, first: u64, end: u64, offsets: &[u64], deltas: &[i64]) ->
         return is_slot_sound(set, first, end, offsets, deltas, slot);
     }
     true
+}
+
+// A set's number among the three.
+fn number_of(set: Set) -> u64
+    ensures { λ r. ⌜ r ≡ setNumber set ⌝ }
+{
+    match set {
+        Set::Forward => 0,
+        Set::Reverse => 1,
+        Set::Inbound => 2,
+    }
+}
+
+// The same of a set.
+fn is_set_sound(set: Set, first: u64, end: u64, offsets: &[u64], deltas: &[i64]) -> bool
+    requires { ⌜ fromTo 0 (length (now deltas)) (now offsets) ≡ true ⌝ }
+    ensures { λ r. ⌜ r ≡ soundFrom (setNumber set) first end 0 (cut (now (offsets .entry)) (now (deltas .entry))) ⌝ }
+{
+    are_sound(number_of(set), first, end, offsets, deltas)
 }
 
 // ── the rules of one set ──
@@ -169,7 +188,7 @@ pub fn set_rules(
     if deltas.len() as u64 != count {
         return Ruling::Broken(Refusal::DeltaCount);
     }
-    if !are_sound(set, first, end, offsets, deltas) {
+    if !is_set_sound(set, first, end, offsets, deltas) {
         return Ruling::Broken(Refusal::TargetSide);
     }
     Ruling::Kept

@@ -14,9 +14,7 @@ use mir.Facts.{fits-natAbs}
 use borrow.Author.Tests.{le-ltb, lt-ltb, le-leb, lt-leb, ltb-true, ltb-false, leb-true}
 use Rattle.lists.proofs.Tests.{same-test}
 use Rattle.columns.specs.EdgeSet.{isNumber, toNumber, targetOf, allowed, sound}
-use Rattle.columns.specs.Answers.{setNumber, named}
-use Rattle.columns.specs.declared.set.Set.{Set}
-use Rattle.columns.specs.declared.set.Set.the-variants.{Forward, Reverse, Inbound}
+use Rattle.columns.specs.Answers.{named}
 
 -- ── how far a delta reaches ──────────────────────────────────────────────────────────────────
 
@@ -171,20 +169,21 @@ module _ (event : ℕ) (d : ℤ) (far : ℕ) (f : Fits w64 event) (s : SFits w64
 
 -- ── the side of a set ────────────────────────────────────────────────────────────────────────
 
-module _ (set : Set) (end event target : ℕ) where
-  pub forward-side : set ≡ Forward → ltb target event ≡ allowed (setNumber set) end event target
+module _ (set end event target : ℕ) where
+  pub forward-side : set ≡ 0 → ltb target event ≡ allowed set end event target
   unfolding allowed
   forward-side e = rw e
 
-  module _ (e : set ≡ Reverse) where
-    pub reverse-low : target ≤ event → false ≡ allowed (setNumber set) end event target
-    unfolding allowed
-    reverse-low h = rw (e, le-ltb event target h)
-
-    pub reverse-side : event < target → ltb target end ≡ allowed (setNumber set) end event target
-    unfolding allowed
-    reverse-side h = rw (e, lt-ltb event target h)
-
-  pub inbound-side : set ≡ Inbound → leb end target ≡ allowed (setNumber set) end event target
+  pub reverse-low : set ≡ 1 → target ≤ event → false ≡ allowed set end event target
   unfolding allowed
-  inbound-side e = rw e
+  reverse-low e h = rw (e, le-ltb event target h)
+
+  pub reverse-side : set ≡ 1 → event < target → ltb target end ≡ allowed set end event target
+  unfolding allowed
+  reverse-side e h = rw (e, lt-ltb event target h)
+
+pub inbound-side : (set end event target : ℕ) → (set ≡ 0 → ⊥) → (set ≡ 1 → ⊥) → leb end target ≡ allowed set end event target
+unfolding allowed
+inbound-side zero end event target f g = absurd (f refl)
+inbound-side (suc zero) end event target f g = absurd (g refl)
+inbound-side (suc (suc set)) end event target f g = refl

@@ -1,5 +1,5 @@
 -- The turns of the loops that check offsets and deltas, and the tests between them, as laws of the definitions.
-use mathlib.Core.Path.{_≡_, refl, sym, _∙_}
+use mathlib.Core.Path.{_≡_, refl, sym, ap, _∙_}
 use mathlib.Core.Bool.{Bool, true, false, _&&_, not, and-true}
 use mathlib.Core.List.{List, [], _∷_}
 use Prim.Native.Nat.{ℕ, suc, _≤_, _<_, _+_, _-_, _*_, _/_, _%_, _^_}
@@ -194,3 +194,8 @@ module _ (rows : ℕ) (chains seqs : List ℕ) where
         pub labels-kept : not c ≡ false → Kept ≡ ruling (labelRules rows (labelColumns chains seqs))
         unfolding labelRules firstOf
         labels-kept q = rw (eq-eqb (length chains) rows h, eq-eqb (length seqs) rows k, sym e ∙ not-false b f, sym g ∙ not-false c q)
+
+-- a set by its number
+pub by-number : {r : Bool} {n k : ℕ} (first end : ℕ) (offsets : List ℕ) (deltas : List ℤ) → n ≡ k → r ≡ soundFrom n first end 0 (cut offsets deltas)
+    → r ≡ soundFrom k first end 0 (cut offsets deltas)
+by-number first end offsets deltas e f = f ∙ ap (λ m. soundFrom m first end 0 (cut offsets deltas)) e

@@ -1,14 +1,13 @@
 -- `columns_slots::delta::is_allowed` meets its contract.
-use borrow.Author.Needs.{needs}
 use Rattle.columns_slots.proofs.delta.Signs.{forward-side, reverse-low, reverse-side, inbound-side}
 use Rattle.columns_slots.proofs.delta.is_allowed.Statement.{statement}
 use Rattle.columns_slots.proofs.delta.is_allowed.Tie as tie
 
 returns : tie.Need-returns
-returns c = search reverse-low
+returns c = search forward-side
 
 returns-2 : tie.Need-returns-2
-returns-2 c = search forward-side
+returns-2 c = search reverse-low
 
 returns-3 : tie.Need-returns-3
 returns-3 c = search reverse-side
@@ -17,4 +16,4 @@ returns-4 : tie.Need-returns-4
 returns-4 c = search inbound-side
 
 pub is-allowed-spec : {M : Type 1} → statement M
-is-allowed-spec = tie.close (tie.spec (λ c. search needs) (λ c. search needs) returns (λ c. search needs) returns-2 returns-3 returns-4)
+is-allowed-spec = tie.close (tie.spec returns returns-2 returns-3 returns-4)

@@ -4,14 +4,13 @@ use Prim.Native.Nat.{_-_}
 use lib.Seq.{slice}
 use borrow.Author.Needs.{needs}
 use Rattle.lists.specs.Lists.{all}
-use Rattle.columns.specs.Answers.{setNumber}
 use Rattle.columns.specs.EdgeSet.{sound}
 use Rattle.columns_slots.proofs.sets.Turns.{sound-done, sound-stop, sound-on}
 use Rattle.columns_slots.proofs.sets.all_sound.Statement.{statement}
 use Rattle.columns_slots.proofs.sets.all_sound.Tie as tie
 
 abbrev Inv-loop : tie.InvT-loop
-Inv-loop set end event deltas from to i₀ i = all (sound (setNumber set) end event) (slice from to deltas) ≡ all (sound (setNumber set) end event) (slice i to deltas)
+Inv-loop set end event deltas from to i₀ i = all (sound set end event) (slice from to deltas) ≡ all (sound set end event) (slice i to deltas)
 
 abbrev μ-loop : tie.MeasureT-loop
 μ-loop set end event deltas from to i₀ i = to - i

@@ -13,8 +13,8 @@ returns-2 c = search no-edges
 returns-3 : tie.Need-returns-3
 returns-3 c = search bad-count
 
-are-sound-requires : tie.Need-are-sound-requires
-are-sound-requires c κs = search deltas-climb
+is-set-sound-requires : tie.Need-is-set-sound-requires
+is-set-sound-requires c κs = search deltas-climb
 
 returns-4 : tie.Need-returns-4
 returns-4 c = search bad-side
@@ -23,4 +23,4 @@ returns-5 : tie.Need-returns-5
 returns-5 c = search all-kept
 
 pub set-rules-spec : {M : Type 1} → statement M
-set-rules-spec = tie.close (tie.spec (λ c κs. search needs) returns returns-2 returns-3 are-sound-requires returns-4 returns-5)
+set-rules-spec = tie.close (tie.spec (λ c κs. search needs) returns returns-2 returns-3 is-set-sound-requires returns-4 returns-5)
