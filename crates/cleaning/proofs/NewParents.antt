@@ -1,6 +1,6 @@
 -- The lists that an accepted write's bytes hold are the ends of the survivors' routes.
-use mathlib.Core.Path.{_≡_, refl, ap, ap₂, sym, subst, _∙_}
-use mathlib.Core.Bool.{Bool, true, false, cond, _&&_, not}
+use mathlib.Core.Path.{_≡_, refl, ap, sym, subst, _∙_}
+use mathlib.Core.Bool.{Bool, true, false, cond, not}
 use mathlib.Core.List.{List, [], _∷_, _++_, map, append-nil, List·Memᴰ, List·Memᴰ·cases-cons, List·Memᴰ·not-nil}
 use mathlib.Core.Logic.{_⊎_, inl, inr}
 use mathlib.Core.Option.{Option, none, some}
@@ -31,11 +31,11 @@ use Rattle.cleaning.specs.Archive.{Taken, Archive, archiveOf, at, parent
 use Rattle.cleaning.specs.Routes.{Valid, ends}
 use Rattle.cleaning.specs.Cleaning.{rank, renumber, newParents, survivors}
 use Rattle.cleaning.specs.Memo.{tables}
-use Rattle.cleaning.specs.Summary.{Kept, Summary, keptBy, summary, tabled}
+use Rattle.cleaning.specs.Summary.{Summary, keptBy, summary, tabled}
 use Rattle.cleaning.specs.Resolving.{entries, groupsSurvive, resolveRules}
 use Rattle.cleaning.specs.Writing.{graphOf, outputs, groupNumbers, writeRules, bytesOf, written}
 use Rattle.cleaning.specs.Accepted.{spansFit}
-use Rattle.cleaning.specs.Step.{Call, takes, resolves, writes, maps, counts, lists, Bytes, allOf, refused, wrote, State, taking, resolved, spoiled, fresh, Outcome, takeMore, resolveBy, writeInto, resolve, step}
+use Rattle.cleaning.specs.Step.{Call, takes, resolves, writes, maps, counts, lists, Bytes, allOf, refused, wrote, State, taking, resolved, spoiled, fresh, takeMore, resolveBy, writeInto, resolve, step}
 use Rattle.cleaning.specs.History.{did, filesIn, archiveOfFiles, archiveOfBytes, history, took, bytesWritten, archiveIn, Wrote, cleaned}
 use Rattle.cleaning.specs.NewParents.{NewParents, Renewed, OfBytes, ParentsWritten}
 use Rattle.cleaning.proofs.Route.{ends-of}

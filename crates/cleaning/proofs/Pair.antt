@@ -1,19 +1,18 @@
 -- Two archives that differ in what is erased are alike, by computation.
 use mathlib.Core.Path.{_≡_, refl, ap}
 use mathlib.Core.List.{List, [], _∷_, List·Memᴰ·head}
-use mathlib.Core.Logic.{_⊎_, inl, inr}
+use mathlib.Core.Logic.{inl, inr}
 use Prim.Native.Nat.{ℕ, zero, suc, _<_}
 use native.Mathlib.Omega.{arith}
 use lib.ListN.{length}
 use Rattle.lists.specs.Lists.{Pairs, once}
 use Rattle.columns.specs.Limits.{kinds}
-use Rattle.archive.specs.Encode.{encode}
 use Rattle.cleaning.specs.Archive.{Archive}
 use Rattle.cleaning.specs.Routes.{ends}
 use Rattle.cleaning.specs.Computes.{computes}
 use Rattle.cleaning.specs.Step.{Call, takes, resolves, writes, maps, counts, lists, fresh}
 use Rattle.cleaning.specs.History.{history, archiveIn, Wrote}
-use Rattle.cleaning.specs.Alike.{SameEnd, SameSurvivor, Alike}
+use Rattle.cleaning.specs.Alike.{SameEnd, SameSurvivor}
 use Rattle.cleaning.specs.Listing.{cleaning, cleanedBytes}
 use Rattle.cleaning.specs.Worked.{workedFile}
 use Rattle.cleaning.specs.Pair.{otherFile, cleaningOf, PairMeets}

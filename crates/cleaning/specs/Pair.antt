@@ -3,11 +3,10 @@
 use mathlib.Core.Bool.{true, false}
 use mathlib.Core.List.{List, [], _∷_}
 use mathlib.Core.Path.{_≡_}
-use Prim.Native.Nat.{ℕ}
 use Rattle.archive.specs.File.{File}
 use Rattle.archive.specs.Encode.{encode}
 use Rattle.cleaning.specs.Step.{Call, takes, resolves, writes, Bytes, allOf, fresh}
-use Rattle.cleaning.specs.History.{Did, history, archiveIn, Wrote}
+use Rattle.cleaning.specs.History.{history, archiveIn, Wrote}
 use Rattle.cleaning.specs.Alike.{Alike}
 use Rattle.cleaning.specs.Worked.{event, plainFile, workedFile}
 use Rattle.cleaning.specs.Listing.{cleanedBytes}
