@@ -1,4 +1,4 @@
-//! An archive before and after its cleaning, side by side for people to look at.
+//! An archive before and after its cleaning, for people to look at.
 
 use crate::archive::{self, File};
 use crate::ending::Failure;
@@ -29,6 +29,21 @@ impl Cleaning {
         let new_sns = new_sns(&run, &before).map_err(refused)?;
         let reparented = run.reparented().map_err(refused)?;
         Ok(Self { before, after, bytes, new_sns, reparented })
+    }
+}
+
+/// How many files and events an archive has, and how many of these are gone and left after its cleaning.
+pub struct Counts {
+    pub files: usize,
+    pub events: usize,
+    pub erased: usize,
+    pub survivors: usize,
+}
+
+impl Counts {
+    pub fn of(before: &[File], after: &[File]) -> Self {
+        let (events, survivors) = (archive::events(before).count(), archive::events(after).count());
+        Self { files: before.len(), events, erased: events - survivors, survivors }
     }
 }
 

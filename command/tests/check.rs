@@ -8,6 +8,7 @@ use std::fs;
 use std::os::unix::ffi::OsStringExt;
 use std::os::unix::fs::symlink;
 use std::path::{Path, PathBuf};
+use std::process::{Command, Stdio};
 
 const ACCEPTED: &str = "accepted: files 1, events 4, erased 2, survivors 2";
 const WORDS: &str = "a record of the archive is broken: its length, version, kind, order, or something that it holds";
@@ -40,7 +41,7 @@ fn a_folder_is_searched() {
         format!("./inner/bad.archive: refused 23: {WORDS}\n"),
         format!("./linked.archive: {ACCEPTED}\n"),
         format!("./odd\\xff\\x0a.archive: {ACCEPTED}\n"),
-        "3 accepted, 1 refused, 1 not read; 2 others passed over\n".into(),
+        "3 accepted, 1 refused, 1 not read; 2 passed over\n".into(),
     ];
     assert_eq!(checked.text(), lines.concat());
 }
@@ -59,7 +60,7 @@ fn a_named_file_is_checked_whatever_its_name() {
 fn all_files_are_checked() {
     let checked = checked(&mixed("all"), &["--all", "."]);
     assert!(checked.text().contains("\n./note: refused 23: "));
-    assert!(checked.text().ends_with("\n3 accepted, 2 refused, 1 not read; 1 others passed over\n"));
+    assert!(checked.text().ends_with("\n3 accepted, 2 refused, 1 not read; 1 passed over\n"));
 }
 
 #[test]
@@ -90,4 +91,16 @@ fn check_archives_says_the_same() {
 #[test]
 fn an_empty_folder_is_no_failure() {
     ran(["check".as_ref(), folder("empty").as_os_str()]).prints("0 accepted, 0 refused, 0 not read\n");
+}
+
+/// The line that says how far the check has come is seen on a terminal alone; `script` is one that a test can read.
+#[test]
+fn progress_is_shown_on_a_terminal() {
+    let folder = mixed("progress");
+    let words = format!("'{}' check .", env!("CARGO_BIN_EXE_ridgeoven"));
+    match Command::new("script").args(["-qec", &words, "/dev/null"]).current_dir(&folder).stdin(Stdio::null()).output() {
+        Err(_) => eprintln!("progress: skipped, there is no script here"),
+        Ok(output) => assert!(String::from_utf8_lossy(&output.stdout).contains("\rchecking 2 of 5\x1b[K\r\x1b[K./good.archive: accepted")),
+    }
+    assert!(!checked(&folder, &["."]).text().contains("checking"));
 }

@@ -3,11 +3,13 @@
 mod common;
 
 use common::{BROKEN, CLEANED, Ran, WORKED, command, file, folder, names, ran, ran_with, with_empty_files};
+use std::ffi::{OsStr, OsString};
 use std::fs::{self, File, OpenOptions, Permissions};
 use std::io::Write;
 use std::os::unix::ffi::OsStringExt;
 use std::os::unix::fs::{FileTypeExt, PermissionsExt, symlink};
 use std::path::Path;
+use std::process::{Command, Stdio};
 
 fn clean(input: &Path, output: &Path) -> Ran {
     ran(["clean".as_ref(), input.as_os_str(), "-o".as_ref(), output.as_os_str()])
@@ -96,6 +98,22 @@ fn a_full_disk_is_3() {
     }
 }
 
+/// A disk that is full in the middle, as near as a test comes to it: no file may have more than no bytes.
+#[test]
+fn a_write_that_fails_leaves_what_was_there() {
+    let folder = folder("middle");
+    let (worked, output) = (file(&folder, "worked", WORKED), file(&folder, "output", b"of last month"));
+    let limited = |words: [&OsStr; 4]| {
+        let command = ["-c", "trap '' XFSZ; ulimit -f 0; exec \"$0\" \"$@\"", env!("CARGO_BIN_EXE_ridgeoven")];
+        Ran::of(Command::new("sh").args(command).args(words).output().unwrap())
+    };
+    limited(["clean".as_ref(), worked.as_ref(), "-o".as_ref(), output.as_ref()]).fails(3, "output: cannot be written: File too large");
+    limited(["clean".as_ref(), "--in-place".as_ref(), "--".as_ref(), worked.as_ref()])
+        .fails(3, "worked: cannot be written: File too large");
+    assert_eq!((fs::read(output).unwrap(), fs::read(worked).unwrap()), (b"of last month".to_vec(), WORKED.to_vec()));
+    assert_eq!(names(&folder), ["output", "worked"]);
+}
+
 #[test]
 fn an_output_that_cannot_be_made_is_3() {
     let folder = folder("unmade");
@@ -117,8 +135,14 @@ fn a_pipe_that_pauses_is_read_to_its_end() {
 }
 
 #[test]
+fn an_input_that_cannot_be_read_is_3() {
+    let output = command(["clean", "-"]).stdin(File::open("/").unwrap()).output();
+    Ran::of(output.unwrap()).fails(3, "standard input: cannot be read: Is a directory");
+}
+
+#[test]
 fn an_output_that_nobody_reads_ends_quietly() {
-    let mut child = command(["play"]).stdin(std::process::Stdio::piped()).spawn().unwrap();
+    let mut child = command(["play"]).stdin(Stdio::piped()).spawn().unwrap();
     drop(child.stdout.take());
     child.stdin.take().unwrap().write_all(b"resolve\n").unwrap();
     assert_eq!(Ran::of(child.wait_with_output().unwrap()), Ran { status: 3, out: Vec::new(), told: String::new() });
@@ -147,7 +171,7 @@ fn a_listing_reads_65536_bytes() {
 #[test]
 fn names_need_not_be_text() {
     let folder = folder("names");
-    let name = |name: &[u8]| std::ffi::OsString::from_vec(name.to_vec());
+    let name = |name: &[u8]| OsString::from_vec(name.to_vec());
     let (worked, output) = (file(&folder, name(b"worked\xff"), WORKED), folder.join(name(b"output\xfe\n")));
     clean(&worked, &output).prints("");
     assert_eq!(fs::read(&output).unwrap(), CLEANED);

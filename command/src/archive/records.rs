@@ -90,10 +90,10 @@ fn cover(body: &mut Cursor, file: &mut File) -> Option<()> {
     let count = body.count()?;
     let columns = [body.u32s(count)?, body.u32s(count)?, body.u32s(count)?, body.u32s(count)?];
     let mut from = 0u32;
-    let mut link = |at: usize| {
+    let link = |at: usize| {
         from = from.wrapping_add(columns[0][at]);
         [from, columns[1][at], columns[2][at], columns[3][at]]
     };
-    file.links = Some((0..count).map(&mut link).collect());
+    file.links = Some((0..count).map(link).collect());
     Some(())
 }

@@ -5,10 +5,10 @@ mod report;
 mod search;
 
 use super::Command;
-use crate::archive::{self, File};
 use crate::arguments::{Arguments, Flag};
+use crate::cleaning::{self, Counts};
 use crate::ending::{Failure, Status};
-use crate::{cleaning, input, output};
+use crate::{input, output};
 use progress::Progress;
 use report::Form;
 use ridgeoven::Refusal;
@@ -36,17 +36,9 @@ folders in them, for files named *.archive; a file that is named itself is check
     run,
 };
 
-/// What an accepted archive holds.
-struct Holding {
-    files: usize,
-    events: usize,
-    erased: usize,
-    survivors: usize,
-}
-
 /// What came of one archive.
 enum Outcome {
-    Accepted(Holding),
+    Accepted(Counts),
     Refused(Refusal),
     Unread(io::Error),
 }
@@ -88,7 +80,10 @@ fn run(arguments: &Arguments) -> Result<Status, Failure> {
     for found in search.found {
         progress.show();
         let (path, outcome) = match found {
-            Found::File(path) => (path.clone(), outcome(&path)?),
+            Found::File(path) => {
+                let outcome = outcome(&path)?;
+                (path, outcome)
+            }
             Found::Unread(path, error) => (path, Outcome::Unread(error)),
         };
         tally.count(&outcome);
@@ -101,8 +96,8 @@ fn run(arguments: &Arguments) -> Result<Status, Failure> {
 
 /// What is the matter with one archive is no failure of the check.
 fn outcome(path: &OsStr) -> Result<Outcome, Failure> {
-    match holding(path) {
-        Ok(holding) => Ok(Outcome::Accepted(holding)),
+    match counts(path) {
+        Ok(counts) => Ok(Outcome::Accepted(counts)),
         Err(Failure::Refused(_, refusal)) => Ok(Outcome::Refused(refusal)),
         Err(Failure::Unread(_, error)) => Ok(Outcome::Unread(error)),
         Err(failure) => Err(failure),
@@ -110,15 +105,9 @@ fn outcome(path: &OsStr) -> Result<Outcome, Failure> {
 }
 
 /// The library cleans the archive, and so says whether it is accepted; then both are counted.
-fn holding(path: &OsStr) -> Result<Holding, Failure> {
+fn counts(path: &OsStr) -> Result<Counts, Failure> {
     let name = input::name(path);
     let archive = input::read(path)?;
     let cleaned = ridgeoven::clean_to_vec(&archive).map_err(|refusal| Failure::Refused(name.clone(), refusal))?;
-    let (before, after) = (cleaning::files(&name, &archive)?, cleaning::files(&name, &cleaned)?);
-    let (events, survivors) = (count(&before), count(&after));
-    Ok(Holding { files: before.len(), events, erased: events - survivors, survivors })
-}
-
-fn count(files: &[File]) -> usize {
-    archive::events(files).count()
+    Ok(Counts::of(&cleaning::files(&name, &archive)?, &cleaning::files(&name, &cleaned)?))
 }

@@ -3,11 +3,12 @@
 use super::Command;
 use crate::arguments::{Arguments, Flag};
 use crate::ending::{Failure, Status};
-use crate::{input, output};
+use crate::{input, output, text};
 use std::ffi::OsStr;
 use std::fs::{self, File, Metadata};
 use std::io::{self, stdin, stdout};
 use std::os::fd::{AsFd, BorrowedFd};
+use std::os::unix::ffi::OsStrExt;
 use std::os::unix::fs::MetadataExt;
 use std::path::Path;
 
@@ -34,7 +35,9 @@ fn run(arguments: &Arguments) -> Result<Status, Failure> {
     let cleaned = ridgeoven::clean_to_vec(&archive).map_err(|refusal| Failure::Refused(input::name(from), refusal))?;
     match to {
         None => output::print(cleaned)?,
-        Some(path) => output::write_whole(path, &cleaned).map_err(|error| Failure::Unwritten(input::name(path.as_os_str()), error))?,
+        Some(path) => {
+            output::write_whole(path, &cleaned).map_err(|error| Failure::Unwritten(text::plain(path.as_os_str().as_bytes()), error))?
+        }
     }
     Ok(Status::Done)
 }
@@ -43,8 +46,9 @@ fn run(arguments: &Arguments) -> Result<Status, Failure> {
 fn target<'a>(arguments: &'a Arguments, from: &'a OsStr) -> Result<Option<&'a Path>, Failure> {
     let to = arguments.value("--output").filter(|to| *to != "-");
     if arguments.has("--in-place") {
-        return match (from == "-", arguments.has("--output")) {
-            (true, _) => Err(Failure::Usage("--in-place wants a file, and standard input is none".into())),
+        let is_no_file = from == "-" || fs::metadata(from).is_ok_and(|there| !there.is_file());
+        return match (is_no_file, arguments.has("--output")) {
+            (true, _) => Err(Failure::Usage(format!("--in-place wants a file, and {} is none", input::name(from)))),
             (_, true) => Err(Failure::Usage("either -o or --in-place, not both".into())),
             _ => Ok(Some(Path::new(from))),
         };

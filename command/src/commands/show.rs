@@ -6,7 +6,7 @@ mod table;
 use super::Command;
 use crate::archive::{self, Event, File, KINDS};
 use crate::arguments::{Arguments, Flag};
-use crate::cleaning::Cleaning;
+use crate::cleaning::{Cleaning, Counts};
 use crate::ending::{Failure, Status};
 use crate::text::plain;
 use crate::{input, output};
@@ -45,7 +45,7 @@ fn run(arguments: &Arguments) -> Result<Status, Failure> {
 
 fn side_by_side(cleaning: &Cleaning) -> String {
     let rows = cleaning.before.iter().flat_map(rows_before).collect();
-    let before = table("before", &["event", "", KINDS[0], KINDS[1]], rows);
+    let before = table("before", &[&["event", ""], &KINDS[..]].concat(), rows);
     title(cleaning) + &beside(&[before, after(rows_beside(cleaning))])
 }
 
@@ -54,14 +54,13 @@ fn cleaned(cleaning: &Cleaning) -> String {
 }
 
 fn after(rows: Vec<Row>) -> Table {
-    table("after", &["event", KINDS[0], KINDS[1]], rows)
+    table("after", &[&["event"], &KINDS[..]].concat(), rows)
 }
 
 fn title(cleaning: &Cleaning) -> String {
     let subject = cleaning.before.first().map(|file| plain(&file.subject)).unwrap_or_default();
-    let (events, survivors) = (archive::events(&cleaning.before).count(), archive::events(&cleaning.after).count());
-    let (erased, reparented) = (events - survivors, cleaning.reparented);
-    format!("room {subject}: events {events}, erased {erased}, survivors {survivors}, reparented {reparented}\n\n")
+    let Counts { events, erased, survivors, .. } = Counts::of(&cleaning.before, &cleaning.after);
+    format!("room {subject}: events {events}, erased {erased}, survivors {survivors}, reparented {}\n\n", cleaning.reparented)
 }
 
 fn rows_before(file: &File) -> Vec<Row> {

@@ -1,6 +1,7 @@
 //! What is printed of each archive, and at the end.
 
-use super::{Holding, Outcome, Tally};
+use super::{Outcome, Tally};
+use crate::cleaning::Counts;
 use crate::input;
 use crate::text::{hex, plain, quoted};
 use std::ffi::OsStr;
@@ -23,7 +24,7 @@ impl Form {
         let Tally { accepted, refused, unread, passed_over } = tally;
         match self {
             Self::Text => {
-                let others = if *passed_over == 0 { String::new() } else { format!("; {passed_over} others passed over") };
+                let others = if *passed_over == 0 { String::new() } else { format!("; {passed_over} passed over") };
                 format!("{accepted} accepted, {refused} refused, {unread} not read{others}\n")
             }
             Self::Json => {
@@ -35,8 +36,8 @@ impl Form {
 
 fn text(outcome: &Outcome) -> String {
     match outcome {
-        Outcome::Accepted(holding) => {
-            let Holding { files, events, erased, survivors } = holding;
+        Outcome::Accepted(counts) => {
+            let Counts { files, events, erased, survivors } = counts;
             format!("accepted: files {files}, events {events}, erased {erased}, survivors {survivors}")
         }
         Outcome::Refused(refusal) => refusal.to_string(),
@@ -55,8 +56,8 @@ fn name(path: &OsStr) -> String {
 
 fn members(outcome: &Outcome) -> String {
     match outcome {
-        Outcome::Accepted(holding) => {
-            let Holding { files, events, erased, survivors } = holding;
+        Outcome::Accepted(counts) => {
+            let Counts { files, events, erased, survivors } = counts;
             format!("\"result\": \"accepted\", \"files\": {files}, \"events\": {events}, \"erased\": {erased}, \"survivors\": {survivors}")
         }
         Outcome::Refused(refusal) => {

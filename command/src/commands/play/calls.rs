@@ -28,6 +28,7 @@ pub fn answer(run: &mut Run, line: &str) -> Result<String, String> {
     let word = words.next().unwrap_or_default();
     let call = CALLS.iter().find(|call| call.word == word).ok_or_else(|| format!("there is no call {}", text::plain(word.as_bytes())))?;
     let mut words: Vec<_> = words.collect();
+    // An archive of no bytes has no digits.
     if call.arguments == ["HEX"] && words.is_empty() {
         words.push("");
     }
