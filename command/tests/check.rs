@@ -2,7 +2,7 @@
 
 mod common;
 
-use common::{Ran, WORKED, command, file, folder, ran, repository};
+use common::{Ran, WORKED, command, file, folder, ran, repository, skipped};
 use std::ffi::OsString;
 use std::fs;
 use std::os::unix::ffi::OsStringExt;
@@ -99,7 +99,7 @@ fn progress_is_shown_on_a_terminal() {
     let folder = mixed("progress");
     let words = format!("'{}' check .", env!("CARGO_BIN_EXE_ridgeoven"));
     match Command::new("script").args(["-qec", &words, "/dev/null"]).current_dir(&folder).stdin(Stdio::null()).output() {
-        Err(_) => eprintln!("progress: skipped, there is no script here"),
+        Err(_) => skipped("there is no `script` to show progress on"),
         Ok(output) => assert!(String::from_utf8_lossy(&output.stdout).contains("\rchecking 2 of 5\x1b[K\r\x1b[K./good.archive: accepted")),
     }
     assert!(!checked(&folder, &["."]).text().contains("checking"));

@@ -2,7 +2,7 @@
 
 mod common;
 
-use common::{ran, repository};
+use common::{ran, repository, skipped};
 use std::fs;
 use std::path::{Path, PathBuf};
 
@@ -18,7 +18,7 @@ fn vectors() -> Option<PathBuf> {
     if vectors.is_dir() {
         return Some(vectors);
     }
-    eprintln!("vectors: skipped, there are none at {}", vectors.display());
+    skipped(&format!("there are no vectors at {}", vectors.display()));
     None
 }
 

@@ -3,7 +3,7 @@
 
 use std::ffi::OsStr;
 use std::fs;
-use std::io::Write;
+use std::io::{self, Write};
 use std::path::{Path, PathBuf};
 use std::process::{Command, Output, Stdio};
 
@@ -72,6 +72,11 @@ pub fn ran_with<S: AsRef<OsStr>>(words: impl IntoIterator<Item = S>, parts: &[&[
     Ran::of(child.wait_with_output().expect("it ends"))
 }
 
+/// Says that something is not tested here. What a test prints is kept back if it passes, but not what it writes to standard error itself.
+pub fn skipped(words: &str) {
+    let _ = writeln!(io::stderr(), "skipped: {words}");
+}
+
 /// A folder of a test's own, empty at first.
 pub fn folder(name: &str) -> PathBuf {
     let folder = Path::new(env!("CARGO_TARGET_TMPDIR")).join(name);
@@ -89,7 +94,7 @@ pub fn file(folder: &Path, name: impl AsRef<OsStr>, bytes: &[u8]) -> PathBuf {
 
 /// The names in a folder.
 pub fn names(folder: &Path) -> Vec<String> {
-    let entry = |entry: std::io::Result<fs::DirEntry>| entry.expect("an entry").file_name().to_string_lossy().into_owned();
+    let entry = |entry: io::Result<fs::DirEntry>| entry.expect("an entry").file_name().to_string_lossy().into_owned();
     let mut names: Vec<_> = fs::read_dir(folder).expect("the folder is there").map(entry).collect();
     names.sort();
     names
