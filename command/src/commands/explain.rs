@@ -30,7 +30,7 @@ fn run(arguments: &Arguments) -> Result<Status, Failure> {
     let word = &arguments.operands[0];
     let number = word.to_str().and_then(|word| word.parse().ok());
     let condition = CONDITIONS.iter().find(|condition| Some(condition.number) == number);
-    let unknown = || Failure::Usage(format!("{} is no refusal's number; they are 1 to 27 and 40 to 43", text::plain(word.as_bytes())));
+    let unknown = || Failure::Usage(format!("{} is no refusal's number; explain --help says which are", text::plain(word.as_bytes())));
     let condition = condition.ok_or_else(unknown)?;
     let text: Vec<_> = condition.text.split_whitespace().map(String::from).collect();
     let text = text::wrapped(&text, WIDTH).join("\n");
