@@ -2,12 +2,12 @@
 
 mod common;
 
-use common::{BROKEN, CLEANED, Ran, WORKED, command, file, folder, names, ran, ran_with, with_empty_files};
+use common::{BROKEN, CLEANED, Ran, WORKED, command, file, folder, names, ran, ran_with, skipped, with_empty_files};
 use std::ffi::{OsStr, OsString};
 use std::fs::{self, File, OpenOptions, Permissions};
 use std::io::Write;
 use std::os::unix::ffi::OsStringExt;
-use std::os::unix::fs::{FileTypeExt, PermissionsExt, symlink};
+use std::os::unix::fs::{FileTypeExt, MetadataExt, PermissionsExt, chown, symlink};
 use std::path::Path;
 use std::process::{Command, Stdio};
 
@@ -42,6 +42,19 @@ fn an_output_that_exists_is_replaced_or_stays() {
     assert_eq!(fs::read(&output).unwrap(), CLEANED);
     assert_eq!(fs::metadata(&output).unwrap().permissions().mode() & 0o777, 0o600);
     assert_eq!(names(&folder), ["output", "short", "worked"]);
+}
+
+/// Who may give files away does so: the new file has the owner of the one that it replaces.
+#[test]
+fn an_output_that_exists_keeps_its_owner() {
+    let folder = folder("owner");
+    let (worked, output) = (file(&folder, "worked", WORKED), file(&folder, "output", b"of last month"));
+    if chown(&output, Some(4321), Some(1234)).is_err() {
+        return skipped("only root may give files away");
+    }
+    clean(&worked, &output).prints("");
+    let there = fs::metadata(&output).unwrap();
+    assert_eq!((there.uid(), there.gid(), there.len()), (4321, 1234, CLEANED.len() as u64));
 }
 
 #[test]

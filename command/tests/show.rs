@@ -1,10 +1,10 @@
-//! What people look at: rooms, differences and refusals.
+//! What people look at: rooms and refusals.
 
 mod common;
 
-use common::{CLEANED, WORKED, file, folder, ran, repository};
+use common::{ran, repository};
 use ridgeoven::Refusal;
-use std::path::{Path, PathBuf};
+use std::path::Path;
 
 fn show(archive: &Path, words: &[&str]) -> String {
     let shown = ran([&["show", archive.to_str().unwrap()], words].concat());
@@ -27,69 +27,6 @@ fn a_room_of_groups() {
     let groups = repository("tests/programs/archives/mixed-00013-valid.archive");
     assert_eq!(show(&groups, &[]), include_str!("known/groups.show"));
     assert_eq!(show(&groups, &["--dot"]), include_str!("known/groups.dot"));
-}
-
-/// The worked archive with other bytes in the body of its record of a kind.
-fn changed(kind: u8, at: usize, bytes: &[u8]) -> Vec<u8> {
-    let mut archive = WORKED.to_vec();
-    let mut record = 0;
-    while archive[record + 5] != kind {
-        record += 4 + u32::from_be_bytes(archive[record..record + 4].try_into().unwrap()) as usize;
-    }
-    archive[record + 6 + at..][..bytes.len()].copy_from_slice(bytes);
-    archive
-}
-
-struct Diff {
-    folder: PathBuf,
-}
-
-impl Diff {
-    /// What `diff` prints of the worked archive and another one.
-    #[track_caller]
-    fn prints(&self, other: &[u8], status: i32, text: &str) {
-        let (worked, other) = (file(&self.folder, "worked", WORKED), file(&self.folder, "other", other));
-        let ran = ran(["diff", worked.to_str().unwrap(), other.to_str().unwrap()]);
-        let folder = format!("{}/", self.folder.to_str().unwrap());
-        assert_eq!((ran.status, ran.told.as_str(), ran.text().replace(&folder, "").as_str()), (status, "", text));
-    }
-}
-
-#[test]
-fn the_first_difference() {
-    let diff = Diff { folder: folder("diff") };
-    let same = "cleaned to the same bytes: bytes 271, survivors 2\n";
-    diff.prints(WORKED, 0, same);
-    diff.prints(CLEANED, 0, same);
-    // 103 names 99 where it named 100.
-    diff.prints(
-        &changed(2, 76 + 7 * 8 + 7, &[4]),
-        1,
-        "cleaned to different bytes: a survivor differs in prev\n\
-         worked: 101, which was 103: prev 100 95\nother: 101, which was 103: prev 100 95 99\n",
-    );
-    // 103 is erased too.
-    diff.prints(
-        &changed(3, 27, &[1]),
-        1,
-        "cleaned to different bytes: a survivor differs in number\nworked: 101, which was 103: number 101\nother: no survivor is left\n",
-    );
-    diff.prints(
-        &changed(3, 28, &[0, 0, 0, 0, 0, 0, 0, 9]),
-        1,
-        "cleaned to different bytes: a survivor differs in tag\n\
-         worked: 101, which was 103: tag 1003\nother: 101, which was 103: tag 9\n",
-    );
-    diff.prints(
-        &changed(1, 14, b"moor"),
-        1,
-        "cleaned to different bytes: group 0 differs in subject\nworked: subject room\nother: subject moor\n",
-    );
-    diff.prints(
-        &changed(1, 18, &[1, 0, 0, 0, 0, 0, 0, 0, 2, 0, 0, 0, 0, 0, 0, 0, 7]),
-        1,
-        "cleaned to different bytes: group 0 differs in depth\nworked: depth none\nother: depth 2 to 7\n",
-    );
 }
 
 /// Every number that the library has words for is explained, and no other.

@@ -32,8 +32,8 @@ fn run(arguments: &Arguments) -> Result<Status, Failure> {
     let condition = CONDITIONS.iter().find(|condition| Some(condition.number) == number);
     let unknown = || Failure::Usage(format!("{} is no refusal's number; explain --help says which are", text::plain(word.as_bytes())));
     let condition = condition.ok_or_else(unknown)?;
-    let text: Vec<_> = condition.text.split_whitespace().map(String::from).collect();
-    let text = text::wrapped(&text, WIDTH).join("\n");
-    output::print(format!("{}\n\nTested {}.\n{text}\n", Refusal(condition.number), condition.tested))?;
+    let words: Vec<_> = condition.text.split_whitespace().map(String::from).collect();
+    let lines = text::wrapped(&words, WIDTH).join("\n");
+    output::print(format!("{}\n\nTested {}.\n{lines}\n", Refusal(condition.number), condition.tested))?;
     Ok(Status::Done)
 }
