@@ -69,40 +69,51 @@ module _ {M : Type 1} {𝓤 : URA M} (R : RattleType) (s : Lent) (l : List (R .D
   -- the same while the borrow is open: element i, at the machine values vs, stands first
   abbrev pub Opened : ℕ → R .Denot → List Val → List (Item 𝓤) → List (Item 𝓤)
   Opened i x vs Γ = ‵ (cellAt fullShare (R .mir) vs (s .block) (place (mem R .size) (s .from) i)) ∷ ‵ (R .own x vs) ∷ ‵ (others (shares R) fullShare l i (s .block) (s .from))
-      ∷ ‵ (fobor (s .lft) (s .share) (Held R (length l) (s .block) (s .from) (s .name))) ∷ ‵ (fobs (s .name) (codedHoleys R .code (heres R l))) ∷ ‵ (fauth (s .name) (codedHoleys R .code (heres R l))) ∷ Γ
+      ∷ ‵ (fobor (s .lft) (s .share) (Held R (length l) (s .block) (s .from) (s .name))) ∷ ‵ (fobs (s .name) (codedHoleys R .code (heres R l)))
+      ∷ ‵ (fauth (s .name) (codedHoleys R .code (heres R l))) ∷ Γ
 
   abbrev pub Looked : Share → ℕ → R .Denot → List Val → List (Item 𝓤) → List (Item 𝓤)
   Looked q i x vs Γ = ‵ (cellAt q (R .mir) vs (s .block) (place (mem R .size) (s .from) i)) ∷ ‵ (R .own x vs) ∷ ‵ (others (shares R) q l i (s .block) (s .from))
-      ∷ ‵ (fobor (s .lft) (s .share) (arr-parts (shares R) (length l) .part q l (s .block) (s .from))) ∷ ‵ (fshr-bor (s .lft) (λ q′. arr-parts (shares R) (length l) .part q′ l (s .block) (s .from))) ∷ Γ
+      ∷ ‵ (fobor (s .lft) (s .share) (arr-parts (shares R) (length l) .part q l (s .block) (s .from)))
+      ∷ ‵ (fshr-bor (s .lft) (λ q′. arr-parts (shares R) (length l) .part q′ l (s .block) (s .from))) ∷ Γ
 
 -- the list is another one, by an equation
-named : {M : Type 1} {𝓤 : URA M} {H : Heap 𝓤} {A : Atoms 𝓤} {K : Type 0} {W : Given 𝓤 H A} {Γ : List (Item 𝓤)} {G : Goal 𝓤 H} → K → (R : RattleType) (s : Lent) {l l′ : List (R .Denot)} → l ≡ l′ → Step K W (Had R s l′ Γ) G (Had R s l Γ) G
+named : {M : Type 1} {𝓤 : URA M} {H : Heap 𝓤} {A : Atoms 𝓤} {K : Type 0} {W : Given 𝓤 H A} {Γ : List (Item 𝓤)} {G : Goal 𝓤 H} → K → (R : RattleType) (s : Lent) {l l′ : List (R .Denot)} → l ≡ l′
+    → Step K W (Had R s l′ Γ) G (Had R s l Γ) G
 named {K = K} {W} {Γ} {G} t R s {l} {l′} e = step (λ k. subst (λ (z : List (R .Denot)). Seq K W (Had R s z Γ) G) (sym e) k)
 
-module _ {M : Type 1} {𝓤 : URA M} {H : Heap 𝓤} {A : Atoms 𝓤} {K : Type 0} {W : Given 𝓤 H A} {Γ : List (Item 𝓤)} {E : Env 𝓤 H} {C : Calls 𝓤 H} {Λ : Loops 𝓤 H} {q : Post 𝓤 H} {p : Place} {rest : Body} where
+module _ {M : Type 1} {𝓤 : URA M} {H : Heap 𝓤} {A : Atoms 𝓤} {K : Type 0} {W : Given 𝓤 H A} {Γ : List
+    (Item 𝓤)} {E : Env 𝓤 H} {C : Calls 𝓤 H} {Λ : Loops 𝓤 H} {q : Post 𝓤 H} {p : Place} {rest : Body} where
   -- ---- a store
   pub put-number : K → (s : Lent) (l l′ : List ℕ) (i v : ℕ) → i < length l → v < 2 ^ 32 → set l i v ≡ l′ → {x : Operand}
-      → Opd K W (Opened u32 s l i (getD l i 0) (uint-vals w32 (getD l i 0)) Γ) E x (vint w32 v) → Finds K W (Opened u32 s l i (getD l i 0) (uint-vals w32 (getD l i 0)) Γ) E p (tyInt w32, s .block, place 4 (s .from) i)
+      → Opd K W (Opened u32 s l i (getD l i 0) (uint-vals w32 (getD l i 0)) Γ) E x (vint w32 v)
+      → Finds K W (Opened u32 s l i (getD l i 0) (uint-vals w32 (getD l i 0)) Γ) E p (tyInt w32, s .block, place 4 (s .from) i)
       → Step K W (Had u32 s l′ Γ) (runs C Λ E rest q) (Had u32 s l Γ) (runs C Λ E (seq (assign p (rvOpd x)) rest) q)
   put-number t s l l′ i v lt fits e x f = step (λ k. opens-slice t tt u32 l (s .block) (s .from) $
-      elem-out t u32 (Is u32) (shows 𝓤 H A u32) (uint-vals w32) (uint-tells w32) fullShare l i 0 (s .block) (s .from) lt (λ _. assigns t (of-opd t x) f (store t 0 refl (tt, record { fits = fits })) $
-      move t (1 ∷ []) $ drop t $ owned t u32 (Is u32) (uint-makes 𝓤 H A W w32) v (vint w32 v ∷ []) (refl, fits) $ move t (1 ∷ 0 ∷ []) $ elem-put t u32 fullShare l i v (vint w32 v ∷ []) (s .block) (s .from) lt $
+      elem-out t u32 (Is u32) (shows 𝓤 H A u32) (uint-vals w32) (uint-tells w32) fullShare l i 0 (s .block) (s .from) lt (λ _. assigns t (of-opd t x) f (store t 0 refl
+      (tt, record { fits = fits })) $
+      move t (1 ∷ []) $ drop t $ owned t u32 (Is u32) (uint-makes 𝓤 H A W w32) v (vint w32 v ∷ []) (refl, fits) $ move t (1 ∷ 0 ∷ []) $
+      elem-put t u32 fullShare l i v (vint w32 v ∷ []) (s .block) (s .from) lt $
       closes-slice t tt u32 l (set l i v) (length-set l i v) (s .block) (s .from) $ named t u32 s e $ k))
 
   pub put-link : K → (s : Lent) (l l′ : List Link) (i : ℕ) (v : Link) → i < length l → Is T.the-row v (vals v) → set l i v ≡ l′ → {x : Operand}
-      → Opd K W (Opened T.the-row s l i (getD l i none) (vals (getD l i none)) Γ) E x (T′.lowered v) → Finds K W (Opened T.the-row s l i (getD l i none) (vals (getD l i none)) Γ) E p (T′.mir, s .block, place 16 (s .from) i)
+      → Opd K W (Opened T.the-row s l i (getD l i none) (vals (getD l i none)) Γ) E x (T′.lowered v)
+      → Finds K W (Opened T.the-row s l i (getD l i none) (vals (getD l i none)) Γ) E p (T′.mir, s .block, place 16 (s .from) i)
       → Step K W (Had T.the-row s l′ Γ) (runs C Λ E rest q) (Had T.the-row s l Γ) (runs C Λ E (seq (assign p (rvOpd x)) rest) q)
   put-link t s l l′ i v lt is e x f = step (λ k. opens-slice t tt T.the-row l (s .block) (s .from) $
       elem-out t T.the-row (Is T.the-row) (shows 𝓤 H A T.the-row) vals (LL.tells T.the-type T′.the-laws) fullShare l i none (s .block) (s .from) lt (λ _.
       assigns t (of-opd t x) f (store-raw t 0 refl (LL.lawful T.the-type T′.the-laws 𝓤 H A W .typed v (vals v) is .0)) $
-      move t (1 ∷ []) $ drop t $ owned t T.the-row (Is T.the-row) (LL.makes T.the-type T′.the-plain 𝓤 H A) v (vals v) is $ move t (1 ∷ 0 ∷ []) $ elem-put t T.the-row fullShare l i v (vals v) (s .block) (s .from) lt $
+      move t (1 ∷ []) $ drop t $ owned t T.the-row (Is T.the-row) (LL.makes T.the-type T′.the-plain 𝓤 H A) v (vals v) is $ move t (1 ∷ 0 ∷ []) $
+      elem-put t T.the-row fullShare l i v (vals v) (s .block) (s .from) lt $
       closes-slice t tt T.the-row l (set l i v) (length-set l i v) (s .block) (s .from) $ named t T.the-row s e $ k))
 
   -- ---- a read: what follows has the element's relation in hand
   pub get-number : K → (s : Lent) (l : List ℕ) (i : ℕ) → i < length l → {x : Place} {Γ′ : List (Item 𝓤)} {sp : Spot 𝓤 H}
       → ((r : Share) → Finds K W (Looked u32 s l r i (getD l i 0) (uint-vals w32 (getD l i 0)) Γ) E x (tyInt w32, s .block, place 4 (s .from) i))
       → ((r : Share) → Finds K W (Looked u32 s l r i (getD l i 0) (uint-vals w32 (getD l i 0)) Γ) E p sp)
-      → ((r : Share) → getD l i 0 < 2 ^ 32 → Writes K W (Looked u32 s l r i (getD l i 0) (uint-vals w32 (getD l i 0)) Γ) (sp .0) (sp .1) (sp .2) (vint w32 (getD l i 0)) (Looked u32 s l r i (getD l i 0) (uint-vals w32 (getD l i 0)) Γ′))
+      → ((r : Share) → getD l i 0 < 2 ^ 32
+      → Writes K W (Looked u32 s l r i (getD l i 0) (uint-vals w32 (getD l i 0)) Γ) (sp .0) (sp .1) (sp .2) (vint w32 (getD l i 0)) (Looked u32 s l r i (getD l i 0) (uint-vals w32
+      (getD l i 0)) Γ′))
       → (getD l i 0 < 2 ^ 32 → Seq K W (Seen u32 s l Γ′) (runs C Λ E rest q)) → Seq K W (Seen u32 s l Γ) (runs C Λ E (seq (assign p (rvOpd (copy x))) rest) q)
   get-number t s l i lt x f w k = move t (1 ∷ 0 ∷ []) $ looks-slice t tt u32 (Is u32) (shows 𝓤 H A u32) (uint-vals w32) (uint-tells w32) (uint-copy 𝓤 H A W w32) l (s .block) (s .from) (λ r.
       elem-out t u32 (Is u32) (shows 𝓤 H A u32) (uint-vals w32) (uint-tells w32) r l i 0 (s .block) (s .from) lt (λ g. assigns t (of-opd t (load t (x r) (look t 0 refl))) (f r) (w r (g .1)) $
@@ -111,10 +122,15 @@ module _ {M : Type 1} {𝓤 : URA M} {H : Heap 𝓤} {A : Atoms 𝓤} {K : Type 
   pub get-link : K → (s : Lent) (l : List Link) (i : ℕ) → i < length l → {x : Place} {Γ′ : List (Item 𝓤)} {sp : Spot 𝓤 H}
       → ((r : Share) → Finds K W (Looked T.the-row s l r i (getD l i none) (vals (getD l i none)) Γ) E x (T′.mir, s .block, place 16 (s .from) i))
       → ((r : Share) → Finds K W (Looked T.the-row s l r i (getD l i none) (vals (getD l i none)) Γ) E p sp)
-      → ((r : Share) → Is T.the-row (getD l i none) (vals (getD l i none)) → Writes K W (Looked T.the-row s l r i (getD l i none) (vals (getD l i none)) Γ) (sp .0) (sp .1) (sp .2) (T′.lowered (getD l i none)) (Looked T.the-row s l r i (getD l i none) (vals (getD l i none)) Γ′))
-      → (Is T.the-row (getD l i none) (vals (getD l i none)) → Seq K W (Seen T.the-row s l Γ′) (runs C Λ E rest q)) → Seq K W (Seen T.the-row s l Γ) (runs C Λ E (seq (assign p (rvOpd (copy x))) rest) q)
-  get-link t s l i lt x f w k = move t (1 ∷ 0 ∷ []) $ looks-slice t tt T.the-row (Is T.the-row) (shows 𝓤 H A T.the-row) vals (LL.tells T.the-type T′.the-laws) (LL.copy T.the-type T′.the-copy 𝓤 H A W) l (s .block) (s .from) (λ r.
-      elem-out t T.the-row (Is T.the-row) (shows 𝓤 H A T.the-row) vals (LL.tells T.the-type T′.the-laws) r l i none (s .block) (s .from) lt (λ g. assigns t (of-opd t (load t (x r) (look-raw t 0 refl))) (f r) (w r g) $
+      → ((r : Share) → Is T.the-row (getD l i none) (vals (getD l i none))
+      → Writes K W (Looked T.the-row s l r i (getD l i none) (vals (getD l i none)) Γ) (sp .0) (sp .1) (sp .2) (T′.lowered (getD l i none)) (Looked T.the-row s l r i (getD l i none) (vals
+      (getD l i none)) Γ′))
+      → (Is T.the-row (getD l i none) (vals (getD l i none)) → Seq K W (Seen T.the-row s l Γ′) (runs C Λ E rest q))
+      → Seq K W (Seen T.the-row s l Γ) (runs C Λ E (seq (assign p (rvOpd (copy x))) rest) q)
+  get-link t s l i lt x f w k = move t (1 ∷ 0 ∷ []) $
+      looks-slice t tt T.the-row (Is T.the-row) (shows 𝓤 H A T.the-row) vals (LL.tells T.the-type T′.the-laws) (LL.copy T.the-type T′.the-copy 𝓤 H A W) l (s .block) (s .from) (λ r.
+      elem-out t T.the-row (Is T.the-row) (shows 𝓤 H A T.the-row) vals (LL.tells T.the-type T′.the-laws) r l i none (s .block) (s .from) lt (λ g. assigns t (of-opd t (load t (x r)
+      (look-raw t 0 refl))) (f r) (w r g) $
       elem-back t T.the-row r l i none (vals (getD l i none)) (s .block) (s .from) lt $ shuts-slice t tt T.the-row r l (s .block) (s .from) $ k g))
 
 -- ---- at exit: with the fact on its machine value, what is had of a slice is what its type owns
@@ -122,7 +138,8 @@ module _ {M : Type 1} {𝓤 : URA M} {H : Heap 𝓤} {A : Atoms 𝓤} {K : Type 
   pub back : K → (R : RattleType) (ℓ : Lifetime) (s : Lent) (l : List (R .Denot)) {m : ℕ} → length l ≡ m → Room R m
       → Step K W (‵ (MutSlice ℓ (s .lft) R .own (ref s l) (sliceVal (s .block, s .from) m ∷ [])) ∷ Γ) G
       (‵ (fobs (s .name) (codedHoleys R .code (heres R l))) ∷ ‵ (fbor (s .lft) (Held R (length l) (s .block) (s .from) (s .name))) ∷ Γ) G
-  back t R ℓ s l {m} e room = step (λ k. fjoin t $ pureI t (at-slice R (ref s l) (sliceVal (s .block, s .from) m ∷ [])) (tt, (tt, tt)) (ap (λ (c : ℕ). sliceVal (s .block, s .from) c ∷ []) (sym e), subst (Room R) (sym e) room) $ fjoin t $ k)
+  back t R ℓ s l {m} e room = step (λ k. fjoin t $
+      pureI t (at-slice R (ref s l) (sliceVal (s .block, s .from) m ∷ [])) (tt, (tt, tt)) (ap (λ (c : ℕ). sliceVal (s .block, s .from) c ∷ []) (sym e), subst (Room R) (sym e) room) $ fjoin t $ k)
 
   pub back-shared : K → (R : RattleType) (ℓ : Lifetime) (s : Lent) (l : List (R .Denot)) → Room R (length l)
       → Step K W (‵ (ShrSlice ℓ (s .lft) R .own (ref s l) (sliceVal (s .block, s .from) (length l) ∷ [])) ∷ Γ) G

@@ -68,7 +68,20 @@ use Rattle.cover_links.proofs.ridgeoven_links_apart.Code as code
 use Rattle.cover_links.proofs.ridgeoven_links_apart.Code.Mir as steps
 
 abbrev stayed : Stays (apart.ended .signature .params) (apart.ended .kept)
-stayed = (stay-none-slice (0 ∷ []) tt (plain (λ _. T.the-row)) yes, (stay-slice (1 ∷ []) tt (plain (λ _. u32)), (stay-slice (2 ∷ []) tt (plain (λ _. u32)), (stay-slice (3 ∷ []) tt (plain (λ _. u32)), (stay-slice (4 ∷ []) tt (plain (λ _. u32)), tt)))))
+stayed = (
+  stay-none-slice (0 ∷ []) tt (plain (λ _. T.the-row)) yes,
+  (
+    stay-slice (1 ∷ []) tt (plain (λ _. u32)),
+    (
+      stay-slice (2 ∷ []) tt (plain (λ _. u32)),
+      (
+        stay-slice (3
+            ∷ []) tt (plain (λ _. u32)),
+        (stay-slice (4 ∷ []) tt (plain (λ _. u32)), tt),
+      ),
+    ),
+  ),
+)
 
 -- the MIR types of the locals
 abbrev word : Ty
@@ -162,7 +175,19 @@ module _ {M : Type 1} (𝓤 : URA M) (H : Heap 𝓤) (A : Atoms 𝓤) (W : Given
         → length za ≡ length xs → length zb ≡ length bs → length zc ≡ length cs → length zd ≡ length ds → ent 𝓤 (⋆ 𝓤 H A (Slices za zb zc zd (Res ∷ []))) (Post (vint w64 n))
     exits za zb zc zd e ea eb ec ed =
         qed W (Slices za zb zc zd (Res ∷ [])) ∵
-        suffices ! _ (ends-at 𝓤 H A apart.ended stayed (apart.clauses 𝓤 H A mem run) W ((κs, qs, tt, args, at), tt) (vint w64 n) n (tt, (za, (zb, (zc, (zd, tt))))) (tt, (ea, (eb, (ec, (ed, tt)))))) $ says ! (refl, e) $
+        suffices ! _ (ends-at 𝓤 H A apart.ended stayed (apart.clauses 𝓤 H A mem run) W ((κs, qs, tt, args, at), tt) (vint w64 n) n (tt, (za, (zb, (zc, (zd, tt))))) (
+          tt,
+          (
+            ea,
+            (
+              eb,
+              (
+                ec,
+                (ed, tt),
+              ),
+            ),
+          ),
+        )) $ says ! (refl, e) $
         -- the five tokens
         nothing ! $ move ! (14 ∷ 0 ∷ []) $ join ! $ move ! (11 ∷ 0 ∷ []) $ join ! $ move ! (8 ∷ 0 ∷ []) $ join ! $ move ! (5 ∷ 0 ∷ []) $ join ! $ move ! (1 ∷ 0 ∷ []) $ join ! $ frame ! $
         -- [links's fractured borrow; a's obs and borrow; b's; c's; d's; res]: what each type owns, the last first
@@ -188,14 +213,19 @@ module _ {M : Type 1} (𝓤 : URA M) (H : Heap 𝓤) (A : Atoms 𝓤) (W : Given
       Λ = 𝓣 .Λ
 
       abbrev En : Env 𝓤 H
-      En = (word, l₀) ∷ (linksTy, l₁) ∷ (columnTy 1, l₂) ∷ (columnTy 2, l₃) ∷ (columnTy 3, l₄) ∷ (columnTy 4, l₅) ∷ (word, l₆) ∷ (word, l₇) ∷ (T′.mir, l₈) ∷ (word, l₉) ∷ (word, l₁₀) ∷ (word, l₁₁) ∷ (word, l₁₂) ∷ (word, l₁₃) ∷ (tyBool, l₁₄) ∷ (word, l₁₅) ∷ (tyPtr, l₁₆) ∷ (T′.mir, l₁₇) ∷ (tyPtr, l₁₈) ∷ (tyPtr, l₁₉) ∷ (tyPtr, l₂₀) ∷ (tyPtr, l₂₁) ∷ []
+      En = (word, l₀) ∷ (linksTy, l₁) ∷ (columnTy 1, l₂) ∷ (columnTy 2, l₃) ∷ (columnTy 3, l₄) ∷ (columnTy 4, l₅) ∷ (word, l₆) ∷ (word, l₇) ∷ (T′.mir, l₈) ∷ (word, l₉) ∷ (word, l₁₀)
+          ∷ (word, l₁₁) ∷ (word, l₁₂) ∷ (word, l₁₃) ∷ (tyBool, l₁₄) ∷ (word, l₁₅) ∷ (tyPtr, l₁₆) ∷ (T′.mir, l₁₇) ∷ (tyPtr, l₁₈) ∷ (tyPtr, l₁₉) ∷ (tyPtr, l₂₀) ∷ (tyPtr, l₂₁) ∷ []
 
       -- the locals, from position 14 on: i, then l and the temporaries, which are room between the turns, then what no turn touches
       abbrev Locals : ℕ → List (Item 𝓤)
-      Locals i = ‵ (fat fullShare word l₇ 0 (vint w64 i)) ∷ ‵ (froom T′.mir l₈ 0) ∷ ‵ (froom word l₁₅ 0) ∷ ‵ (froom tyBool l₁₄ 0) ∷ ‵ (froom tyPtr l₁₆ 0) ∷ ‵ (froom T′.mir l₁₇ 0) ∷ ‵ (froom tyPtr l₁₈ 0) ∷ ‵ (froom tyPtr l₁₉ 0) ∷ ‵ (froom tyPtr l₂₀ 0) ∷ ‵ (froom tyPtr l₂₁ 0)
-          ∷ ‵ (fat fullShare linksTy l₁ 0 (mach s (length ys))) ∷ ‵ (fat fullShare (columnTy 1) l₂ 0 (mach sa (length xs))) ∷ ‵ (fat fullShare (columnTy 2) l₃ 0 (mach sb (length bs))) ∷ ‵ (fat fullShare (columnTy 3) l₄ 0 (mach sc (length cs))) ∷ ‵ (fat fullShare (columnTy 4) l₅ 0 (mach sd (length ds)))
+      Locals i = ‵ (fat fullShare word l₇ 0 (vint w64 i)) ∷ ‵ (froom T′.mir l₈ 0) ∷ ‵ (froom word l₁₅ 0) ∷ ‵ (froom tyBool l₁₄ 0) ∷ ‵ (froom tyPtr l₁₆ 0) ∷ ‵ (froom T′.mir l₁₇ 0)
+          ∷ ‵ (froom tyPtr l₁₈ 0) ∷ ‵ (froom tyPtr l₁₉ 0) ∷ ‵ (froom tyPtr l₂₀ 0) ∷ ‵ (froom tyPtr l₂₁ 0)
+          ∷ ‵ (fat fullShare linksTy l₁ 0 (mach s (length ys))) ∷ ‵ (fat fullShare (columnTy 1) l₂ 0 (mach sa (length xs))) ∷ ‵ (fat fullShare (columnTy 2) l₃ 0 (mach sb (length bs)))
+          ∷ ‵ (fat fullShare (columnTy 3) l₄ 0 (mach sc (length cs))) ∷ ‵ (fat fullShare (columnTy 4) l₅ 0 (mach sd (length ds)))
           ∷ ‵ (fat fullShare word l₆ 0 (vint w64 n)) ∷ ‵ (froom word l₀ 0) ∷ ‵ (froom word l₉ 0) ∷ ‵ (froom word l₁₀ 0) ∷ ‵ (froom word l₁₁ 0) ∷ ‵ (froom word l₁₂ 0) ∷ ‵ (froom word l₁₃ 0) ∷ Res
-          ∷ ‵ (fdies word l₀) ∷ ‵ (fdies linksTy l₁) ∷ ‵ (fdies (columnTy 1) l₂) ∷ ‵ (fdies (columnTy 2) l₃) ∷ ‵ (fdies (columnTy 3) l₄) ∷ ‵ (fdies (columnTy 4) l₅) ∷ ‵ (fdies word l₆) ∷ ‵ (fdies word l₇) ∷ ‵ (fdies T′.mir l₈) ∷ ‵ (fdies word l₉) ∷ ‵ (fdies word l₁₀) ∷ ‵ (fdies word l₁₁) ∷ ‵ (fdies word l₁₂) ∷ ‵ (fdies word l₁₃) ∷ ‵ (fdies tyBool l₁₄) ∷ ‵ (fdies word l₁₅) ∷ ‵ (fdies tyPtr l₁₆) ∷ ‵ (fdies T′.mir l₁₇) ∷ ‵ (fdies tyPtr l₁₈) ∷ ‵ (fdies tyPtr l₁₉) ∷ ‵ (fdies tyPtr l₂₀) ∷ ‵ (fdies tyPtr l₂₁) ∷ []
+          ∷ ‵ (fdies word l₀) ∷ ‵ (fdies linksTy l₁) ∷ ‵ (fdies (columnTy 1) l₂) ∷ ‵ (fdies (columnTy 2) l₃) ∷ ‵ (fdies (columnTy 3) l₄) ∷ ‵ (fdies (columnTy 4) l₅) ∷ ‵ (fdies word l₆)
+          ∷ ‵ (fdies word l₇) ∷ ‵ (fdies T′.mir l₈) ∷ ‵ (fdies word l₉) ∷ ‵ (fdies word l₁₀) ∷ ‵ (fdies word l₁₁) ∷ ‵ (fdies word l₁₂) ∷ ‵ (fdies word l₁₃) ∷ ‵ (fdies tyBool l₁₄)
+          ∷ ‵ (fdies word l₁₅) ∷ ‵ (fdies tyPtr l₁₆) ∷ ‵ (fdies T′.mir l₁₇) ∷ ‵ (fdies tyPtr l₁₈) ∷ ‵ (fdies tyPtr l₁₉) ∷ ‵ (fdies tyPtr l₂₀) ∷ ‵ (fdies tyPtr l₂₁) ∷ []
 
       abbrev At : Upto → List (Item 𝓤)
       At i = Slices (done-to fromChain xs (i .0)) (done-to fromSeq bs (i .0)) (done-to toChain cs (i .0)) (done-to toSeq ds (i .0)) (Locals (i .0))
@@ -217,37 +247,57 @@ module _ {M : Type 1} (𝓤 : URA M) (H : Heap 𝓤) (A : Atoms 𝓤) (W : Given
           assigns ! (bin ! (load ! (from ! (stop !)) (look ! 14 refl)) (load ! (from ! (stop !)) (look ! 29 refl)) tt) (from ! (stop !)) (init ! 17 refl (tt, tt)) $
           rewrite ! 17 (λ (t : Bool). ‵ (fat fullShare tyBool l₁₄ 0 (vbool t))) (lt-ltb (i .0) n lt) refl $ stays ! (load ! (from ! (stop !)) (look ! 17 refl)) $
           -- l = links[i]
-          assigns ! (bin ! (load ! (from ! (stop !)) (look ! 14 refl)) (lit ! tt) (scaled-fits (i .0) (length ys) 16 (lt-of-lt-of-le lt ln) (room .1))) (from ! (stop !)) (init ! 16 refl (tt, scaled-fits (i .0) (length ys) 16 (lt-of-lt-of-le lt ln) (room .1))) $
-          assigns ! (bin ! (load ! (from ! (fld ! refl (stop !))) (look-in ! 24 (sub ! 0 refl (whole !)))) (load ! (from ! (stop !)) (look ! 16 refl)) tt) (from ! (stop !)) (init ! 18 refl (tt, tt)) $
+          assigns ! (bin ! (load ! (from ! (stop !)) (look ! 14 refl)) (lit ! tt) (scaled-fits (i .0) (length ys) 16 (lt-of-lt-of-le lt ln) (room .1))) (from ! (stop !)) (init ! 16 refl
+          (tt, scaled-fits (i .0) (length ys) 16 (lt-of-lt-of-le lt ln) (room .1))) $
+          assigns ! (bin ! (load ! (from ! (fld ! refl (stop !))) (look-in ! 24 (sub ! 0 refl (whole !)))) (load ! (from ! (stop !)) (look ! 16 refl)) tt) (from ! (stop !)) (init ! 18 refl
+          (tt, tt)) $
           rewrite ! 18 (λ (p : ℕ). ‵ (fat fullShare tyPtr l₁₆ 0 (vptr (s .block) p))) (sym (place-is 16 (s .from) (i .0))) refl $
           get-link ! s ys (i .0) (lt-of-lt-of-le lt ln) (λ r. from ! (hop ! (look ! 21 refl) (stop !))) (λ r. from ! (stop !)) (λ r g. init ! 22 refl (typed (elem i) g)) (λ g.
           assigns ! (of-opd ! (load ! (from ! (stop !)) (look ! 19 refl))) (from ! (stop !)) (init ! 15 refl (typed (elem i) g)) $
           -- a[i]
-          assigns ! (bin ! (load ! (from ! (stop !)) (look ! 14 refl)) (lit ! tt) (scaled-fits (i .0) (length xs) 4 (lt-of-lt-of-le lt la) (ra .1))) (from ! (stop !)) (store ! 16 refl (tt, scaled-fits (i .0) (length xs) 4 (lt-of-lt-of-le lt la) (ra .1))) $
-          assigns ! (bin ! (load ! (from ! (fld ! refl (stop !))) (look-in ! 25 (sub ! 0 refl (whole !)))) (load ! (from ! (stop !)) (look ! 16 refl)) tt) (from ! (stop !)) (init ! 20 refl (tt, tt)) $
+          assigns ! (bin ! (load ! (from ! (stop !)) (look ! 14 refl)) (lit ! tt) (scaled-fits (i .0) (length xs) 4 (lt-of-lt-of-le lt la) (ra .1))) (from ! (stop !)) (store ! 16 refl
+          (tt, scaled-fits (i .0) (length xs) 4 (lt-of-lt-of-le lt la) (ra .1))) $
+          assigns ! (bin ! (load ! (from ! (fld ! refl (stop !))) (look-in ! 25 (sub ! 0 refl (whole !)))) (load ! (from ! (stop !)) (look ! 16 refl)) tt) (from ! (stop !)) (init ! 20 refl
+          (tt, tt)) $
           rewrite ! 20 (λ (p : ℕ). ‵ (fat fullShare tyPtr l₁₈ 0 (vptr (sa .block) p))) (sym (place-is 4 (sa .from) (i .0))) refl $ move ! (2 ∷ 3 ∷ 4 ∷ []) $
-          put-number ! sa (done-to fromChain xs (i .0)) (done-to fromChain xs (i .0 + 1)) (i .0) (fromChain (elem i)) (inside fromChain xs la (i .0) lt) (LL.owed T.the-type T′.the-laws (elem i) (vals (elem i)) g .0 .1) (next fromChain xs la (i .0) lt)
+          put-number ! sa (done-to fromChain xs (i .0)) (done-to fromChain xs (i .0 + 1)) (i .0) (fromChain (elem i)) (inside fromChain xs la (i .0) lt) (LL.owed T.the-type T′.the-laws (elem i)
+          (vals (elem i)) g .0 .1) (next fromChain xs la (i .0) lt)
           (load ! (from ! (fld ! refl (stop !))) (look-in ! 18 (sub ! 0 refl (whole !)))) (from ! (hop ! (look ! 23 refl) (stop !))) $
           -- b[i]
-          assigns ! (bin ! (load ! (from ! (stop !)) (look ! 14 refl)) (lit ! tt) (scaled-fits (i .0) (length bs) 4 (lt-of-lt-of-le lt lb) (rb .1))) (from ! (stop !)) (store ! 16 refl (tt, scaled-fits (i .0) (length bs) 4 (lt-of-lt-of-le lt lb) (rb .1))) $
-          assigns ! (bin ! (load ! (from ! (fld ! refl (stop !))) (look-in ! 26 (sub ! 0 refl (whole !)))) (load ! (from ! (stop !)) (look ! 16 refl)) tt) (from ! (stop !)) (init ! 21 refl (tt, tt)) $
+          assigns ! (bin ! (load ! (from ! (stop !)) (look ! 14 refl)) (lit ! tt) (scaled-fits (i .0) (length bs) 4 (lt-of-lt-of-le lt lb) (rb .1))) (from ! (stop !)) (store ! 16 refl
+          (tt, scaled-fits (i .0) (length bs) 4 (lt-of-lt-of-le lt lb) (rb .1))) $
+          assigns ! (bin ! (load ! (from ! (fld ! refl (stop !))) (look-in ! 26 (sub ! 0 refl (whole !)))) (load ! (from ! (stop !)) (look ! 16 refl)) tt) (from ! (stop !)) (init ! 21 refl
+          (tt, tt)) $
           rewrite ! 21 (λ (p : ℕ). ‵ (fat fullShare tyPtr l₁₉ 0 (vptr (sb .block) p))) (sym (place-is 4 (sb .from) (i .0))) refl $ move ! (5 ∷ 6 ∷ 7 ∷ []) $
-          put-number ! sb (done-to fromSeq bs (i .0)) (done-to fromSeq bs (i .0 + 1)) (i .0) (fromSeq (elem i)) (inside fromSeq bs lb (i .0) lt) (LL.owed T.the-type T′.the-laws (elem i) (vals (elem i)) g .1 .0 .1) (next fromSeq bs lb (i .0) lt)
+          put-number ! sb (done-to fromSeq bs (i .0)) (done-to fromSeq bs (i .0 + 1)) (i .0) (fromSeq (elem i)) (inside fromSeq bs lb (i .0) lt) (LL.owed T.the-type T′.the-laws (elem i) (vals
+          (elem i)) g .1 .0 .1) (next fromSeq bs lb (i .0) lt)
           (load ! (from ! (fld ! refl (stop !))) (look-in ! 18 (sub ! 1 refl (whole !)))) (from ! (hop ! (look ! 24 refl) (stop !))) $
           -- c[i]
-          assigns ! (bin ! (load ! (from ! (stop !)) (look ! 14 refl)) (lit ! tt) (scaled-fits (i .0) (length cs) 4 (lt-of-lt-of-le lt lc) (rc .1))) (from ! (stop !)) (store ! 16 refl (tt, scaled-fits (i .0) (length cs) 4 (lt-of-lt-of-le lt lc) (rc .1))) $
-          assigns ! (bin ! (load ! (from ! (fld ! refl (stop !))) (look-in ! 27 (sub ! 0 refl (whole !)))) (load ! (from ! (stop !)) (look ! 16 refl)) tt) (from ! (stop !)) (init ! 22 refl (tt, tt)) $
+          assigns ! (bin ! (load ! (from ! (stop !)) (look ! 14 refl)) (lit ! tt) (scaled-fits (i .0) (length cs) 4 (lt-of-lt-of-le lt lc) (rc .1))) (from ! (stop !)) (store ! 16 refl
+          (tt, scaled-fits (i .0) (length cs) 4 (lt-of-lt-of-le lt lc) (rc .1))) $
+          assigns ! (bin ! (load ! (from ! (fld ! refl (stop !))) (look-in ! 27 (sub ! 0 refl (whole !)))) (load ! (from ! (stop !)) (look ! 16 refl)) tt) (from ! (stop !)) (init ! 22 refl
+          (tt, tt)) $
           rewrite ! 22 (λ (p : ℕ). ‵ (fat fullShare tyPtr l₂₀ 0 (vptr (sc .block) p))) (sym (place-is 4 (sc .from) (i .0))) refl $ move ! (8 ∷ 9 ∷ 10 ∷ []) $
-          put-number ! sc (done-to toChain cs (i .0)) (done-to toChain cs (i .0 + 1)) (i .0) (toChain (elem i)) (inside toChain cs lc (i .0) lt) (LL.owed T.the-type T′.the-laws (elem i) (vals (elem i)) g .1 .1 .0 .1) (next toChain cs lc (i .0) lt)
+          put-number ! sc (done-to toChain cs (i .0)) (done-to toChain cs (i .0 + 1)) (i .0) (toChain (elem i)) (inside toChain cs lc (i .0) lt) (LL.owed T.the-type T′.the-laws (elem i) (vals
+          (elem i)) g .1 .1 .0 .1) (next toChain cs lc (i .0) lt)
           (load ! (from ! (fld ! refl (stop !))) (look-in ! 18 (sub ! 2 refl (whole !)))) (from ! (hop ! (look ! 25 refl) (stop !))) $
           -- d[i]
-          assigns ! (bin ! (load ! (from ! (stop !)) (look ! 14 refl)) (lit ! tt) (scaled-fits (i .0) (length ds) 4 (lt-of-lt-of-le lt ld) (rd .1))) (from ! (stop !)) (store ! 16 refl (tt, scaled-fits (i .0) (length ds) 4 (lt-of-lt-of-le lt ld) (rd .1))) $
-          assigns ! (bin ! (load ! (from ! (fld ! refl (stop !))) (look-in ! 28 (sub ! 0 refl (whole !)))) (load ! (from ! (stop !)) (look ! 16 refl)) tt) (from ! (stop !)) (init ! 23 refl (tt, tt)) $
+          assigns ! (bin ! (load ! (from ! (stop !)) (look ! 14 refl)) (lit ! tt) (scaled-fits (i .0) (length ds) 4 (lt-of-lt-of-le lt ld) (rd .1))) (from ! (stop !)) (store ! 16 refl
+          (tt, scaled-fits (i .0) (length ds) 4 (lt-of-lt-of-le lt ld) (rd .1))) $
+          assigns ! (bin ! (load ! (from ! (fld ! refl (stop !))) (look-in ! 28 (sub ! 0 refl (whole !)))) (load ! (from ! (stop !)) (look ! 16 refl)) tt) (from ! (stop !)) (init ! 23 refl
+          (tt, tt)) $
           rewrite ! 23 (λ (p : ℕ). ‵ (fat fullShare tyPtr l₂₁ 0 (vptr (sd .block) p))) (sym (place-is 4 (sd .from) (i .0))) refl $ move ! (11 ∷ 12 ∷ 13 ∷ []) $
-          put-number ! sd (done-to toSeq ds (i .0)) (done-to toSeq ds (i .0 + 1)) (i .0) (toSeq (elem i)) (inside toSeq ds ld (i .0) lt) (LL.owed T.the-type T′.the-laws (elem i) (vals (elem i)) g .1 .1 .1 .0 .1) (next toSeq ds ld (i .0) lt)
+          put-number ! sd (done-to toSeq ds (i .0)) (done-to toSeq ds (i .0 + 1)) (i .0) (toSeq (elem i)) (inside toSeq ds ld (i .0) lt) (LL.owed T.the-type T′.the-laws (elem i) (vals
+          (elem i)) g .1 .1 .1 .0 .1) (next toSeq ds ld (i .0) lt)
           (load ! (from ! (fld ! refl (stop !))) (look-in ! 18 (sub ! 3 refl (whole !)))) (from ! (hop ! (look ! 26 refl) (stop !))) $
           -- i += 1: the slices go back to their places, and the temporaries are room
-          assigns-last ! (bin ! (load ! (from ! (stop !)) (look ! 14 refl)) (lit ! tt) (record { fits = omega (arith, gn) })) (from ! (stop !)) (store ! 14 refl (tt, record { fits = omega (arith, gn) })) $
+          assigns-last ! (bin ! (load ! (from ! (stop !)) (look ! 14 refl)) (lit ! tt) (record { fits = omega (arith, gn) })) (from ! (stop !)) (store ! 14 refl (
+            tt,
+            record {
+              fits = omega
+                  (arith, gn);
+            },
+          )) $
           move ! (12 ∷ 13 ∷ 9 ∷ 10 ∷ 11 ∷ 6 ∷ 7 ∷ 8 ∷ 3 ∷ 4 ∷ 5 ∷ []) $
           forget ! 15 refl $ forget ! 16 refl $ forget ! 17 refl $ forget ! 18 refl $ forget ! 19 refl $ forget ! 20 refl $ forget ! 21 refl $ forget ! 22 refl $ forget ! 23 refl $
           again ! Nearer At i (i .0 + 1, omega arith) (omega arith))
@@ -257,13 +307,17 @@ module _ {M : Type 1} (𝓤 : URA M) (H : Heap 𝓤) (A : Atoms 𝓤) (W : Given
       unfolding afterTurn
       ends i e =
           assigns ! (bin ! (load ! (from ! (stop !)) (look ! 14 refl)) (load ! (from ! (stop !)) (look ! 29 refl)) tt) (from ! (stop !)) (init ! 17 refl (tt, tt)) $
-          rewrite ! 17 (λ (t : Bool). ‵ (fat fullShare tyBool l₁₄ 0 (vbool t))) (le-ltb (i .0) n (omega arith)) refl $ leaves-loop ! (load ! (from ! (stop !)) (look ! 17 refl)) $ exec ! C Λ En steps.t-9 (atRet En Post) $
+          rewrite ! 17 (λ (t : Bool). ‵ (fat fullShare tyBool l₁₄ 0 (vbool t))) (le-ltb (i .0) n (omega arith)) refl $ leaves-loop ! (load ! (from ! (stop !)) (look ! 17 refl)) $
+          exec ! C Λ En steps.t-9 (atRet En Post) $
           assigns ! (of-opd ! (load ! (from ! (stop !)) (look ! 29 refl))) (from ! (stop !)) (init ! 30 refl (tt, record { fits = gn })) $ returns ! (look ! 30 refl) $
           forget ! 14 refl $ forget ! 17 refl $ forget ! 24 refl $ forget ! 25 refl $ forget ! 26 refl $ forget ! 27 refl $ forget ! 28 refl $ forget ! 29 refl $ forget ! 30 refl $
-          move ! (30 ∷ 37 ∷ 24 ∷ 38 ∷ 25 ∷ 39 ∷ 26 ∷ 40 ∷ 27 ∷ 41 ∷ 28 ∷ 42 ∷ 29 ∷ 43 ∷ 14 ∷ 44 ∷ 15 ∷ 45 ∷ 31 ∷ 46 ∷ 32 ∷ 47 ∷ 33 ∷ 48 ∷ 34 ∷ 49 ∷ 35 ∷ 50 ∷ 17 ∷ 51 ∷ 16 ∷ 52 ∷ 18 ∷ 53 ∷ 19 ∷ 54 ∷ 20 ∷ 55 ∷ 21 ∷ 56 ∷ 22 ∷ 57 ∷ 23 ∷ 58 ∷ []) $
-          free1 ! $ free1 ! $ free1 ! $ free1 ! $ free1 ! $ free1 ! $ free1 ! $ free1 ! $ free1 ! $ free1 ! $ free1 ! $ free1 ! $ free1 ! $ free1 ! $ free1 ! $ free1 ! $ free1 ! $ free1 ! $ free1 ! $ free1 ! $ free1 ! $ free1 ! $ free0 ! $
+          move ! (30 ∷ 37 ∷ 24 ∷ 38 ∷ 25 ∷ 39 ∷ 26 ∷ 40 ∷ 27 ∷ 41 ∷ 28 ∷ 42 ∷ 29 ∷ 43 ∷ 14 ∷ 44 ∷ 15 ∷ 45 ∷ 31 ∷ 46 ∷ 32 ∷ 47 ∷ 33 ∷ 48 ∷ 34 ∷ 49 ∷ 35 ∷ 50 ∷ 17 ∷ 51 ∷ 16 ∷ 52 ∷ 18 ∷ 53 ∷ 19
+          ∷ 54 ∷ 20 ∷ 55 ∷ 21 ∷ 56 ∷ 22 ∷ 57 ∷ 23 ∷ 58 ∷ []) $
+          free1 ! $ free1 ! $ free1 ! $ free1 ! $ free1 ! $ free1 ! $ free1 ! $ free1 ! $ free1 ! $ free1 ! $ free1 ! $ free1 ! $ free1 ! $ free1 ! $ free1 ! $ free1 ! $ free1 ! $ free1 ! $
+          free1 ! $ free1 ! $ free1 ! $ free1 ! $ free0 ! $
           by ! (exits (done-to fromChain xs (i .0)) (done-to fromSeq bs (i .0)) (done-to toChain cs (i .0)) (done-to toSeq ds (i .0))
-          (all fromChain xs, (all fromSeq bs, (all toChain cs, all toSeq ds))) (stays-long fromChain xs la (i .0) (i .1)) (stays-long fromSeq bs lb (i .0) (i .1)) (stays-long toChain cs lc (i .0) (i .1)) (stays-long toSeq ds ld (i .0) (i .1)))
+          (all fromChain xs, (all fromSeq bs, (all toChain cs, all toSeq ds))) (stays-long fromChain xs la (i .0) (i .1)) (stays-long fromSeq bs lb (i .0) (i .1)) (stays-long toChain cs lc
+          (i .0) (i .1)) (stays-long toSeq ds ld (i .0) (i .1)))
         where
           all : (f : Link → ℕ) (old : List ℕ) → done-to f old (i .0) ≡ over (map f ls) old
           all f old = ap (done-to f old) (e ∙ sym few) ∙ column-all f ls old
@@ -274,27 +328,56 @@ module _ {M : Type 1} (𝓤 : URA M) (H : Heap 𝓤) (A : Atoms 𝓤) (W : Given
     -- the loop, once how many are carried is known
     module _ (𝓣 : Tables 𝓤 H) where
       abbrev to-least : LeastOf 𝓤 H A mem run .Ghost
-      to-least = ((tt, tt, tt, (length ys, (length xs, (length bs, (length cs, (length ds, tt))))), (vint w64 (length ys) ∷ [], (vint w64 (length xs) ∷ [], (vint w64 (length bs) ∷ [], (vint w64 (length cs) ∷ [], (vint w64 (length ds) ∷ [], tt)))))), tt)
+      to-least = (
+        (
+          tt,
+          tt,
+          tt,
+          (length ys, (length xs, (length bs, (length cs, (length ds, tt))))),
+          (
+            vint w64 (length ys) ∷ [],
+            (
+              vint w64 (length xs) ∷ [],
+              (
+                vint w64 (length bs)
+                    ∷ [],
+                (vint w64 (length cs) ∷ [], (vint w64 (length ds) ∷ [], tt)),
+              ),
+            ),
+          ),
+        ),
+        tt,
+      )
 
       goes-least : ent 𝓤 (emp 𝓤) (LeastOf 𝓤 H A mem run .pre to-least)
       goes-least =
-          qed W [] ∵ nothing ! $ owned ! usize (Is usize) (uint-makes 𝓤 H A W w64) (length ds) _ (refl, rd .0) $ fjoin ! $ owned ! usize (Is usize) (uint-makes 𝓤 H A W w64) (length cs) _ (refl, rc .0) $ fjoin ! $ owned ! usize (Is usize) (uint-makes 𝓤 H A W w64) (length bs) _ (refl, rb .0) $ fjoin ! $ owned ! usize (Is usize) (uint-makes 𝓤 H A W w64) (length xs) _ (refl, ra .0) $ fjoin ! $ owned ! usize (Is usize) (uint-makes 𝓤 H A W w64) (length ys) _ (refl, room .0) $ fjoin ! $ nothing ! $ join ! $ frame ! $ done !
+          qed W [] ∵ nothing ! $ owned ! usize (Is usize) (uint-makes 𝓤 H A W w64) (length ds) _ (refl, rd .0) $ fjoin ! $
+          owned ! usize (Is usize) (uint-makes 𝓤 H A W w64) (length cs) _ (refl, rc .0) $ fjoin ! $ owned ! usize (Is usize) (uint-makes 𝓤 H A W w64) (length bs) _ (refl, rb .0) $ fjoin ! $
+          owned ! usize (Is usize) (uint-makes 𝓤 H A W w64) (length xs) _ (refl, ra .0) $ fjoin ! $ owned ! usize (Is usize) (uint-makes 𝓤 H A W w64) (length ys) _ (refl, room .0) $ fjoin ! $
+          nothing ! $ join ! $ frame ! $ done !
 
       spelled : (r : ℕ) (v : Val) → Is usize r (v ∷ []) → v ≡ vint w64 r
       spelled r v is = ap only (uint-tells w64 r (v ∷ []) is)
 
     -- the MIR, up to the loop
-    walk : (𝓣 : Tables 𝓤 H) → Triple 𝓤 (𝓣 .C least-of-def.name) (LeastOf 𝓤 H A mem run) → ent 𝓤 (onEntry 𝓤 H A apart.signature κs qs args at) (WpFn 𝓤 H (𝓣 .C) (𝓣 .Λ) code.function (mach s (length ys) ∷ mach sa (length xs) ∷ mach sb (length bs) ∷ mach sc (length cs) ∷ mach sd (length ds) ∷ []) Post)
+    walk : (𝓣 : Tables 𝓤 H) → Triple 𝓤 (𝓣 .C least-of-def.name) (LeastOf 𝓤 H A mem run)
+        → ent 𝓤 (onEntry 𝓤 H A apart.signature κs qs args at) (WpFn 𝓤 H (𝓣 .C) (𝓣 .Λ) code.function (mach s (length ys) ∷ mach sa (length xs) ∷ mach sb (length bs) ∷ mach sc (length cs)
+        ∷ mach sd (length ds) ∷ []) Post)
     walk 𝓣 known =
         qed W ((‵ (flft (s .lft) (s .share)) ⊛ (‵ (flft (sa .lft) (sa .share)) ⊛ (‵ (flft (sb .lft) (sb .share)) ⊛ (‵ (flft (sc .lft) (sc .share)) ⊛ (‵ (flft (sd .lft) (sd .share)) ⊛ ‵ ftrue)))))
-        ∷ ‵ (owns (ShrSlice (named 0) (s .lft) T.the-row ∷ MutSlice (named 1) (sa .lft) u32 ∷ MutSlice (named 2) (sb .lft) u32 ∷ MutSlice (named 3) (sc .lft) u32 ∷ MutSlice (named 4) (sd .lft) u32 ∷ []) args at) ∷ []) ∵
+        ∷ ‵ (owns (ShrSlice (named 0) (s .lft) T.the-row ∷ MutSlice (named 1) (sa .lft) u32 ∷ MutSlice (named 2) (sb .lft) u32 ∷ MutSlice (named 3) (sc .lft) u32
+        ∷ MutSlice (named 4) (sd .lft) u32 ∷ []) args at) ∷ []) ∵
         -- the tokens, and what each slice is without its fact: [d's obs and borrow; c's; b's; a's; res; links's fractured borrow; the tokens, the last first]
         split ! $ move ! (1 ∷ []) $ split ! $ move ! (1 ∷ []) $ split ! $ move ! (1 ∷ []) $ split ! $ move ! (1 ∷ []) $ split ! $ move ! (1 ∷ []) $ drop ! $
         move ! (5 ∷ []) $ fsplit ! $ fsplit ! $ drop ! $ fsplit ! $ move ! (2 ∷ []) $ fsplit ! $ fsplit ! $ drop ! $ fsplit ! $ move ! (2 ∷ []) $ fsplit ! $ fsplit ! $ drop ! $ fsplit ! $
         move ! (2 ∷ []) $ fsplit ! $ fsplit ! $ drop ! $ fsplit ! $ move ! (2 ∷ []) $ fsplit ! $ fsplit ! $ drop ! $ fsplit ! $ move ! (2 ∷ []) $ drop ! $
         enter ! (𝓣 .C) (𝓣 .Λ) code.function (mach s (length ys) ∷ mach sa (length xs) ∷ mach sb (length bs) ∷ mach sc (length cs) ∷ mach sd (length ds) ∷ []) _ $
-        alloc1 ! (λ l₀. alloc1 ! (λ l₁. alloc1 ! (λ l₂. alloc1 ! (λ l₃. alloc1 ! (λ l₄. alloc1 ! (λ l₅. alloc1 ! (λ l₆. alloc1 ! (λ l₇. alloc1 ! (λ l₈. alloc1 ! (λ l₉. alloc1 ! (λ l₁₀. alloc1 ! (λ l₁₁. alloc1 ! (λ l₁₂. alloc1 ! (λ l₁₃. alloc1 ! (λ l₁₄. alloc1 ! (λ l₁₅. alloc1 ! (λ l₁₆. alloc1 ! (λ l₁₇. alloc1 ! (λ l₁₈. alloc1 ! (λ l₁₉. alloc1 ! (λ l₂₀. alloc1 ! (λ l₂₁. alloc0 ! $ params1 ! $
-        pass1 ! (init ! 40 refl (tt, (tt, (record { fits = room .0 }, tt)))) $ pass1 ! (init ! 38 refl (tt, (tt, (record { fits = ra .0 }, tt)))) $ pass1 ! (init ! 36 refl (tt, (tt, (record { fits = rb .0 }, tt)))) $ pass1 ! (init ! 34 refl (tt, (tt, (record { fits = rc .0 }, tt)))) $ pass1 ! (init ! 32 refl (tt, (tt, (record { fits = rd .0 }, tt)))) $ pass0 ! $
+        alloc1 ! (λ l₀. alloc1 ! (λ l₁. alloc1 ! (λ l₂. alloc1 ! (λ l₃. alloc1 ! (λ l₄. alloc1 ! (λ l₅. alloc1 ! (λ l₆. alloc1 ! (λ l₇. alloc1 ! (λ l₈. alloc1 ! (λ l₉. alloc1 ! (λ l₁₀. alloc1 !
+        (λ l₁₁. alloc1 ! (λ l₁₂. alloc1 ! (λ l₁₃. alloc1 ! (λ l₁₄. alloc1 ! (λ l₁₅. alloc1 ! (λ l₁₆. alloc1 ! (λ l₁₇. alloc1 ! (λ l₁₈. alloc1 ! (λ l₁₉. alloc1 ! (λ l₂₀. alloc1 !
+        (λ l₂₁. alloc0 ! $ params1 ! $
+        pass1 ! (init ! 40 refl (tt, (tt, (record { fits = room .0 }, tt)))) $ pass1 ! (init ! 38 refl (tt, (tt, (record { fits = ra .0 }, tt)))) $
+        pass1 ! (init ! 36 refl (tt, (tt, (record { fits = rb .0 }, tt)))) $ pass1 ! (init ! 34 refl (tt, (tt, (record { fits = rc .0 }, tt)))) $
+        pass1 ! (init ! 32 refl (tt, (tt, (record { fits = rd .0 }, tt)))) $ pass0 ! $
         -- the lengths
         assigns ! (of-opd ! (load ! (from ! (fld ! refl (stop !))) (look-in ! 40 (sub ! 1 refl (whole !))))) (from ! (stop !)) (init ! 24 refl (tt, record { fits = room .0 })) $
         assigns ! (of-opd ! (load ! (from ! (fld ! refl (stop !))) (look-in ! 38 (sub ! 1 refl (whole !))))) (from ! (stop !)) (init ! 22 refl (tt, record { fits = ra .0 })) $
@@ -303,29 +386,65 @@ module _ {M : Type 1} (𝓤 : URA M) (H : Heap 𝓤) (A : Atoms 𝓤) (W : Given
         assigns ! (of-opd ! (load ! (from ! (fld ! refl (stop !))) (look-in ! 32 (sub ! 1 refl (whole !))))) (from ! (stop !)) (init ! 16 refl (tt, record { fits = rd .0 })) $
         -- n = least_of(..)
         use0 W (raw (LeastOf 𝓤 H A mem run .pre (to-least 𝓣))) (goes-least 𝓣) $
-        calls-at ! (fmOf 𝓤 H (W .laws) 𝓣) (LeastOf 𝓤 H A mem run) known (to-least 𝓣) (and-then ! (load ! (from ! (stop !)) (look ! 25 refl)) (and-then ! (load ! (from ! (stop !)) (look ! 23 refl)) (and-then ! (load ! (from ! (stop !)) (look ! 21 refl)) (and-then ! (load ! (from ! (stop !)) (look ! 19 refl)) (and-then ! (load ! (from ! (stop !)) (look ! 17 refl)) (no-more !)))))) (λ v.
-        use1 W (later (some (λ (r : ℕ). (‵ ftrue ⊛ ‵ (usize .own r (v ∷ []))) ⊛ raw (ensured 𝓤 H A least-of.ended (least-of.clauses 𝓤 H A mem run) tt (length ys, (length xs, (length bs, (length cs, (length ds, tt))))) tt r)))) (id⊢ 𝓤 _) $ await ! tt $ pick ! (λ r.
+        calls-at ! (fmOf 𝓤 H (W .laws) 𝓣) (LeastOf 𝓤 H A mem run) known (to-least 𝓣) (and-then ! (load ! (from ! (stop !)) (look ! 25 refl)) (and-then ! (load ! (from ! (stop !))
+        (look ! 23 refl)) (and-then ! (load ! (from ! (stop !)) (look ! 21 refl)) (and-then ! (load ! (from ! (stop !)) (look ! 19 refl)) (and-then ! (load ! (from ! (stop !)) (look ! 17 refl))
+        (no-more !)))))) (λ v.
+        use1 W (later (some (λ (r : ℕ). (‵ ftrue ⊛ ‵ (usize .own r (v
+        ∷ []))) ⊛ raw (ensured 𝓤 H A least-of.ended (least-of.clauses 𝓤 H A mem run) tt (length ys, (length xs, (length bs, (length cs, (length ds, tt))))) tt r)))) (id⊢ 𝓤 _) $ await ! tt $
+        pick ! (λ r.
         split ! $ move ! (1 ∷ []) $ use1 W (raw (fact 𝓤 (r ≡ n))) (least-is 𝓤 H A mem run (length ys) (length xs) (length bs) (length cs) (length ds) r) $ heard ! (r ≡ n) (λ e. split ! $ drop ! $
         peeks ! usize (Is usize) (shows 𝓤 H A usize) r (v ∷ []) (λ is.
-        land ! (from ! (stop !)) (init ! 31 refl (uint-lawful 𝓤 H A W w64 .typed r _ is .0)) $ rewrite ! 31 (λ (u : Val). ‵ (fat fullShare word l₆ 0 u)) (spelled 𝓣 r v is ∙ ap (vint w64) e) refl $ drop ! $
+        land ! (from ! (stop !)) (init ! 31 refl (uint-lawful 𝓤 H A W w64 .typed r _ is .0)) $
+        rewrite ! 31 (λ (u : Val). ‵ (fat fullShare word l₆ 0 u)) (spelled 𝓣 r v is ∙ ap (vint w64) e) refl $ drop ! $
         forget ! 24 refl $ forget ! 22 refl $ forget ! 20 refl $ forget ! 18 refl $ forget ! 16 refl $
         assigns ! (of-opd ! (lit ! tt)) (from ! (stop !)) (init ! 28 refl (tt, record { fits = lit< tt })) $
-        keep ! (58 ∷ 53 ∷ 50 ∷ 51 ∷ 57 ∷ 48 ∷ 49 ∷ 56 ∷ 46 ∷ 47 ∷ 55 ∷ 44 ∷ 45 ∷ 54 ∷ 28 ∷ 26 ∷ 12 ∷ 14 ∷ 10 ∷ 8 ∷ 6 ∷ 4 ∷ 2 ∷ 0 ∷ 40 ∷ 38 ∷ 36 ∷ 34 ∷ 32 ∷ 30 ∷ 42 ∷ 24 ∷ 22 ∷ 20 ∷ 18 ∷ 16 ∷ 52 ∷ 43 ∷ 41 ∷ 39 ∷ 37 ∷ 35 ∷ 33 ∷ 31 ∷ 29 ∷ 27 ∷ 25 ∷ 23 ∷ 21 ∷ 19 ∷ 17 ∷ 15 ∷ 13 ∷ 11 ∷ 9 ∷ 7 ∷ 5 ∷ 3 ∷ 1 ∷ []) $
-        first ! $ blocks ! $ loops ! 𝓣 Nearer Nearer-wf (At 𝓣 l₀ l₁ l₂ l₃ l₄ l₅ l₆ l₇ l₈ l₉ l₁₀ l₁₁ l₁₂ l₁₃ l₁₄ l₁₅ l₁₆ l₁₇ l₁₈ l₁₉ l₂₀ l₂₁) (turns 𝓣 l₀ l₁ l₂ l₃ l₄ l₅ l₆ l₇ l₈ l₉ l₁₀ l₁₁ l₁₂ l₁₃ l₁₄ l₁₅ l₁₆ l₁₇ l₁₈ l₁₉ l₂₀ l₂₁) (0, zero-le)))))))))))))))))))))))))))
+        keep ! (58 ∷ 53 ∷ 50 ∷ 51 ∷ 57 ∷ 48 ∷ 49 ∷ 56 ∷ 46 ∷ 47 ∷ 55 ∷ 44 ∷ 45 ∷ 54 ∷ 28 ∷ 26 ∷ 12 ∷ 14 ∷ 10 ∷ 8 ∷ 6 ∷ 4 ∷ 2 ∷ 0 ∷ 40 ∷ 38 ∷ 36 ∷ 34 ∷ 32 ∷ 30 ∷ 42 ∷ 24 ∷ 22 ∷ 20 ∷ 18 ∷ 16 ∷ 52
+        ∷ 43 ∷ 41 ∷ 39 ∷ 37 ∷ 35 ∷ 33 ∷ 31 ∷ 29 ∷ 27 ∷ 25 ∷ 23 ∷ 21 ∷ 19 ∷ 17 ∷ 15 ∷ 13 ∷ 11 ∷ 9 ∷ 7 ∷ 5 ∷ 3 ∷ 1 ∷ []) $
+        first ! $ blocks ! $ loops ! 𝓣 Nearer Nearer-wf (At 𝓣 l₀ l₁ l₂ l₃ l₄ l₅ l₆ l₇ l₈ l₉ l₁₀ l₁₁ l₁₂ l₁₃ l₁₄ l₁₅ l₁₆ l₁₇ l₁₈ l₁₉ l₂₀ l₂₁)
+        (turns 𝓣 l₀ l₁ l₂ l₃ l₄ l₅ l₆ l₇ l₈ l₉ l₁₀ l₁₁ l₁₂ l₁₃ l₁₄ l₁₅ l₁₆ l₁₇ l₁₈ l₁₉ l₂₀ l₂₁) (0, zero-le)))))))))))))))))))))))))))
 
 module _ {M : Type 1} (𝓤 : URA M) (H : Heap 𝓤) (A : Atoms 𝓤) (W : Given 𝓤 H A) (mem : Memory → SProp 𝓤) (run : Routine → Fun 𝓤) (𝓣 : Tables 𝓤 H) where
   ridgeoven-links-apart-walks : Triple 𝓤 (𝓣 .C least-of-def.name) (LeastOf 𝓤 H A mem run) → Walks 𝓤 H A apart.ended stayed (WpFn 𝓤 H (𝓣 .C) (𝓣 .Λ) code.function) (apart.clauses 𝓤 H A mem run)
   ridgeoven-links-apart-walks known = walked 𝓤 H A apart.ended stayed (apart.clauses 𝓤 H A mem run) (WpFn 𝓤 H (𝓣 .C) (𝓣 .Λ) code.function)
       (λ κs. (slice-vals, (slice-vals, (slice-vals, (slice-vals, (slice-vals, tt))))))
-      (λ κs. (shr-slice-tells (named 0) (κs .0) T.the-row, (mut-slice-tells (named 1) (κs .1 .0) u32, (mut-slice-tells (named 2) (κs .1 .1 .0) u32, (mut-slice-tells (named 3) (κs .1 .1 .1 .0) u32, (mut-slice-tells (named 4) (κs .1 .1 .1 .1 .0) u32, tt))))))
+      (λ κs. (
+        shr-slice-tells (named 0) (κs .0) T.the-row,
+        (
+          mut-slice-tells (named 1) (κs .1 .0) u32,
+          (
+            mut-slice-tells (named 2) (κs .1 .1 .0) u32,
+            (
+              mut-slice-tells (named 3)
+                  (κs .1 .1 .1 .0) u32,
+              (mut-slice-tells (named 4) (κs .1 .1 .1 .1 .0) u32, tt),
+            ),
+          ),
+        ),
+      ))
       (λ κs qs bounds a g are. via 𝓤 _ (fst∗ 𝓤 _ (emp 𝓤)) (
-      walk 𝓤 H A W mem run (lent (κs .0) (qs .0) (a .0)) (lent (κs .1 .0) (qs .1 .0) (a .1 .0)) (lent (κs .1 .1 .0) (qs .1 .1 .0) (a .1 .1 .0)) (lent (κs .1 .1 .1 .0) (qs .1 .1 .1 .0) (a .1 .1 .1 .0)) (lent (κs .1 .1 .1 .1 .0) (qs .1 .1 .1 .1 .0) (a .1 .1 .1 .1 .0))
-      (a .0 .now) (a .1 .0 .now) (a .1 .1 .0 .now) (a .1 .1 .1 .0 .now) (a .1 .1 .1 .1 .0 .now) (are .0 .0 .1) (are .1 .0 .0 .1) (are .1 .1 .0 .0 .1) (are .1 .1 .1 .0 .0 .1) (are .1 .1 .1 .1 .0 .0 .1) 𝓣 known))
+      walk 𝓤 H A W mem run (lent (κs .0) (qs .0) (a .0)) (lent (κs .1 .0) (qs .1 .0) (a .1 .0)) (lent (κs .1 .1 .0) (qs .1 .1 .0) (a .1 .1 .0)) (lent (κs .1 .1 .1 .0) (qs .1 .1 .1 .0)
+      (a .1 .1 .1 .0)) (lent (κs .1 .1 .1 .1 .0) (qs .1 .1 .1 .1 .0) (a .1 .1 .1 .1 .0))
+      (a .0 .now) (a .1 .0 .now) (a .1 .1 .0 .now) (a .1 .1 .1 .0 .now) (a .1 .1 .1 .1 .0 .now) (are .0 .0 .1) (are .1 .0 .0 .1) (are .1 .1 .0 .0 .1) (are .1 .1 .1 .0 .0 .1)
+      (are .1 .1 .1 .1 .0 .0 .1) 𝓣 known))
 
-ridgeoven-links-apart-meets : {M : Type 1} (𝓤 : URA M) (H : Heap 𝓤) (A : Atoms 𝓤) → Given 𝓤 H A → (mem : Memory → SProp 𝓤) (run : Routine → Fun 𝓤) (𝓣 : Tables 𝓤 H) → Triple 𝓤 (𝓣 .C least-of-def.name) (LeastOf 𝓤 H A mem run)
+ridgeoven-links-apart-meets : {M : Type 1} (𝓤 : URA M) (H : Heap 𝓤) (A : Atoms 𝓤) → Given 𝓤 H A → (mem : Memory → SProp 𝓤) (run : Routine → Fun 𝓤) (𝓣 : Tables 𝓤 H)
+    → Triple 𝓤 (𝓣 .C least-of-def.name) (LeastOf 𝓤 H A mem run)
     → Meets 𝓤 H A apart.signature (WpFn 𝓤 H (𝓣 .C) (𝓣 .Λ) code.function) (apart.spec 𝓤 H A mem run)
 ridgeoven-links-apart-meets 𝓤 H A W mem run 𝓣 known =
-    walk-meets 𝓤 H A apart.ended stayed W (goes-none-slice 𝓤 H A W 5 (0 ∷ []) tt (plain (λ _. T.the-row)) yes, (goes-slice 𝓤 H A W 5 1 tt (plain (λ _. u32)), (goes-slice 𝓤 H A W 5 2 tt (plain (λ _. u32)), (goes-slice 𝓤 H A W 5 3 tt (plain (λ _. u32)), (goes-slice 𝓤 H A W 5 4 tt (plain (λ _. u32)), tt)))))
+    walk-meets 𝓤 H A apart.ended stayed W (
+      goes-none-slice 𝓤 H A W 5 (0
+          ∷ []) tt (plain (λ _. T.the-row)) yes,
+      (
+        goes-slice 𝓤 H A W 5 1 tt (plain (λ _. u32)),
+        (
+          goes-slice 𝓤 H A W 5 2 tt (plain (λ _. u32)),
+          (
+            goes-slice 𝓤 H A W 5 3 tt (plain (λ _. u32)),
+            (goes-slice 𝓤 H A W 5 4 tt (plain (λ _. u32)), tt),
+          ),
+        ),
+      ),
+    )
     (apart.clauses 𝓤 H A mem run) (WpFn 𝓤 H (𝓣 .C) (𝓣 .Λ) code.function) (WpFn-mono 𝓤 H (W .laws) 𝓣 code.function) (ridgeoven-links-apart-walks 𝓤 H A W mem run 𝓣 known)
 
 pub ridgeoven-links-apart-spec : {M : Type 1} → stated.statement M
