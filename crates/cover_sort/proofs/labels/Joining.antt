@@ -20,6 +20,7 @@ use Rattle.columns.specs.Reading.{Label, labelsOf}
 use Rattle.cover.specs.Chains.{Range, rangeOf, widen, addLabel, rangesOf}
 use Rattle.cover.specs.Answers.{RangeColumns, rangeColumns}
 use Rattle.cover_rows.proofs.Columned.{over-sets}
+use Rattle.arrays.specs.pairs.Pairs.{pair, pairsOf}
 use Rattle.cover_sort.specs.packing.Keys.{keysOf}
 use Rattle.cover_sort.proofs.packing.Packed.{Narrow, length-keys}
 use Rattle.cover_sort.specs.labels.Runs.{labelOf, runRange, runs, runsOf, putRange, putRanges, rangesOver}
@@ -76,7 +77,7 @@ runs-fold [] a = refl
 runs-fold (k ∷ ks) a = fold-runs [] k k ks (both (leb 0 k) (levelAbove k ks) a .1) (omega arith) refl tt
 
 labels-back : (cs ss : List ℕ) → Each (λ s. s < end32) ss → map labelOf (keysOf cs ss) ≡ labelsOf cs ss
-unfolding keysOf labelsOf
+unfolding pairsOf pair labelsOf
 labels-back [] ss h = refl
 labels-back (c ∷ cs) [] h = refl
 labels-back (c ∷ cs) (s ∷ ss) h =
