@@ -1,3 +1,4 @@
 pub mod Elements
 pub mod Written
 pub mod Carried
+pub mod Meant

@@ -2,11 +2,16 @@
 use mathlib.Core.List.{List, [], _∷_, _++_}
 use Prim.Native.Nat.{ℕ, zero, suc, min}
 use lib.ListN.{length, drop, getD}
+use Rattle.cover.specs.Chains as chains
 use Rattle.cover_links.specs.declared.Link.{Link}
 
 -- the link that stands past the end of a list: of zeros
 abbrev pub none : Link
 none = record { «from_chain» = 0; «from_seq» = 0; «to_chain» = 0; «to_seq» = 0 }
+
+-- the link of the definitions that a record means
+abbrev pub meant : Link → chains.Link
+meant l = record { fromChain = l .«from_chain»; fromSeq = l .«from_seq»; toChain = l .«to_chain»; toSeq = l .«to_seq» }
 
 -- a link's four numbers
 abbrev pub fromChain : Link → ℕ
