@@ -1,9 +1,5 @@
 -- As many links as all five slices have room for: no more than any of them has.
-use Prim.Native.Nat.{ℕ, _≤_, min}
-use mathlib.Core.Path.{_≡_, sym, _∙_, ap}
-use mathlib.Core.List.{List}
-use lib.ListN.{length, take, getD, set}
-use lib.Seq.{getD-take, length-take-le}
+use Prim.Native.Nat.{ℕ, _≤_}
 use native.Mathlib.Omega.{arith}
 use Rattle.cover_links.specs.Links.{least}
 
