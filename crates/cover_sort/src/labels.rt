@@ -88,7 +88,7 @@ fn ranges_by(
     join_runs(keys, ids, minima, maxima)
 }
 
-// Writes the ranges of up to 64 labels: less work space is to be cleared for them.
+// Writes the ranges of up to 256 labels: less work space is to be cleared for them.
 fn ranges_few(
     chains: &[u32],
     seqs: &[u32],
@@ -96,14 +96,14 @@ fn ranges_few(
     minima: &mut [u32],
     maxima: &mut [u32],
 ) -> usize
-    requires { ⌜ (length (now seqs) ≡ length (now chains)) × (length (now chains) ≤ 64) ⌝ }
+    requires { ⌜ (length (now seqs) ≡ length (now chains)) × (length (now chains) ≤ 256) ⌝ }
     requires { ⌜ (length (now chains) ≤ length (now ids)) × ((length (now chains) ≤ length (now minima)) × (length (now chains) ≤ length (now maxima))) ⌝ }
     ensures { λ r. ⌜ r ≡ length (rangesOf (labelsOf (now (chains .entry)) (now (seqs .entry)))) ⌝ }
     ensures { λ _. ⌜ rangeColumns (now (ids .exit)) (now (minima .exit)) (now (maxima .exit)) ≡ rangesOver (rangesOf (labelsOf (now (chains .entry)) (now (seqs .entry)))) (rangeColumns (now (ids .entry)) (now (minima .entry)) (now (maxima .entry))) ⌝ }
 {
     let n = chains.len();
-    let mut keys = [0u64; 64];
-    let mut w = [0u64; 64];
+    let mut keys = [0u64; 256];
+    let mut w = [0u64; 256];
     ranges_by(chains, seqs, &mut keys[..n], &mut w, ids, minima, maxima)
 }
 
@@ -139,7 +139,7 @@ pub fn ranges_of(
     ensures { λ r. ⌜ r ≡ length (rangesOf (labelsOf (now (chains .entry)) (now (seqs .entry)))) ⌝ }
     ensures { λ _. ⌜ rangeColumns (now (ids .exit)) (now (minima .exit)) (now (maxima .exit)) ≡ rangesOver (rangesOf (labelsOf (now (chains .entry)) (now (seqs .entry)))) (rangeColumns (now (ids .entry)) (now (minima .entry)) (now (maxima .entry))) ⌝ }
 {
-    if chains.len() <= 64 {
+    if chains.len() <= 256 {
         return ranges_few(chains, seqs, ids, minima, maxima);
     }
     ranges_many(chains, seqs, ids, minima, maxima)
