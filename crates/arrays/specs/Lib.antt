@@ -1,3 +1,4 @@
+pub mod pairs
 pub mod searching
 pub mod sorting
 pub mod table

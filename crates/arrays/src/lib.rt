@@ -1,4 +1,5 @@
-// Work on lent arrays of numbers: sorting, binary search, and a set of numbers in buckets.
+// Work on lent arrays of numbers: sorting them and pairs of them, binary search, and a set of numbers in buckets.
+pub mod pairs;
 pub mod searching;
 pub mod sorting;
 pub mod table;

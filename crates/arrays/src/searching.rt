@@ -1,5 +1,4 @@
-// Whether a number stands in a part of a column, and where it stands in a column that doesn't fall: binary searches over columns of 32 and of
-// 64 bits.
+// Whether a number stands in a part of a column, and where it stands in a column of 32 bits that doesn't fall: a binary search.
 ghost use mathlib.Core.Path.{_≡_};
 ghost use mathlib.Core.Bool.{true};
 ghost use Prim.Native.Nat.{_≤_};
@@ -40,25 +39,6 @@ pub fn place_in_narrow(a: &[u32], x: u64) -> usize
     while low < high {
         let middle = low + (high - low) / 2;
         let y = wide(a[middle]);
-        if y < x {
-            low = middle + 1;
-        } else {
-            high = middle;
-        }
-    }
-    low
-}
-
-// How many numbers of a column of 64 bits are below x.
-pub fn place_in_wide(a: &[u64], x: u64) -> usize
-    requires { ⌜ notFalling (now a) ≡ true ⌝ }
-    ensures { λ r. ⌜ (r ≤ length (now (a .entry))) × (r ≡ placeOf x (now (a .entry))) ⌝ }
-{
-    let mut low = 0;
-    let mut high = a.len();
-    while low < high {
-        let middle = low + (high - low) / 2;
-        let y = a[middle];
         if y < x {
             low = middle + 1;
         } else {

@@ -1,23 +1,16 @@
--- The loops over links that don't fall: the test, and the places written in turn.
+-- The loop that tests whether links fall.
 use mathlib.Core.Path.{_≡_, refl, sym, _∙_, ap}
 use mathlib.Core.Bool.{Bool, true, false}
 use mathlib.Core.List.{List}
-use Prim.Native.Nat.{ℕ, zero, suc, _+_, _-_, _≤_, _<_}
+use Prim.Native.Nat.{ℕ, zero, suc, _+_, _≤_, _<_}
 use native.Mathlib.Numerals.{add-one}
 use native.Mathlib.Omega.{arith}
-use lib.ListN.{length, set}
-use lib.Seq.{sets}
-use Rattle.lists.specs.Lists.{upFrom}
-use Rattle.lists.proofs.Flat.{length-upFrom}
+use lib.ListN.{length}
 use Rattle.cover.specs.Chains.{linkLess}
 use Rattle.cover.specs.Cover.{linksOf}
-use Rattle.cover.specs.Answers.{over}
 use Rattle.cover.specs.Places.{rowAt, rowsFrom}
-use Rattle.cover_rows.proofs.Columned.{over-sets}
 use Rattle.cover_rows.proofs.Rowed.{rows-cons, rows-all, rows-none}
 use Rattle.cover_sort.specs.Kept.{levelFrom, linksLevel}
-
--- ── the test ─────────────────────────────────────────────────────────────────────────────────
 
 module _ (a b c d : List ℕ) (p : length b ≡ length a) (q : length c ≡ length a) (r : length d ≡ length a) where
   from-first : (n : ℕ) → length a ≡ n → linksLevel (rowsFrom a b c d 0) ≡ levelFrom (rowAt a b c d 0) (rowsFrom a b c d 1)
@@ -41,17 +34,3 @@ module _ (a b c d : List ℕ) (p : length b ≡ length a) (q : length c ≡ leng
 pub level-done : (a b c d : List ℕ) {t : Bool} (i : ℕ) → t ≡ levelFrom (rowAt a b c d i) (rowsFrom a b c d (i + 1)) → length a ≤ i + 1 → true ≡ t
 unfolding levelFrom
 level-done a b c d i e h = rw (e, rows-none a b c d (i + 1) h)
-
--- ── the places ───────────────────────────────────────────────────────────────────────────────
-
-pub turn-start : (n : ℕ) (order : List ℕ) → n ≤ length order → over (upFrom 0 n) order ≡ sets order 0 (upFrom 0 (n - 0))
-turn-start n order h = let z : n - 0 ≡ n = omega arith in rw z (over-sets (upFrom 0 n) order (rw (length-upFrom 0 n) h))
-
-module _ {t : List ℕ} (order : List ℕ) (n i : ℕ) (e : t ≡ sets order i (upFrom i (n - i))) where
-  pub turn-done : n ≤ i → order ≡ t
-  unfolding upFrom
-  turn-done h = let z : n - i ≡ 0 = omega arith in rw (e, z)
-
-  pub turn-on : i < n → t ≡ sets (set order i i) (i + 1) (upFrom (i + 1) (n - (i + 1)))
-  unfolding upFrom
-  turn-on h = let z : n - i ≡ suc (n - (i + 1)) = omega arith in rw (e, z, add-one)

@@ -1,4 +1,4 @@
 pub mod Kept
-pub mod codes
+pub mod Numbers
 pub mod labels
 pub mod packing

@@ -69,8 +69,46 @@ fn join_runs(keys: &[u64], ids: &mut [u32], minima: &mut [u32], maxima: &mut [u3
     join_from(keys, keys[0], ids, minima, maxima)
 }
 
-// Writes each chain's least and greatest seq, by rising chain id, and answers how many chains there are.
-pub fn ranges_of(
+// Writes each chain's range by way of as many keys. w is work space and keeps what is left there.
+fn ranges_by(
+    chains: &[u32],
+    seqs: &[u32],
+    keys: &mut [u64],
+    w: &mut [u64],
+    ids: &mut [u32],
+    minima: &mut [u32],
+    maxima: &mut [u32],
+) -> usize
+    requires { ⌜ (length (now seqs) ≡ length (now chains)) × ((length (now keys) ≡ length (now chains)) × (length (now chains) ≤ length (now w))) ⌝ }
+    requires { ⌜ (length (now chains) ≤ length (now ids)) × ((length (now chains) ≤ length (now minima)) × (length (now chains) ≤ length (now maxima))) ⌝ }
+    ensures { λ r. ⌜ r ≡ length (rangesOf (labelsOf (now (chains .entry)) (now (seqs .entry)))) ⌝ }
+    ensures { λ _. ⌜ rangeColumns (now (ids .exit)) (now (minima .exit)) (now (maxima .exit)) ≡ rangesOver (rangesOf (labelsOf (now (chains .entry)) (now (seqs .entry)))) (rangeColumns (now (ids .entry)) (now (minima .entry)) (now (maxima .entry))) ⌝ }
+{
+    crate::packing::put_sorted_keys(chains, seqs, keys, w);
+    join_runs(keys, ids, minima, maxima)
+}
+
+// Writes the ranges of up to 256 labels: less work space is to be cleared for them.
+fn ranges_few(
+    chains: &[u32],
+    seqs: &[u32],
+    ids: &mut [u32],
+    minima: &mut [u32],
+    maxima: &mut [u32],
+) -> usize
+    requires { ⌜ (length (now seqs) ≡ length (now chains)) × (length (now chains) ≤ 256) ⌝ }
+    requires { ⌜ (length (now chains) ≤ length (now ids)) × ((length (now chains) ≤ length (now minima)) × (length (now chains) ≤ length (now maxima))) ⌝ }
+    ensures { λ r. ⌜ r ≡ length (rangesOf (labelsOf (now (chains .entry)) (now (seqs .entry)))) ⌝ }
+    ensures { λ _. ⌜ rangeColumns (now (ids .exit)) (now (minima .exit)) (now (maxima .exit)) ≡ rangesOver (rangesOf (labelsOf (now (chains .entry)) (now (seqs .entry)))) (rangeColumns (now (ids .entry)) (now (minima .entry)) (now (maxima .entry))) ⌝ }
+{
+    let n = chains.len();
+    let mut keys = [0u64; 256];
+    let mut w = [0u64; 256];
+    ranges_by(chains, seqs, &mut keys[..n], &mut w, ids, minima, maxima)
+}
+
+// Writes the ranges of labels.
+fn ranges_many(
     chains: &[u32],
     seqs: &[u32],
     ids: &mut [u32],
@@ -84,6 +122,25 @@ pub fn ranges_of(
 {
     let n = chains.len();
     let mut keys = [0u64; 1024];
-    crate::packing::put_sorted_keys(chains, seqs, &mut keys);
-    join_runs(&keys[..n], ids, minima, maxima)
+    let mut w = [0u64; 1024];
+    ranges_by(chains, seqs, &mut keys[..n], &mut w, ids, minima, maxima)
+}
+
+// Writes each chain's least and greatest seq, by rising chain id, and answers how many chains there are.
+pub fn ranges_of(
+    chains: &[u32],
+    seqs: &[u32],
+    ids: &mut [u32],
+    minima: &mut [u32],
+    maxima: &mut [u32],
+) -> usize
+    requires { ⌜ (length (now seqs) ≡ length (now chains)) × (length (now chains) ≤ 1024) ⌝ }
+    requires { ⌜ (length (now chains) ≤ length (now ids)) × ((length (now chains) ≤ length (now minima)) × (length (now chains) ≤ length (now maxima))) ⌝ }
+    ensures { λ r. ⌜ r ≡ length (rangesOf (labelsOf (now (chains .entry)) (now (seqs .entry)))) ⌝ }
+    ensures { λ _. ⌜ rangeColumns (now (ids .exit)) (now (minima .exit)) (now (maxima .exit)) ≡ rangesOver (rangesOf (labelsOf (now (chains .entry)) (now (seqs .entry)))) (rangeColumns (now (ids .entry)) (now (minima .entry)) (now (maxima .entry))) ⌝ }
+{
+    if chains.len() <= 256 {
+        return ranges_few(chains, seqs, ids, minima, maxima);
+    }
+    ranges_many(chains, seqs, ids, minima, maxima)
 }

@@ -6,9 +6,11 @@
 //! ```
 
 mod boundary;
+mod links;
 mod refusal;
 mod run;
 
+pub use links::{Cover, LINKS_MAX, Link, Range, build_cover, links_from, sort_links, store_links};
 pub use refusal::Refusal;
 pub use run::Run;
 

@@ -7,7 +7,7 @@ use Prim.Native.Nat.{ℕ, suc, _+_, _*_, _/_, _%_, _≤_, _<_}
 use native.Mathlib.Numerals.{add-one}
 use native.Mathlib.Omega.{arith}
 use lib.Dec.{ltb, leb, eqb}
-use lib.ListN.{length, take, drop, getD, set, drop-of-length-le, length-map}
+use lib.ListN.{length, drop, getD, set, drop-of-length-le, length-map}
 use lib.Seq.{drop-cons}
 use borrow.Author.Tests.{le-ltb, ltb-false, leb-true, eq-eqb, ne-eqb, eqb-true, eqb-false}
 use Rattle.lists.specs.Lists.{Each}
@@ -18,8 +18,9 @@ use Rattle.lists.proofs.Rising.{sort-level, length-sort}
 use Rattle.columns.specs.Limits.{end32}
 use Rattle.columns.specs.Reading.{Label, labelsOf}
 use Rattle.cover.specs.Chains.{Range, rangeOf, widen, addLabel, rangesOf}
-use Rattle.cover.specs.Answers.{RangeColumns, rangeColumns, over}
-use Rattle.cover_rows.proofs.Columned.{over-sets, take-over}
+use Rattle.cover.specs.Answers.{RangeColumns, rangeColumns}
+use Rattle.cover_rows.proofs.Columned.{over-sets}
+use Rattle.arrays.specs.pairs.Pairs.{pair, pairsOf}
 use Rattle.cover_sort.specs.packing.Keys.{keysOf}
 use Rattle.cover_sort.proofs.packing.Packed.{Narrow, length-keys}
 use Rattle.cover_sort.specs.labels.Runs.{labelOf, runRange, runs, runsOf, putRange, putRanges, rangesOver}
@@ -76,7 +77,7 @@ runs-fold [] a = refl
 runs-fold (k ∷ ks) a = fold-runs [] k k ks (both (leb 0 k) (levelAbove k ks) a .1) (omega arith) refl tt
 
 labels-back : (cs ss : List ℕ) → Each (λ s. s < end32) ss → map labelOf (keysOf cs ss) ≡ labelsOf cs ss
-unfolding keysOf labelsOf
+unfolding pairsOf pair labelsOf
 labels-back [] ss h = refl
 labels-back (c ∷ cs) [] h = refl
 labels-back (c ∷ cs) (s ∷ ss) h =
@@ -180,29 +181,23 @@ puts-over rs a b c h g k =
     let o = sym (over-sets (map (λ r. r .greatest) rs) c (rw length-map k)) in
     λ i. record { ids = p i; minima = q i; maxima = o i }
 
-module _ (cs ss keys v : List ℕ) (e : keys ≡ over (sort (keysOf cs ss)) v) (h : length ss ≡ length cs) where
-  front : take (length cs) keys ≡ sort (keysOf cs ss)
-  front = rw e (take-over (sort (keysOf cs ss)) v (length cs) (length-sort (keysOf cs ss) ∙ length-keys cs ss h))
+module _ (cs ss keys : List ℕ) (e : keys ≡ sort (keysOf cs ss)) (h : length ss ≡ length cs) where
+  long : length keys ≡ length cs
+  long = ap length e ∙ length-sort (keysOf cs ss) ∙ length-keys cs ss h
 
-  long : length (take (length cs) keys) ≡ length cs
-  long = ap length front ∙ length-sort (keysOf cs ss) ∙ length-keys cs ss h
-
-  pub front-count : length cs ≡ length (take (length cs) keys)
-  front-count = sym long
-
-  pub front-room : (n : ℕ) → length cs ≤ n → length (take (length cs) keys) ≤ n
-  front-room n k = omega (arith, long)
+  pub keys-room : (n : ℕ) → length cs ≤ n → length keys ≤ n
+  keys-room n k = omega (arith, long)
 
   module _ (small : Narrow ss) where
-    same : runsOf (take (length cs) keys) ≡ rangesOf (labelsOf cs ss)
-    same = ap runsOf front ∙ ranges-runs cs ss (small .each)
+    same : runsOf keys ≡ rangesOf (labelsOf cs ss)
+    same = ap runsOf e ∙ ranges-runs cs ss (small .each)
 
-    pub labels-count : {r : ℕ} → r ≡ length (runsOf (take (length cs) keys)) → r ≡ length (rangesOf (labelsOf cs ss))
+    pub labels-count : {r : ℕ} → r ≡ length (runsOf keys) → r ≡ length (rangesOf (labelsOf cs ss))
     labels-count f = f ∙ ap length same
 
-    pub labels-put : (a b c : List ℕ) (o : RangeColumns) → o ≡ putRanges 0 (runsOf (take (length cs) keys)) (rangeColumns a b c) → length cs ≤ length a → length cs ≤ length b → length cs ≤ length c
+    pub labels-put : (a b c : List ℕ) (o : RangeColumns) → o ≡ putRanges 0 (runsOf keys) (rangeColumns a b c) → length cs ≤ length a → length cs ≤ length b → length cs ≤ length c
         → o ≡ rangesOver (rangesOf (labelsOf cs ss)) (rangeColumns a b c)
     labels-put a b c o f k m n =
-        let z = few-of (take (length cs) keys) in
+        let z = few-of keys in
         let y = long in
-        f ∙ puts-over (runsOf (take (length cs) keys)) a b c (omega arith) (omega arith) (omega arith) ∙ ap (λ rs. rangesOver rs (rangeColumns a b c)) same
+        f ∙ puts-over (runsOf keys) a b c (omega arith) (omega arith) (omega arith) ∙ ap (λ rs. rangesOver rs (rangeColumns a b c)) same

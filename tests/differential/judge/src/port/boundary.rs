@@ -1,4 +1,4 @@
-//! The functions of the proved library's crates `ffi_columns`, `ffi_build`, `ffi_cover`, `ffi_archive`, `ffi_clean` and `ffi_run`. A slice is two
+//! The functions of the proved library's crates `ffi_columns`, `ffi_build`, `ffi_cover`, `cover_links`, `ffi_archive`, `ffi_clean` and `ffi_run`. A slice is two
 //! parameters, its pointer and its length. Every function answers a record whose first part is a refusal's number, or 0; outputs are
 //! lent. The README beside the workspace says what each is given.
 
@@ -84,6 +84,16 @@ pub struct Renumbered {
     pub number: u64,
 }
 
+/// A link as the library's records have it.
+#[derive(Clone, Copy, Debug, PartialEq)]
+#[repr(C)]
+pub struct Link {
+    pub from_chain: u32,
+    pub from_seq: u32,
+    pub to_chain: u32,
+    pub to_seq: u32,
+}
+
 unsafe extern "C" {
     pub fn ridgeoven_new() -> Run;
     pub fn ridgeoven_take(run: Run, bytes: *const u8, bytes_len: usize) -> Step;
@@ -162,6 +172,16 @@ unsafe extern "C" {
         count: u64, offsets: *const u64, offsets_len: usize, deltas: *const i64, deltas_len: usize,
         kind: u64, a: u64, b: u64,
     ) -> Ancestor;
+
+    pub fn ridgeoven_links_apart(
+        links: *const Link, links_len: usize,
+        a: *mut u32, a_len: usize, b: *mut u32, b_len: usize, c: *mut u32, c_len: usize, d: *mut u32, d_len: usize,
+    ) -> usize;
+
+    pub fn ridgeoven_links_together(
+        a: *const u32, a_len: usize, b: *const u32, b_len: usize, c: *const u32, c_len: usize, d: *const u32, d_len: usize,
+        links: *mut Link, links_len: usize,
+    ) -> usize;
 
     pub fn ridgeoven_cover_store(
         from_chains: *const u32, from_chains_len: usize, from_seqs: *const u32, from_seqs_len: usize,

@@ -1,5 +1,7 @@
 //! Slices lent for an answer, filled with a pattern, so that entries that must keep their value are seen to.
 
+use super::boundary::Link;
+
 pub const OFFSETS: usize = 2049;
 pub const NUMBERS: usize = 4096;
 pub const RECORDS: usize = 1024;
@@ -14,6 +16,10 @@ macro_rules! patterns {
 }
 
 patterns!(u8, u32, u64, i64);
+
+impl Pattern for Link {
+    const PATTERN: Self = Link { from_chain: 0x5a, from_seq: 0x5a, to_chain: 0x5a, to_seq: 0x5a };
+}
 
 pub struct Lent<T>(Vec<T>);
 

@@ -2,7 +2,7 @@
 
 use super::boundary::{
     self, ridgeoven_ancestor, ridgeoven_build, ridgeoven_chain_links, ridgeoven_children, ridgeoven_cover_build, ridgeoven_cover_read,
-    ridgeoven_cover_store, ridgeoven_label, ridgeoven_next, ridgeoven_parents, ridgeoven_read_granule, ridgeoven_read_set, ridgeoven_roots,
+    ridgeoven_cover_store, ridgeoven_label, ridgeoven_links_apart, ridgeoven_links_together, ridgeoven_next, ridgeoven_parents, ridgeoven_read_granule, ridgeoven_read_set, ridgeoven_roots,
     ridgeoven_walk, ridgeoven_window,
 };
 use super::lent::{Lent, NUMBERS, OFFSETS, Pattern, RECORDS};
@@ -257,8 +257,31 @@ fn records(answer: &boundary::Answer, out: &[Lent<u32>]) -> Asked {
     Ok(Ok(taken(out, answer.length)?))
 }
 
+/// Four columns are put together as records and taken apart again: as many links as the shortest column has, and nothing past them.
+fn through_records([a, b, c, d]: [&[u32]; 4]) -> Result<(), String> {
+    let n = [a, b, c, d].map(<[u32]>::len).into_iter().min().unwrap_or(0);
+    let mut records = Lent::<boundary::Link>::new(n + 1);
+    let put = unsafe {
+        ridgeoven_links_together(
+            a.as_ptr(), a.len(), b.as_ptr(), b.len(), c.as_ptr(), c.len(), d.as_ptr(), d.len(), records.at(), records.len(),
+        )
+    };
+    let wanted = |at: usize| boundary::Link { from_chain: a[at], from_seq: b[at], to_chain: c[at], to_seq: d[at] };
+    if put != n || !records.taken(put)?.iter().enumerate().all(|(at, link)| *link == wanted(at)) {
+        return Err("columns are put together as other records".into());
+    }
+    let mut back: [Lent<u32>; 4] = std::array::from_fn(|_| Lent::new(n + 1));
+    let [w, x, y, z] = &mut back;
+    let taken = unsafe {
+        ridgeoven_links_apart(records.at(), n, w.at(), w.len(), x.at(), x.len(), y.at(), y.len(), z.at(), z.len())
+    };
+    let same = back.iter().zip([a, b, c, d]).all(|(column, given)| column.taken(n).is_ok_and(|numbers| *numbers == given[..n]));
+    if taken == n && same { Ok(()) } else { Err("records are taken apart into other columns".into()) }
+}
+
 fn cover(p: &[Part]) -> Asked {
     let [chains, seqs, a, b, c, d] = columns(p);
+    through_records([&a, &b, &c, &d])?;
     let (mut ranges, mut links) = (lent::<3>(), lent::<4>());
     let ([i, j, k], [w, x, y, z]) = (&mut ranges, &mut links);
     let built = unsafe {

@@ -1,0 +1,52 @@
+//! Links as records: sorted in place, built into a cover, stored and asked for.
+
+use ridgeoven::{Link, Range, Refusal, build_cover, links_from, sort_links, store_links};
+
+fn link(numbers: [u32; 4]) -> Link {
+    let [from_chain, from_seq, to_chain, to_seq] = numbers;
+    Link { from_chain, from_seq, to_chain, to_seq }
+}
+
+#[test]
+fn links_are_sorted_in_place() {
+    let mut links = [[3, 1, 1, 1], [2, 9, 1, 1], [3, 1, 1, 1], [2, 9, 1, 0]].map(link);
+    assert_eq!(sort_links(&mut links), Ok(3));
+    assert_eq!(links, [[2, 9, 1, 0], [2, 9, 1, 1], [3, 1, 1, 1], [2, 9, 1, 0]].map(link));
+    assert_eq!(sort_links(&mut []), Ok(0));
+}
+
+#[test]
+fn many_links_are_sorted_as_the_standard_library_does() {
+    let mut state = 1u64;
+    let mut next = |below: u64| {
+        state = state.wrapping_mul(6_364_136_223_846_793_005).wrapping_add(1_442_695_040_888_963_407);
+        ((state >> 33) % below) as u32
+    };
+    for count in [1, 17, 64, 65, 300, 1024] {
+        for below in [2, 40, 1 << 31] {
+            let mut links: Vec<Link> = (0..count).map(|_| link([next(below), next(below), next(below), next(below)])).collect();
+            let mut wanted = links.clone();
+            wanted.sort_unstable();
+            wanted.dedup();
+            let kept = sort_links(&mut links).expect("so many are taken");
+            assert_eq!(links[..kept], wanted);
+        }
+    }
+}
+
+#[test]
+fn a_cover_is_built_stored_and_asked() {
+    let links = [[5, 1, 7, 2], [3, 4, 5, 1]].map(link);
+    let cover = build_cover(&[(5, 9), (3, 4), (5, 1)], &links).expect("it is sound");
+    assert_eq!(cover.ranges, [Range { chain: 3, least: 4, greatest: 4 }, Range { chain: 5, least: 1, greatest: 9 }]);
+    assert_eq!(cover.links, [[3, 4, 5, 1], [5, 1, 7, 2]].map(link));
+    let stored = store_links(&cover.links).expect("they are few");
+    assert_eq!(stored, [vec![3, 2], vec![4, 1], vec![5, 7], vec![1, 2]]);
+    assert_eq!(links_from(&stored, &[5, 8]), Ok(vec![link([5, 1, 7, 2])]));
+    assert_eq!(links_from(&store_links(&links).expect("any order is stored"), &[5]), Err(Refusal(22)));
+}
+
+#[test]
+fn too_many_links_are_refused() {
+    assert_eq!(sort_links(&mut vec![Link::default(); 1025]), Err(Refusal(42)));
+}
