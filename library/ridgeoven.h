@@ -46,8 +46,9 @@ ridgeoven_answer ridgeoven_words(uint64_t refusal, uint8_t *out, size_t room);
 /* ── step by step ──────────────────────────────────────────────────────────────────────────────
  * A run is a value, given and given back: a host may take several archives into it, ask after resolving, and write more than once. A
  * call out of turn is 40. After a refusal the run is the one that was given. What is promised of a cleaned archive is promised of runs
- * that ridgeoven_new and the calls after it gave: a value is tested for a run's form, and one of another form answers 40 to every
- * call; one that has the form is answered by what it holds, whoever made it. */
+ * that ridgeoven_new and the calls after it gave: a value is tested for a run's form, that of a resolved one also for lists that name
+ * each parent once, and one of another form answers 40 to every call; one that has the form is answered by what it holds, whoever made
+ * it. */
 
 #define RIDGEOVEN_RUN_WORDS 40992
 

@@ -1,6 +1,6 @@
 -- Numbers and other things one after the other in bytes.
 use mathlib.Core.Path.{_≡_, refl, _∙_, ap}
-use mathlib.Core.List.{List, [], _∷_}
+use mathlib.Core.List.{List, [], _∷_, map}
 use Prim.Native.Nat.{ℕ, zero, suc, _≤_, _<_, _+_, _-_}
 use native.Mathlib.Nat.{add-zero}
 use native.Mathlib.Omega.{arith}
@@ -25,3 +25,10 @@ module _ {A : Type 0} (w : ℕ) (f : List ℕ → A) (n i : ℕ) (l : List ℕ) 
   pub several-cons : i < n → several w f (n - i) (drop p l) ≡ f (drop p l) ∷ several w f (n - (i + 1)) (drop (p + w) l)
   unfolding several
   several-cons h = let z : n - i ≡ suc (n - (i + 1)) = omega arith in rw (z, drop-drop w p l)
+
+-- a part of each thing
+module _ {A B : Type 0} (w : ℕ) (f : List ℕ → A) where
+  pub map-several : (g : A → B) (n : ℕ) (l : List ℕ) → map g (several w f n l) ≡ several w (λ l. g (f l)) n l
+  unfolding several
+  map-several g zero l = refl
+  map-several g (suc n) l = ap (λ r. g (f l) ∷ r) (map-several g n (drop w l))

@@ -1,4 +1,5 @@
 pub mod Lent
 pub mod LentFile
 pub mod records
+pub mod sections
 pub mod sizes

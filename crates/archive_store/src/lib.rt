@@ -5,5 +5,7 @@ pub mod edges;
 pub mod heads;
 pub mod order;
 pub mod records;
+pub mod sections;
 pub mod sizes;
+pub mod strided;
 pub mod tables;

@@ -22,7 +22,7 @@ fn flag_byte(x: u8) -> u8
     1
 }
 
-fn store_row(out: &mut [u8], at: usize, flag: u8, tag: u64)
+pub fn store_row(out: &mut [u8], at: usize, flag: u8, tag: u64)
     requires { ⌜ at + 9 ≤ length (now out) ⌝ }
     ensures { λ _. ⌜ now (out .exit) ≡ sets (now (out .entry)) at (rowBytes (rowFrom flag tag)) ⌝ }
 {
@@ -43,7 +43,7 @@ pub fn store_rows(out: &mut [u8], at: usize, flags: &[u8], tags: &[u64])
     }
 }
 
-fn store_one(out: &mut [u8], at: usize, child: u64, kind: u8, handle: u32)
+pub fn store_one(out: &mut [u8], at: usize, child: u64, kind: u8, handle: u32)
     requires { ⌜ at + 13 ≤ length (now out) ⌝ }
     ensures { λ _. ⌜ now (out .exit) ≡ sets (now (out .entry)) at (unresolvedBytes (unresolvedFrom child kind handle)) ⌝ }
 {
@@ -65,7 +65,7 @@ pub fn store_unresolved(out: &mut [u8], at: usize, children: &[u64], kinds: &[u8
     }
 }
 
-fn store_root(out: &mut [u8], at: usize, row: u64, handle: u64)
+pub fn store_root(out: &mut [u8], at: usize, row: u64, handle: u64)
     requires { ⌜ at + 16 ≤ length (now out) ⌝ }
     ensures { λ _. ⌜ now (out .exit) ≡ sets (now (out .entry)) at (rootBytes (rootFrom row handle)) ⌝ }
 {

@@ -1,17 +1,18 @@
 -- No inbound edge of an output file is given twice: a row's list names a parent at most once, and rows have different numbers.
 use mathlib.Core.Path.{_≡_, refl, ap, _∙_}
-use mathlib.Core.Bool.{Bool, true, false, _&&_, not, and-false}
-use mathlib.Core.Logic.{_⊎_, inl, inr}
+use mathlib.Core.Bool.{Bool, true, false, cond, _&&_, not, and-false}
+use mathlib.Core.Logic.{inl, inr}
 use mathlib.Core.List.{List, [], _∷_, _++_, map, append-nil, map-append}
-use Prim.Native.Nat.{ℕ, suc, _+_, _≤_, _<_}
+use Prim.Native.Nat.{ℕ, suc, _+_, _-_, _≤_, _<_}
 use native.Mathlib.Omega.{arith}
 use lib.Dec.{eqb}
-use lib.ListN.{length}
+use lib.ListN.{length, getD}
 use borrow.Author.Tests.{eqb-true, eqb-false, ne-eqb, not-true}
 use Rattle.lists.specs.Lists.{flat, all, filter, mem, distinct, Each}
 use Rattle.lists.specs.Order.{sort}
 use Rattle.lists.proofs.Tests.{tested, both, all-of}
-use Rattle.lists.proofs.Each.{each-flat, each-imp, each-both}
+use Rattle.lists.proofs.Each.{each-flat, each-imp}
+use Rattle.lists.proofs.Flat.{flat-ext}
 use Rattle.lists.proofs.Once.{or-is-false, eqb-sym}
 use Rattle.lists.proofs.Rising.{distinct-sort}
 use Rattle.columns.specs.Building.{inFile, childrenTo, inboundLists}
@@ -26,10 +27,10 @@ use Rattle.cleaning.proofs.Inbound.{edge}
 
 -- ── the children of edges ────────────────────────────────────────────────────────────────────
 
-abbrev childrenOf : ℕ → ℕ → List Edge → List ℕ
+abbrev pub childrenOf : ℕ → ℕ → List Edge → List ℕ
 childrenOf n k es = map (λ e. e .child) (filter (λ e. eqb (e .parent) n && eqb (e .kind) k) es)
 
-children-to : (n k : ℕ) (es : List Edge) → childrenTo n k (map (λ e. e .child) es) (map (λ e. e .parent) es) (map (λ e. e .kind) es) ≡ childrenOf n k es
+pub children-to : (n k : ℕ) (es : List Edge) → childrenTo n k (map (λ e. e .child) es) (map (λ e. e .parent) es) (map (λ e. e .kind) es) ≡ childrenOf n k es
 unfolding childrenTo filter
 children-to n k [] = refl
 children-to n k (e ∷ es) = elim (tested (eqb (e .parent) n && eqb (e .kind) k)) [
@@ -42,7 +43,7 @@ children-append n k xs ys =
     let p : Edge → Bool = λ e. eqb (e .parent) n && eqb (e .kind) k in
     rw (filter-append p xs ys) (map-append (λ e. e .child) (filter p xs) (filter p ys))
 
-children-flat : {A : Type 0} (n k : ℕ) (f : A → List Edge) (xs : List A) → childrenOf n k (flat f xs) ≡ flat (λ x. childrenOf n k (f x)) xs
+pub children-flat : {A : Type 0} (n k : ℕ) (f : A → List Edge) (xs : List A) → childrenOf n k (flat f xs) ≡ flat (λ x. childrenOf n k (f x)) xs
 unfolding filter
 children-flat n k f [] = refl
 children-flat n k f (x ∷ xs) = rw (children-append n k (f x) (flat f xs), children-flat n k f xs)
@@ -50,8 +51,8 @@ children-flat n k f (x ∷ xs) = rw (children-append n k (f x) (flat f xs), chil
 -- ── one row ──────────────────────────────────────────────────────────────────────────────────
 
 -- c once, or nothing
-abbrev AtMost : ℕ → List ℕ → Type 0
-AtMost c xs = (xs ≡ []) ⊎ (xs ≡ c ∷ [])
+abbrev pub only : Bool → ℕ → List ℕ
+only b c = cond b (c ∷ []) []
 
 module _ (n k c kind : ℕ) where
   -- edges of another kind
@@ -68,18 +69,23 @@ module _ (n k c kind : ℕ) where
         let o = or-is-false (eqb n p) (mem n ps) m in
         elim (tested (q p)) [ inl e ↦ rw (e, eqb-sym p n, o .0) (none-named ps (o .1)) | inr e ↦ rw e (none-named ps (o .1)) ]
 
-    one-named : (ps : List ℕ) → distinct ps ≡ true → AtMost c (childrenOf n k (map (edge c kind) (filter q ps)))
-    unfolding filter distinct
-    one-named [] d = inl refl
-    one-named (p ∷ ps) d =
+    -- edges of the kind: the child once if the number is named
+    one-named : eqb kind k ≡ true → (ps : List ℕ) → distinct ps ≡ true → childrenOf n k (map (edge c kind) (filter q ps)) ≡ only (q n && mem n ps) c
+    unfolding filter distinct mem
+    one-named t [] d = rw (and-false (q n))
+    one-named t (p ∷ ps) d =
         let r = both (not (mem p ps)) (distinct ps) d in
-        elim (tested (q p)) [
-          | inl e ↦ elim (tested (eqb p n && eqb kind k)) [
-            | inl t ↦ let s : p ≡ n = eqb-true p n (both (eqb p n) (eqb kind k) t .0) in
-                rw (e, t, none-named ps (rw s at (not-true (mem p ps) (r .0)))) (inr refl)
-            | inr t ↦ rw (e, t) (one-named ps (r .1))
+        elim (tested (eqb n p)) [
+          | inl e ↦ let s : n ≡ p = eqb-true n p e in
+              let rest = none-named ps (rw (← s) at (not-true (mem p ps) (r .0))) in
+              elim (tested (q p)) [
+                | inl f ↦ rw (f, eqb-sym p n, e, t, rest, s, f)
+                | inr f ↦ rw (f, e, rest, s, f)
+              ]
+          | inr e ↦ elim (tested (q p)) [
+            | inl f ↦ rw (f, eqb-sym p n, e) (one-named t ps (r .1))
+            | inr f ↦ rw (f, e) (one-named t ps (r .1))
           ]
-          | inr e ↦ rw e (one-named ps (r .1))
         ]
 
 module _ (n k first end c : ℕ) where
@@ -94,16 +100,25 @@ module _ (n k first end c : ℕ) where
         none-later (suc kind) lists (omega arith),
       )
 
-  one-child : (kind : ℕ) (lists : List (List ℕ)) → Each (λ ps. distinct ps ≡ true) lists → AtMost c (childrenOf n k (edgesInto first end c kind lists))
-  unfolding edgesInto filter
-  one-child kind [] h = inl refl
-  one-child kind (ps ∷ lists) h =
+  -- of a row's edges from a kind on: the child once if its list of kind k names the number
+  row-child : (kind : ℕ) (lists : List (List ℕ)) → kind ≤ k → Each (λ ps. distinct ps ≡ true) lists
+      → childrenOf n k (edgesInto first end c kind lists) ≡ only (inFile first end n && mem n (getD lists (k - kind) [])) c
+  unfolding edgesInto filter mem
+  row-child kind [] l h = rw (and-false (inFile first end n))
+  row-child kind (ps ∷ lists) l h =
       rw (children-append n k (map (edge c kind) (filter (inFile first end) ps)) (edgesInto first end c (suc kind) lists))
       (elim (tested (eqb kind k)) [
-        | inl e ↦ rw (none-later (suc kind) lists (omega (arith, eqb-true kind k e)), append-nil (childrenOf n k (map (edge c kind) (filter (inFile first end) ps))))
-            (one-named n k c kind (inFile first end) ps (h .0))
-        | inr e ↦ rw (none-of-kind n k c kind (eqb-false kind k e) (filter (inFile first end) ps)) (one-child (suc kind) lists (h .1))
+        | inl e ↦ let z : k - kind ≡ 0 = omega (arith, eqb-true kind k e) in
+            rw (none-later (suc kind) lists (omega (arith, eqb-true kind k e)), append-nil (childrenOf n k (map (edge c kind) (filter (inFile first end) ps))), z)
+            (one-named n k c kind (inFile first end) e ps (h .0))
+        | inr e ↦ let z : k - kind ≡ suc (k - suc kind) = omega (arith, eqb-false kind k e) in
+            rw (none-of-kind n k c kind (eqb-false kind k e) (filter (inFile first end) ps), z)
+            (row-child (suc kind) lists (omega (arith, eqb-false kind k e)) (h .1))
       ])
+
+  pub one-child : (lists : List (List ℕ)) → Each (λ ps. distinct ps ≡ true) lists
+      → childrenOf n k (edgesInto first end c 0 lists) ≡ only (inFile first end n && mem n (getD lists k [])) c
+  one-child lists h = row-child 0 lists (omega arith) h ∙ ap (λ j. only (inFile first end n && mem n (getD lists j [])) c) (omega arith)
 
 -- ── all rows ─────────────────────────────────────────────────────────────────────────────────
 
@@ -127,19 +142,19 @@ risen-filter p (r ∷ rs) h = elim (tested (p r)) [
   | inr e ↦ rw e (risen-filter p rs (h .1))
 ]
 
-distinct-flat : (f : Numbered → List ℕ) (rs : List Numbered) → Risen rs → Each (λ r. AtMost (r .number) (f r)) rs → distinct (flat f rs) ≡ true
+-- of rows whose numbers rise, those that pass a test
+distinct-flat : (p : Numbered → Bool) (rs : List Numbered) → Risen rs → distinct (flat (λ r. only (p r) (r .number)) rs) ≡ true
 unfolding distinct
-distinct-flat f [] h g = refl
-distinct-flat f (r ∷ rs) h g = elim (g .0) [
-  | inl e ↦ rw e (distinct-flat f rs (h .1) (g .1))
-  | inr e ↦ rw (e, others-not-mem (r .number) (flat f rs) later) (distinct-flat f rs (h .1) (g .1))
+distinct-flat p [] h = refl
+distinct-flat p (r ∷ rs) h = elim (tested (p r)) [
+  | inl e ↦ rw (e, others-not-mem (r .number) (flat (λ s. only (p s) (s .number)) rs) later) (distinct-flat p rs (h .1))
+  | inr e ↦ rw e (distinct-flat p rs (h .1))
 ]
   where
-    later : Each (λ x. r .number ≡ x → ⊥) (flat f rs)
-    later = each-flat (λ x. r .number ≡ x → ⊥) f rs
-        (each-imp (λ s. (r .number < s .number) × AtMost (s .number) (f s)) (λ s. Each (λ x. r .number ≡ x → ⊥) (f s)) rs
-        (λ s b. elim (b .1) [ inl e ↦ rw e tt | inr e ↦ rw e ((λ c. omega arith), tt) ])
-        (each-both (λ s. r .number < s .number) (λ s. AtMost (s .number) (f s)) rs (h .0) (g .1)))
+    later : Each (λ x. r .number ≡ x → ⊥) (flat (λ s. only (p s) (s .number)) rs)
+    later = each-flat (λ x. r .number ≡ x → ⊥) (λ s. only (p s) (s .number)) rs
+        (each-imp (λ s. r .number < s .number) (λ s. Each (λ x. r .number ≡ x → ⊥) (only (p s) (s .number))) rs
+        (λ s b. elim (tested (p s)) [ inl e ↦ rw e ((λ c. omega arith), tt) | inr e ↦ rw e tt ]) (h .0))
 
 module _ (S : Summary) (good : Good S) (g first end : ℕ) where
   children-distinct : (n k : ℕ) → distinct (childrenOf n k (edgesOf S g first end)) ≡ true
@@ -147,12 +162,16 @@ module _ (S : Summary) (good : Good S) (g first end : ℕ) where
   children-distinct n k =
       let rs : List Numbered = filter (λ r. not (groupIs g r)) (numbered S) in
       let f : Numbered → List Edge = λ r. edgesInto first end (r .number) 0 (r .row .parents) in
-      rw (children-flat n k f rs)
-      (distinct-flat (λ r. childrenOf n k (f r)) rs
-      (risen-filter (λ r. not (groupIs g r)) (numbered S) (risen-counted (S .start) (numbered S) (numbered-counted (S .start) (S .rows))))
-      (each-filter (λ r. not (groupIs g r)) (λ r. AtMost (r .number) (childrenOf n k (f r))) (numbered S)
-      (each-imp (λ r. GoodLists (r .number) (r .row .parents)) (λ r. AtMost (r .number) (childrenOf n k (f r))) (numbered S)
-      (λ r b. one-child n k first end (r .number) 0 (r .row .parents) (b .once)) (lists-numbered (S .start) (S .rows) (good .lists)))))
+      let names : Numbered → Bool = λ r. inFile first end n && mem n (getD (r .row .parents) k []) in
+      rw (
+        children-flat n k f rs,
+        flat-ext (λ r. childrenOf n k (f r)) (λ r. only (names r) (r .number)) rs
+            (each-filter (λ r. not (groupIs g r)) (λ r. childrenOf n k (f r) ≡ only (names r) (r .number)) (numbered S)
+            (each-imp (λ r. GoodLists (r .number) (r .row .parents)) (λ r. childrenOf n k (f r) ≡ only (names r) (r .number)) (numbered S)
+            (λ r b. one-child n k first end (r .number) (r .row .parents) (b .once)) (lists-numbered (S .start) (S .rows) (good .lists)))),
+      )
+      (distinct-flat names rs
+      (risen-filter (λ r. not (groupIs g r)) (numbered S) (risen-counted (S .start) (numbered S) (numbered-counted (S .start) (S .rows)))))
 
   pub edges-once : (low rows : ℕ) → all distinct (inboundLists low rows (inboundColumns (edgesOf S g first end))) ≡ true
   unfolding inboundLists inboundColumns

@@ -52,7 +52,7 @@ module _ (first end child m : ℕ) where
       (each-both (λ p. inFile first end p ≡ true) (λ p. p < child) (filter (inFile first end) ps)
       (filter-passes (inFile first end) ps) (each-filter (inFile first end) (λ p. p < child) ps h)))
 
-  edges-into : (k : ℕ) (lists : List (List ℕ)) → k + length lists ≤ m → Each (λ ps. Each (λ p. p < child) ps) lists
+  pub edges-into : (k : ℕ) (lists : List (List ℕ)) → k + length lists ≤ m → Each (λ ps. Each (λ p. p < child) ps) lists
       → Each (EdgeInto first end child k m) (edgesInto first end child k lists)
   unfolding edgesInto
   edges-into k [] l h = tt

@@ -30,6 +30,7 @@ pub mod NewLists
 pub mod Goodness
 pub mod Inbound
 pub mod EdgesOnce
+pub mod FirstRules
 pub mod RowRules
 pub mod WriteRules
 pub mod Written
@@ -38,6 +39,11 @@ pub mod OutputSides
 pub mod OutputSets
 pub mod OutputRules
 pub mod Turnings
+pub mod SlotTables
+pub mod SheetLists
+pub mod Within
+pub mod SectionSets
+pub mod SectionRules
 pub mod OutputFigures
 pub mod OutputLimits
 pub mod Resolved
@@ -75,3 +81,4 @@ pub mod Orderly
 pub mod TidyHeld
 pub mod Neat
 pub mod FlatResolving
+pub mod ArchiveSize

@@ -16,6 +16,7 @@ use Rattle.lists.proofs.Tests.{tested, all-each}
 use Rattle.lists.proofs.Each.{each-imp}
 use Rattle.columns.specs.Limits.{kinds, maxNumbers}
 use Rattle.columns.specs.Refusal.{refuse}
+use Rattle.columns.specs.Building.{slotRules}
 use Rattle.columns.specs.declared.refusal.Refusal.the-variants.{GroupOrder, OverRecords, OverNumbers, NoSurvivor}
 use Rattle.columns.proofs.FirstBroken.{each-none, passed}
 use Rattle.archive.specs.File.{File}
@@ -31,7 +32,12 @@ use Rattle.cleaning.specs.Survivors.{survivorSheet}
 use Rattle.cleaning.specs.Runs.{slotted, heldRules}
 use Rattle.cleaning.specs.Sections.{labelsFit, Tidy, Filled}
 use Rattle.cleaning.proofs.Taken.{Sound, FollowsLast, Followed, taken-followed}
+use Rattle.cleaning.proofs.Good.{RowsFrom}
+use Rattle.cleaning.proofs.NewLists.{lists-good}
+use Rattle.cleaning.proofs.Tabled.{tabled-summary}
 use Rattle.cleaning.proofs.SheetFacts.{Rows}
+use Rattle.cleaning.proofs.SheetLists.{rows-slots}
+use Rattle.cleaning.proofs.SurvivorSheet.{summary-held}
 use Rattle.cleaning.proofs.HeldRows.{HeldLast, Ready, ready, held-with}
 use Rattle.cleaning.proofs.Orderly.{Orderly, orderly-taken}
 use Rattle.cleaning.proofs.HeldColumns.{events-length, tables-length, slotted-length}
@@ -171,6 +177,15 @@ module _ (h : Held) (n : Neat h) where
       let A = archiveHeld h in
       tidy-survivors h (n .rows) (n .tidy) (slotted (length (A .events)) (tables A))
       (slotted-length (length (A .events)) (tables A) (tables-length A) ∙ ap (λ m. kinds * m) (events-length h (n .rows)))
+
+  -- it names no parent at or above its event, and none twice in a slot
+  pub survivors-once : let s = survivorSheet h (slotted (length ((archiveHeld h) .events)) (tables (archiveHeld h))) in slotRules (s .start) 0 (s .lists) ≡ none
+  unfolding survivorSheet archiveHeld
+  survivors-once =
+      let A = archiveHeld h in
+      let v = neat-valid h n in
+      let same = summary-held h (tables A) (n .rows) (tables-length A) ∙ tabled-summary A v in
+      rows-slots (survivorSheet h (slotted (length (A .events)) (tables A))) survivors-tidy (subst (λ S. RowsFrom (A .start) (S .rows)) (sym same) (lists-good A v))
 
   pub neat-resolved : heldRules h (archiveHeld h) (tables (archiveHeld h)) ≡ none
       → Tidy (survivorSheet h (slotted (length ((archiveHeld h) .events)) (tables (archiveHeld h))))

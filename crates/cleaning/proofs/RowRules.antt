@@ -1,32 +1,36 @@
 -- Building's rules on the records of some good rows: parents below and once (4, 5), unresolved records (6, 7), labels (9), inbound edges (11, 12).
-use mathlib.Core.Path.{_≡_, refl, _∙_}
-use mathlib.Core.Bool.{true, false, _&&_, not}
+use mathlib.Core.Path.{_≡_, refl, ap, sym, _∙_}
+use mathlib.Core.Bool.{true, false, _&&_, not, and-true, and-false}
 use mathlib.Core.List.{List, [], _∷_, map}
 use mathlib.Core.Option.{Option, none, some}
 use Prim.Native.Nat.{ℕ, zero, suc, _+_, _*_, _≤_, _<_}
 use native.Mathlib.Omega.{arith}
-use native.Mathlib.Nat.{not-suc-le-zero, le-of-suc-le-suc, add-suc, add-zero}
+use native.Mathlib.Nat.{not-suc-le-zero, le-of-suc-le-suc, zero-add, add-suc, add-zero}
 use lib.Dec.{ltb, leb, eqb}
 use lib.ListN.{length, getD, getElem?, length-map}
-use borrow.Author.Tests.{lt-leb, le-leb, lt-ltb, le-ltb, not-true}
-use Rattle.lists.specs.Lists.{mem, distinct, upFrom, Each}
-use Rattle.lists.proofs.Tests.{both}
-use Rattle.lists.proofs.Each.{each-imp, each-both, each-getD}
+use borrow.Author.Tests.{eq-eqb, lt-leb, le-leb, lt-ltb, le-ltb, not-true}
+use Rattle.lists.specs.Lists.{all, mem, distinct, upFrom, Each}
+use Rattle.lists.proofs.Tests.{both, all-of}
+use Rattle.lists.proofs.Each.{each-imp, each-both}
+use Rattle.lists.proofs.Filters.{each-below, map-places}
 use Rattle.lists.proofs.Once.{or-is-false, eqb-sym}
-use Rattle.lists.proofs.Pairs.{each-upFrom}
 use Rattle.columns.specs.Limits.{kinds}
 use Rattle.columns.specs.Refusal.{refuse, firstIn}
 use Rattle.columns.specs.EdgeSet.{eventOf}
-use Rattle.columns.specs.Building.{greater, has, recordCount, parentRules, slotRules, inFile, unresolvedRules, inboundRules}
+use Rattle.columns.specs.Reading.{Label, labelsOf}
+use Rattle.columns.specs.Building.{greater, has, recordCount, parentRules, slotRules, inFile, unresolvedRules, seqsRise, labelsRules, inboundRules}
 use Rattle.columns.specs.declared.refusal.Refusal.{Refusal}
-use Rattle.columns.specs.declared.refusal.Refusal.the-variants.{ParentNotEarlier, ParentTwice, UnresolvedChild, UnresolvedKind, InboundChild, InboundParent}
+use Rattle.columns.specs.declared.refusal.Refusal.the-variants.{ParentNotEarlier, ParentTwice, UnresolvedChild, UnresolvedKind, LabelCount, SeqNotRising, InboundChild, InboundParent}
 use Rattle.archive.specs.File.{Unresolved}
-use Rattle.cleaning.specs.Writing.{Numbered, Edge, slotsOfRows}
+use Rattle.cleaning.specs.Writing.{Numbered, Edge, labelColumns, slotsOfRows}
 use Rattle.cleaning.proofs.Good.{GoodLists}
 use Rattle.columns.proofs.FirstBroken.{none-of, none-in, passes, fails}
+use Rattle.columns.proofs.Told.{last-rule}
 use Rattle.lists.proofs.From.{EachFrom, from-eq, from-append, from-each}
 use Rattle.cleaning.proofs.Numbers.{Counted}
 use Rattle.cleaning.proofs.Inbound.{Inbound}
+use Rattle.cleaning.proofs.Followed.{labels-columns}
+use Rattle.cleaning.proofs.FirstRules.{skip, first-ext, first-map, first-all}
 
 -- ── 4 and 5 ──────────────────────────────────────────────────────────────────────────────────
 
@@ -86,6 +90,20 @@ pub row-slots-none : (first : ℕ) (rs : List Numbered) → Counted first rs →
     → slotRules first 0 (slotsOfRows rs) ≡ none
 row-slots-none first rs c h = slots-none first 0 (slotsOfRows rs) (rows-pass first 0 rs (rw (add-zero first) c) h)
 
+-- ── 9 and 10 ─────────────────────────────────────────────────────────────────────────────────
+
+-- of as many labels as rows only 10 is tested
+pub labels-rules : (n : ℕ) (ls : List Label) → length ls ≡ n → labelsRules n (some (labelColumns ls)) ≡ refuse SeqNotRising (not (seqsRise [] ls))
+unfolding labelColumns
+labels-rules n ls e =
+    let chains : List ℕ = map (λ l. l .chain) ls in
+    let seqs : List ℕ = map (λ l. l .seq) ls in
+    let counts : eqb (length chains) n && eqb (length seqs) n ≡ true =
+    rw (eq-eqb (length chains) n (length-map ls (λ l. l .chain) ∙ e), eq-eqb (length seqs) n (length-map ls (λ l. l .seq) ∙ e)) in
+    let rest : List (Option Refusal) = refuse SeqNotRising (not (seqsRise [] (labelsOf chains seqs))) ∷ [] in
+    skip rest rest (passes LabelCount (eqb (length chains) n && eqb (length seqs) n) counts) refl
+    ∙ last-rule (refuse SeqNotRising (not (seqsRise [] (labelsOf chains seqs)))) ∙ ap (λ ks. refuse SeqNotRising (not (seqsRise [] ks))) (labels-columns ls)
+
 -- ── records in parallel columns ──────────────────────────────────────────────────────────────
 
 get-map : {A : Type 0} (f : A → ℕ) (xs : List A) (i : ℕ) (d : A) → i < length xs → getElem? (map f xs) i ≡ some (f (getD xs i d))
@@ -97,25 +115,52 @@ greater-same : (n : ℕ) → greater n n ≡ n
 unfolding greater
 greater-same n = rw (le-ltb n n (omega arith))
 
--- the columns of some records, each of which passes, pass
+-- some records by their columns
 module _ {A : Type 0} (d : A) (rule : Option ℕ → Option ℕ → Option ℕ → Option Refusal) (f g h : A → ℕ) (xs : List A) where
   count-columns : recordCount (map f xs) (map g xs) (map h xs) ≡ length xs
   count-columns = rw (length-map xs f, length-map xs g, length-map xs h, greater-same (length xs), greater-same (length xs))
 
-  columns-none : Each (λ x. rule (some (f x)) (some (g x)) (some (h x)) ≡ none) xs
-      → firstIn (λ i. rule (getElem? (map f xs) i) (getElem? (map g xs) i) (getElem? (map h xs) i)) (upFrom 0 (recordCount (map f xs) (map g xs) (map h xs))) ≡ none
-  columns-none e = rw count-columns
-      (none-in (λ i. rule (getElem? (map f xs) i) (getElem? (map g xs) i) (getElem? (map h xs) i)) (upFrom 0 (length xs))
-      (each-imp (λ i. (0 ≤ i) × (i < 0 + length xs)) (λ i. rule (getElem? (map f xs) i) (getElem? (map g xs) i) (getElem? (map h xs) i) ≡ none) (upFrom 0 (length xs))
-      (λ i b. let l : i < length xs = omega arith in
-      rw (get-map f xs i d l, get-map g xs i d l, get-map h xs i d l) (each-getD (λ x. rule (some (f x)) (some (g x)) (some (h x)) ≡ none) xs i d e l))
-      (each-upFrom 0 (length xs))))
+  -- the rules of the columns are those of the records
+  columns-first : firstIn (λ i. rule (getElem? (map f xs) i) (getElem? (map g xs) i) (getElem? (map h xs) i)) (upFrom 0 (recordCount (map f xs) (map g xs) (map h xs)))
+      ≡ firstIn (λ x. rule (some (f x)) (some (g x)) (some (h x))) xs
+  columns-first =
+      let at : ℕ → A = λ i. getD xs i d in
+      let rules : A → Option Refusal = λ x. rule (some (f x)) (some (g x)) (some (h x)) in
+      rw count-columns
+      (first-ext (λ i. rule (getElem? (map f xs) i) (getElem? (map g xs) i) (getElem? (map h xs) i)) (λ i. rules (at i)) (upFrom 0 (length xs))
+      (each-below _ (length xs) (λ i l. rw (get-map f xs i d l, get-map g xs i d l, get-map h xs i d l)))
+      ∙ sym (first-map rules at (upFrom 0 (length xs))) ∙ ap (firstIn rules) (map-places at 0 xs d (λ j l. ap at (zero-add j))))
 
-in-file : (first end n : ℕ) → first ≤ n → n < end → inFile first end n ≡ true
-unfolding inFile
-in-file first end n l h = rw (le-leb first n l) (lt-ltb n end h)
+module _ (first end n : ℕ) where
+  pub in-file : first ≤ n → n < end → inFile first end n ≡ true
+  unfolding inFile
+  in-file l h = rw (le-leb first n l) (lt-ltb n end h)
+
+  pub before-file : n < first → inFile first end n ≡ false
+  unfolding inFile
+  before-file l = rw (lt-leb first n l)
+
+  pub past-file : end ≤ n → inFile first end n ≡ false
+  unfolding inFile
+  past-file l = rw (le-ltb n end l) (and-false (leb first n))
 
 module _ (first end : ℕ) where
+  -- the rules of unresolved records whose children are in the file are one test of their kinds
+  pub unresolved-kinds : (us : List Unresolved) → Each (λ u. inFile first end (u .child) ≡ true) us
+      → firstIn (λ i. unresolvedRules first end (getElem? (map (λ u. u .child) us) i) (getElem? (map (λ u. u .kind) us) i) (getElem? (map (λ u. 0) us) i))
+      (upFrom 0 (recordCount (map (λ u. u .child) us) (map (λ u. u .kind) us) (map (λ u. 0) us)))
+      ≡ refuse UnresolvedKind (not (all (λ u. ltb (u .kind) kinds) us))
+  unfolding unresolvedRules has
+  unresolved-kinds us h =
+      columns-first (record { child = 0; kind = 0; handle = 0 }) (unresolvedRules first end) (λ u. u .child) (λ u. u .kind) (λ u. 0) us
+      ∙ first-ext (λ u. unresolvedRules first end (some (u .child)) (some (u .kind)) (some 0)) (λ u. refuse UnresolvedKind (not (ltb (u .kind) kinds))) us
+      (each-imp (λ u. inFile first end (u .child) ≡ true)
+      (λ u. unresolvedRules first end (some (u .child)) (some (u .kind)) (some 0) ≡ refuse UnresolvedKind (not (ltb (u .kind) kinds))) us
+      (λ u b. skip (refuse UnresolvedKind (not (ltb (u .kind) kinds && eqb 0 0)) ∷ []) (refuse UnresolvedKind (not (ltb (u .kind) kinds && eqb 0 0)) ∷ [])
+      (passes UnresolvedChild (inFile first end (u .child)) b) refl
+      ∙ last-rule (refuse UnresolvedKind (not (ltb (u .kind) kinds && eqb 0 0))) ∙ ap (λ b. refuse UnresolvedKind (not b)) (and-true (ltb (u .kind) kinds))) h)
+      ∙ first-all UnresolvedKind (λ u. ltb (u .kind) kinds) us
+
   -- an unresolved record that passes
   abbrev pub RecordPasses : Unresolved → Type 0
   RecordPasses u = (first ≤ u .child) × (u .child < end) × (u .kind < kinds)
@@ -123,21 +168,18 @@ module _ (first end : ℕ) where
   pub unresolved-none : (us : List Unresolved) → Each RecordPasses us
       → firstIn (λ i. unresolvedRules first end (getElem? (map (λ u. u .child) us) i) (getElem? (map (λ u. u .kind) us) i) (getElem? (map (λ u. 0) us) i))
       (upFrom 0 (recordCount (map (λ u. u .child) us) (map (λ u. u .kind) us) (map (λ u. 0) us))) ≡ none
-  unfolding unresolvedRules has
   unresolved-none us h =
-      columns-none (record { child = 0; kind = 0; handle = 0 }) (unresolvedRules first end) (λ u. u .child) (λ u. u .kind) (λ u. 0) us
-      (each-imp RecordPasses (λ u. unresolvedRules first end (some (u .child)) (some (u .kind)) (some 0) ≡ none) us
-      (λ u b. none-of (refuse UnresolvedChild (not (inFile first end (u .child))) ∷ refuse UnresolvedKind (not (ltb (u .kind) kinds && eqb 0 0)) ∷ []) (
-        passes UnresolvedChild (inFile first end (u .child)) (in-file first end (u .child) (b .0) (b .1)),
-        (passes UnresolvedKind (ltb (u .kind) kinds && eqb 0 0) (rw (lt-ltb (u .kind) kinds (b .2))), tt),
-      )) h)
+      unresolved-kinds us (each-imp RecordPasses (λ u. inFile first end (u .child) ≡ true) us (λ u b. in-file first end (u .child) (b .0) (b .1)) h)
+      ∙ passes UnresolvedKind (all (λ u. ltb (u .kind) kinds) us)
+      (all-of (λ u. ltb (u .kind) kinds) us (each-imp RecordPasses (λ u. ltb (u .kind) kinds ≡ true) us (λ u b. lt-ltb (u .kind) kinds (b .2)) h))
 
   pub inbound-none : (es : List Edge) → Each (Inbound first end) es
       → firstIn (λ i. inboundRules first end (getElem? (map (λ e. e .child) es) i) (getElem? (map (λ e. e .parent) es) i) (getElem? (map (λ e. e .kind) es) i))
       (upFrom 0 (recordCount (map (λ e. e .child) es) (map (λ e. e .parent) es) (map (λ e. e .kind) es))) ≡ none
   unfolding inboundRules has
   inbound-none es h =
-      columns-none (record { child = 0; parent = 0; kind = 0 }) (inboundRules first end) (λ e. e .child) (λ e. e .parent) (λ e. e .kind) es
+      columns-first (record { child = 0; parent = 0; kind = 0 }) (inboundRules first end) (λ e. e .child) (λ e. e .parent) (λ e. e .kind) es
+      ∙ none-in (λ e. inboundRules first end (some (e .child)) (some (e .parent)) (some (e .kind))) es
       (each-imp (Inbound first end) (λ e. inboundRules first end (some (e .child)) (some (e .parent)) (some (e .kind)) ≡ none) es
       (λ e b. none-of (refuse InboundChild (not (leb end (e .child))) ∷ refuse InboundParent (not (inFile first end (e .parent) && ltb (e .kind) kinds)) ∷ []) (
         passes InboundChild (leb end (e .child)) (le-leb end (e .child) (b .0)),

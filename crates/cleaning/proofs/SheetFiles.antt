@@ -3,25 +3,25 @@ use mathlib.Core.Path.{_≡_, refl, ap, ap₂, sym, _∙_}
 use mathlib.Core.Bool.{Bool, true, false, cond, false≢true}
 use mathlib.Core.Logic.{inl, inr}
 use mathlib.Core.List.{List, [], _∷_, map, map-map}
-use mathlib.Core.Option.{Option, none, some}
+use mathlib.Core.Option.{none, some}
 use Prim.Native.Nat.{ℕ, suc, _+_, _≤_, _<_}
 use native.Mathlib.Omega.{arith}
 use lib.Dec.{eqb, ltb}
 use lib.ListN.{length}
 use borrow.Author.Tests.{eqb-true, eqb-false, lt-ltb, le-ltb, ltb-true, ltb-false}
-use Rattle.lists.specs.Lists.{flat, filter, joined, starts, mem, upFrom, Each}
+use Rattle.lists.specs.Lists.{flat, filter, joined, starts, mem, upFrom}
 use Rattle.lists.proofs.Tests.{tested}
 use Rattle.lists.proofs.Flat.{map-ext, flat-map}
 use Rattle.lists.proofs.Filters.{each-below}
-use Rattle.columns.specs.Refusal.{unless, firstIn}
+use Rattle.columns.specs.Refusal.{unless}
 use Rattle.columns.specs.Building.{buildRules, builtOf}
-use Rattle.columns.specs.declared.refusal.Refusal.{Refusal}
 use Rattle.cover.specs.Chains.{Link}
 use Rattle.archive.specs.Encode.{encode}
 use Rattle.cleaning.specs.Sheet.{Facts, GroupLink, Sheet, groupsFrom, groupsOfSheet, summaryOf}
 use Rattle.cleaning.specs.Writing.{Numbered, rowsIn, firstNumber, labelsIn, labelsOfGroup, edgesInto, edgesOf, inboundColumns, unresolvedColumns, graphOfRows, groupAt, graphOf, coverOfGroup, outputOf, groupNumbers, outputs, writeRules, bytesOf, written}
 use Rattle.cleaning.specs.Sections.{Tidy, Filled, factsOf, reaches, place, sectionStart, sectionRows, sectionFirst, sectionEnd, sectionLabels, sectionLinks, sectionEdges, rowEdges, otherRows, labelsWhere, coverWhere, unerasedRow, sectionGraph, sectionFile, sectionRules, sectionBytes}
 use Rattle.cleaning.proofs.Places.{place-rises}
+use Rattle.cleaning.proofs.FirstRules.{first-ext}
 use Rattle.cleaning.proofs.SheetRows.{rowAt, section-end, others-section, count-section, first-section, tags-section, labels-section, lists-section}
 use Rattle.cleaning.proofs.SheetRecords.{unresolved-section, roots-section, group-section}
 
@@ -131,11 +131,6 @@ pub groups-length : (ls : List GroupLink) (g : ℕ) (fs : List Facts) → length
 unfolding groupsFrom
 groups-length ls g [] = refl
 groups-length ls g (f ∷ fs) = ap suc (groups-length ls (1 + g) fs)
-
-first-ext : {A : Type 0} (f g : A → Option Refusal) (xs : List A) → Each (λ x. f x ≡ g x) xs → firstIn f xs ≡ firstIn g xs
-unfolding firstIn
-first-ext f g [] h = refl
-first-ext f g (x ∷ xs) h = rw (h .0, first-ext f g xs (h .1))
 
 module _ (s : Sheet) (t : Tidy s) (f : Filled s) where
   numbers-sections : groupNumbers (summaryOf s) ≡ upFrom 0 (length (s .groups))

@@ -1,61 +1,46 @@
 -- Building an output file of a good summary is refused with 10 and 15 or not at all; so the cleaned form of files that meet neither is written.
-use mathlib.Core.Path.{_≡_, refl, sym, subst}
-use mathlib.Core.Bool.{Bool, true, _&&_, not}
-use mathlib.Core.List.{List, [], _∷_, map}
+use mathlib.Core.Path.{_≡_, refl, sym, subst, _∙_}
+use mathlib.Core.Bool.{Bool, true, _&&_}
+use mathlib.Core.List.{List, []}
 use mathlib.Core.Option.{Option, none, some}
 use Prim.Native.Nat.{ℕ, suc, _+_, _≤_, _<_, _^_}
 use native.Mathlib.Omega.{arith}
-use lib.Dec.{eqb, ltb}
-use lib.ListN.{length, length-map}
-use borrow.Author.Tests.{lt-ltb, le-ltb, eq-eqb}
+use lib.Dec.{ltb}
+use lib.ListN.{length}
+use borrow.Author.Tests.{lt-ltb, le-ltb}
 use Rattle.lists.specs.Lists.{flat, all, distinct, joined, starts, Each}
 use Rattle.lists.proofs.Tests.{both, all-each}
 use Rattle.lists.proofs.Each.{each-flat, each-map, each-imp, each-both, each-getD}
 use Rattle.lists.proofs.Pairs.{each-upFrom}
 use Rattle.columns.specs.Limits.{kinds, end64}
-use Rattle.columns.specs.Refusal.{refuse}
 use Rattle.columns.specs.EdgeSet.{offsetsForm}
-use Rattle.columns.specs.Reading.{labelsOf}
 use Rattle.columns.specs.Building.{Graph, subjectOk, numbersOk, allUnresolvedRules, depthOk, seqsRise, labelsRules, allInboundRules, inboundLists, deltasFit, granuleStart, forwardPart, reversePart, inboundPart, buildRules}
-use Rattle.columns.specs.declared.refusal.Refusal.the-variants.{SubjectLength, EdgeEntries, NumberRange, DepthOrder, LabelCount, SeqNotRising, InboundTwice, GranuleRows, DeltaRange}
+use Rattle.columns.specs.declared.refusal.Refusal.the-variants.{SubjectLength, EdgeEntries, NumberRange, DepthOrder, SeqNotRising, InboundTwice, GranuleRows, DeltaRange}
 use Rattle.columns.proofs.ReadBack.{cut-joined, starts-form}
 use Rattle.cover.specs.Chains.{Link}
 use Rattle.archive.specs.File.{File}
 use Rattle.cleaning.specs.Summary.{Summary, summary}
-use Rattle.cleaning.specs.Writing.{Numbered, rowsIn, firstNumber, unresolvedOf, labelsIn, labelColumns, labelsOfGroup, slotsOfRows, unresolvedColumns, edgesOf, inboundColumns, graphOfRows, noGroup, groupAt, graphOf, groupNumbers, writeRules}
+use Rattle.cleaning.specs.Writing.{Numbered, rowsIn, firstNumber, unresolvedOf, labelsIn, labelsOfGroup, slotsOfRows, unresolvedColumns, edgesOf, inboundColumns, graphOfRows, noGroup, groupAt, graphOf, groupNumbers, writeRules}
 use Rattle.cleaning.specs.History.{archiveOfFiles}
 use Rattle.cleaning.specs.Accepted.{labelsRise, chainsRise, spansFit, Cleanable}
 use Rattle.cleaning.proofs.Good.{GoodLabel, GoodGroup, GoodLists, Good}
 use Rattle.columns.proofs.FirstBroken.{none-of, none-in, passes, fails}
 use Rattle.cleaning.proofs.Numbers.{Counted, counted-within}
 use Rattle.cleaning.proofs.Blocks.{GoodRow, rowsBefore, rows-counted, rows-first, before-next, before-within, rows-good}
-use Rattle.cleaning.proofs.Followed.{length-labels, length-slots}
+use Rattle.cleaning.proofs.Followed.{labels-columns, length-labels, length-slots}
 use Rattle.cleaning.proofs.Outputs.{rows-kinds}
 use Rattle.cleaning.proofs.Inbound.{Inbound, edges-inbound}
 use Rattle.cleaning.proofs.EdgesOnce.{edges-once}
-use Rattle.cleaning.proofs.RowRules.{row-slots-none, RecordPasses, unresolved-none, inbound-none}
+use Rattle.cleaning.proofs.RowRules.{row-slots-none, labels-rules, RecordPasses, unresolved-none, inbound-none}
 use Rattle.cleaning.proofs.Goodness.{good}
 
 -- ── 9 ────────────────────────────────────────────────────────────────────────────────────────
 
 labels-none : (links : Option (List Link)) (rs : List Numbered) → Each (λ r. GoodLabel links (r .row .body .label)) rs
     → labelsRise (labelsOfGroup links rs) ≡ true → labelsRules (length rs) (labelsOfGroup links rs) ≡ none
-unfolding labelColumns
 labels-none none rs h s = refl
 labels-none (some links) rs h s =
-    let ls = labelsIn rs in
-    let n = length-labels links rs h in
-    let chains : List ℕ = map (λ l. l .chain) ls in
-    let seqs : List ℕ = map (λ l. l .seq) ls in
-    none-of (refuse LabelCount (not (eqb (length chains) (length rs) && eqb (length seqs) (length rs)))
-    ∷ refuse SeqNotRising (not (seqsRise [] (labelsOf chains seqs))) ∷ []) (
-      passes LabelCount (eqb (length chains) (length rs) && eqb (length seqs) (length rs))
-          (rw (
-            eq-eqb (length chains) (length rs) (omega (arith, length-map ls (λ l. l .chain))),
-            eq-eqb (length seqs) (length rs) (omega (arith, length-map ls (λ l. l .seq))),
-          )),
-      (passes SeqNotRising (seqsRise [] (labelsOf chains seqs)) s, tt),
-    )
+    labels-rules (length rs) (labelsIn rs) (length-labels links rs h) ∙ passes SeqNotRising (seqsRise [] (labelsIn rs)) (rw (labels-columns (labelsIn rs)) at s)
 
 -- ── a group ──────────────────────────────────────────────────────────────────────────────────
 

@@ -30,7 +30,7 @@ unfolding
     Resolving.entries Resolving.survivesIn Resolving.groupsSurvive Resolving.resolveRules
     Routes.passes Routes.through Routes.ends Routes.Valid
     Runs.slotted Runs.heldRules Runs.resolveHeld Runs.runStep
-    Sections.labelsFit Sections.reaches Sections.place Sections.between Sections.sectionStart Sections.sectionRows Sections.rowEdges Sections.otherRows Sections.sectionGraph Sections.sectionFile Sections.sectionRules Sections.sectionBytes
+    Sections.labelsFit Sections.reaches Sections.place Sections.between Sections.sectionStart Sections.sectionRows Sections.rowEdges Sections.otherRows Sections.childLists Sections.sectionGraph Sections.sectionFile Sections.sectionFaults Sections.sectionRules Sections.sectionBytes
     Sheet.bodyAt Sheet.parentsAt Sheet.linksOf Sheet.groupsFrom Sheet.groupsOfSheet Sheet.summaryOf
     Source.sourceOf
     Step.resolve Step.step

@@ -1,7 +1,7 @@
 -- Document 01, "Cleaning" and "Archive records": an output file made of a sheet's flat lists. In a tidy sheet the rows, records and links of a
 -- group stand together, so that each column of its file is a part of the sheet's column.
 use mathlib.Core.Path.{_≡_}
-use mathlib.Core.Bool.{Bool, true, false, cond, _&&_, Bool·beq}
+use mathlib.Core.Bool.{Bool, true, false, cond, _&&_, not, Bool·beq}
 use mathlib.Core.List.{List, [], _∷_, _++_, map}
 use mathlib.Core.Option.{Option, none, some}
 use Prim.Native.Nat.{ℕ, suc, _+_, _-_, _*_}
@@ -9,11 +9,12 @@ use lib.Dec.{ltb, eqb}
 use lib.ListN.{length, getD}
 use Rattle.lists.specs.Lists.{flat, joined, starts, part, upFrom, all, filter}
 use Rattle.lists.specs.Order.{rising, notFalling}
-use Rattle.columns.specs.Limits.{kinds}
-use Rattle.columns.specs.Refusal.{firstIn}
+use Rattle.columns.specs.Limits.{kinds, edgeSets, maxRecords, maxGroups, maxNumbers, maxSubject}
+use Rattle.columns.specs.Refusal.{refuse, firstOf, firstIn}
 use Rattle.columns.specs.Reading.{Label, Labels}
-use Rattle.columns.specs.Building.{Graph, Built, buildRules, builtOf, inFile}
+use Rattle.columns.specs.Building.{Graph, Built, subjectOk, depthOk, seqsRise, reverseLists, deltasFit, buildRules, builtOf, inFile}
 use Rattle.columns.specs.declared.refusal.Refusal.{Refusal}
+use Rattle.columns.specs.declared.refusal.Refusal.the-variants.{SubjectLength, UnresolvedKind, DepthOrder, SeqNotRising, DeltaRange}
 use Rattle.cover.specs.Chains.{Link, rangesOf}
 use Rattle.cover.specs.Cover.{columnsOf}
 use Rattle.archive.specs.File.{Row, Unresolved, Root, CoverColumns, File}
@@ -84,6 +85,10 @@ sectionFirst s g = s .start + sectionStart s g
 abbrev pub sectionEnd : Sheet → ℕ → ℕ
 sectionEnd s g = s .start + sectionStart s (suc g)
 
+-- one past the last number of all rows
+abbrev pub sheetEnd : Sheet → ℕ
+sheetEnd s = s .start + rowCount s
+
 abbrev pub sectionTags : Sheet → ℕ → List ℕ
 sectionTags s g = part (sectionStart s g) (sectionRows s g) (s .tags)
 
@@ -115,6 +120,16 @@ otherRows s g = upFrom 0 (sectionStart s g) ++ upFrom (sectionStart s (suc g)) (
 
 abbrev pub sectionEdges : Sheet → ℕ → List Edge
 sectionEdges s g = flat (rowEdges s (sectionFirst s g) (sectionEnd s g)) (otherRows s g)
+
+-- ── children ─────────────────────────────────────────────────────────────────────────────────
+
+-- the children of every row, slot by slot, out of all groups
+unfoldable pub childLists : Sheet → List (List ℕ)
+childLists s = reverseLists (s .start) (rowCount s) (s .lists)
+
+-- those of group g's rows
+abbrev pub sectionChildren : Sheet → ℕ → List (List ℕ)
+sectionChildren s g = part (kinds * sectionStart s g) (kinds * sectionRows s g) (childLists s)
 
 -- ── files ────────────────────────────────────────────────────────────────────────────────────
 
@@ -166,6 +181,17 @@ sectionFileOf s g b = record {
 unfoldable pub sectionFile : Sheet → ℕ → File
 sectionFile s g = sectionFileOf s g (builtOf (sectionGraph s g))
 
+-- of building's rules those that a run's survivors can break, in building's order
+unfoldable pub sectionFaults : Sheet → ℕ → Option Refusal
+sectionFaults s g =
+    firstOf (refuse SubjectLength (not (subjectOk (s .subject)))
+    ∷ refuse UnresolvedKind (not (all (λ u. ltb (u .kind) kinds) (sectionUnresolved s g)))
+    ∷ refuse DepthOrder (not (depthOk ((factsOf s g) .depth)))
+    ∷ refuse SeqNotRising (not (seqsRise [] (sectionLabels s g)))
+    ∷ refuse DeltaRange (not (deltasFit (sectionFirst s g) (sectionLists s g)))
+    ∷ refuse DeltaRange (not (deltasFit (sectionFirst s g) (sectionChildren s g)))
+    ∷ [])
+
 -- building's rules, group by group
 unfoldable pub sectionRules : Sheet → Option Refusal
 sectionRules s = firstIn (λ g. buildRules (sectionGraph s g)) (upFrom 0 (length (s .groups)))
@@ -173,3 +199,23 @@ sectionRules s = firstIn (λ g. buildRules (sectionGraph s g)) (upFrom 0 (length
 -- the archive's bytes
 unfoldable pub sectionBytes : Sheet → List ℕ
 sectionBytes s = encode (map (sectionFile s) (upFrom 0 (length (s .groups))))
+
+-- ── room ─────────────────────────────────────────────────────────────────────────────────────
+
+-- 374: a file with a cover but no rows and no records. The length, version and kind of six records; the head with its subject; a count and one
+-- offset for each set; the counts of unresolved records, roots, ranges and links
+abbrev pub bareSize : ℕ
+bareSize = 6 * 6 + (31 + maxSubject) + edgeSets * (4 + 8) + 4 * 4
+
+-- 65: what a row adds. Its offsets in each set, whether it is erased and its tag, its label
+abbrev pub rowSize : ℕ
+rowSize = edgeSets * (kinds * 8) + (1 + 8) + (4 + 4)
+
+-- room for so many files, rows, unresolved records, roots, ranges, links and entries of all sets
+abbrev pub roomFor : ℕ → ℕ → ℕ → ℕ → ℕ → ℕ → ℕ → ℕ
+roomFor files rows unresolved roots ranges links entries =
+    files * bareSize + (rows * rowSize + (unresolved * 13 + (roots * 16 + (ranges * 12 + (links * 16 + entries * 8)))))
+
+-- room for an archive whose every count is at its limit. An entry of the new lists is in a forward set, and once more in a reverse or inbound set
+abbrev pub maxArchiveSize : ℕ
+maxArchiveSize = roomFor maxGroups maxRecords maxRecords maxRecords maxRecords maxRecords (maxNumbers + maxNumbers)

@@ -7,3 +7,6 @@ pub mod Offsets
 pub mod Few
 pub mod Checks
 pub mod Targets
+pub mod Within
+pub mod Deltas
+pub mod Sections

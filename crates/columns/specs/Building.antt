@@ -10,7 +10,7 @@ use Rattle.lists.specs.Lists.{all, flat, filter, mem, distinct, part, upFrom, j
 use Rattle.lists.specs.Order.{sort}
 use Rattle.columns.specs.Limits.{kinds, maxSubject, end64}
 use Rattle.columns.specs.Refusal.{Verdict, unless, refuse, firstOf, firstIn, Lent, limits}
-use Rattle.columns.specs.EdgeSet.{EdgeSet, offsetsForm, cut, eventOf, deltasFrom, setOf}
+use Rattle.columns.specs.EdgeSet.{EdgeSet, offsetsForm, cut, eventOf, deltaOf, deltasFrom, setOf}
 use Rattle.columns.specs.Reading.{Label, Labels, labelsOf, labelLengths}
 use Rattle.columns.specs.Questions.{listOf}
 use Rattle.columns.specs.declared.refusal.Refusal.{Refusal}
@@ -176,6 +176,20 @@ reverseLists first rows lists = slotTable (naming first rows lists) first rows
 -- inbound lists: children past the file's end, rising
 unfoldable pub inboundLists : ℕ → ℕ → InboundColumns → List (List ℕ)
 inboundLists first rows e = slotTable (λ number kind. sort (childrenTo number kind (e .children) (e .parents) (e .kindsGiven))) first rows
+
+-- ── lists cut down ───────────────────────────────────────────────────────────────────────────
+
+-- of each list the numbers from low up to high
+unfoldable pub within : ℕ → ℕ → List (List ℕ) → List (List ℕ)
+within low high lists = map (filter (inFile low high)) lists
+
+-- the same of the lists of the n rows from row `from` on of a table
+abbrev pub rowsWithin : ℕ → ℕ → ℕ → ℕ → List ℕ → List ℕ → List (List ℕ)
+rowsWithin low high from n offsets targets = within low high (part (kinds * from) (kinds * n) (cut offsets targets))
+
+-- the deltas of these numbers, of one event's list
+unfoldable pub deltasWithin : ℕ → ℕ → ℕ → List ℕ → List ℤ
+deltasWithin low high event ts = map (deltaOf event) (filter (inFile low high) ts)
 
 -- ── 14, 15: the granule ──────────────────────────────────────────────────────────────────────
 

@@ -11,7 +11,7 @@ use Rattle.lists.specs.Computes.{computes as listsOpens}
 unfoldable pub computes : Unit {0}
 unfolding
     listsOpens
-    Building.greater Building.has Building.subjectOk Building.numbersOk Building.parentRules Building.slotRules Building.inFile Building.unresolvedRules Building.allUnresolvedRules Building.lastSeq Building.seqsRise Building.inboundRules Building.allInboundRules Building.childrenTo Building.slotTable Building.naming Building.reverseLists Building.inboundLists Building.fits63 Building.deltasFit Building.forwardPart Building.reversePart Building.inboundPart Building.buildRules Building.builtOf Building.graphLengths Building.graphRecords Building.buildBeside Building.build
+    Building.greater Building.has Building.subjectOk Building.numbersOk Building.parentRules Building.slotRules Building.inFile Building.unresolvedRules Building.allUnresolvedRules Building.lastSeq Building.seqsRise Building.inboundRules Building.allInboundRules Building.childrenTo Building.slotTable Building.naming Building.reverseLists Building.inboundLists Building.within Building.deltasWithin Building.fits63 Building.deltasFit Building.forwardPart Building.reversePart Building.inboundPart Building.buildRules Building.builtOf Building.graphLengths Building.graphRecords Building.buildBeside Building.build
     EdgeSet.fromTo EdgeSet.offsetsForm EdgeSet.cutFrom EdgeSet.cut EdgeSet.deltaOf EdgeSet.isNumber EdgeSet.toNumber EdgeSet.targetOf EdgeSet.allowed EdgeSet.sound EdgeSet.deltasFrom EdgeSet.setOf
     Questions.listOf Questions.parents Questions.childrenOf Questions.children Questions.labelAt Questions.label
     Reading.soundFrom Reading.targetsFrom Reading.slotsOf Reading.setRules Reading.readSet Reading.setLengths Reading.decodeSet Reading.labelsOf Reading.labelRules Reading.columnLengths Reading.granuleRules Reading.granuleOf Reading.readBeside Reading.readGranule

@@ -3,5 +3,6 @@
 pub mod counting;
 pub mod gather;
 pub mod inbound;
+pub mod sections;
 pub mod sets;
 pub mod transpose;

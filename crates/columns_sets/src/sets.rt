@@ -15,7 +15,7 @@ ghost use Rattle.columns_rules.specs.spans.Spanned.{spansFit};
 ghost use Rattle.columns_sets.specs.sets.Reached.{setAt, Reached, Turnable};
 
 // Event minus target, where that is a number of signed 64 bits.
-fn delta(event: u64, target: u64) -> i64
+pub fn delta(event: u64, target: u64) -> i64
     requires { ⌜ fits63 (deltaOf event target) ≡ true ⌝ }
     ensures { λ r. ⌜ r ≡ deltaOf event target ⌝ }
 {

@@ -11,3 +11,4 @@ pub mod Sums
 pub mod Filters
 pub mod From
 pub mod Counting
+pub mod Storing

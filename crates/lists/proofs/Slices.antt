@@ -5,7 +5,7 @@ use Prim.Native.Nat.{ℕ, suc, _≤_, _<_, _+_, _-_}
 use native.Mathlib.Nat.{zero-add, add-zero, add-suc, suc-add}
 use native.Mathlib.Omega.{arith}
 use lib.ListN.{length, getD, take, drop, set, length-take, length-drop, take-append-drop, drop-of-length-le, List·getD-eq-default}
-use lib.Seq.{slice, sets, sets-eq, take-take, take-suc, take-append-add, take-at, drop-append-le, drop-append-seam, length-take-le}
+use lib.Seq.{slice, sets, sets-eq, set-comm, take-take, take-suc, take-append-add, take-at, drop-append-le, drop-append-seam, length-take-le}
 
 module _ {A : Type 0} where
   -- ── fronts ─────────────────────────────────────────────────────────────────────────────────
@@ -62,3 +62,13 @@ module _ {A : Type 0} where
   -- a list written from the start on, and what stays behind it
   pub sets-front : (l vs : List A) → length vs ≤ length l → sets l 0 vs ≡ vs ++ drop (length vs) l
   sets-front l vs h = sets-eq vs l 0 (omega arith) ∙ ap (λ (k : ℕ). vs ++ drop k l) (zero-add (length vs))
+
+  -- what is written first and stands behind may as well be written last
+  set-before : (l : List A) (i p : ℕ) (x : A) (ys : List A) → i < p → set (sets l p ys) i x ≡ sets (set l i x) p ys
+  set-before l i p x [] h = refl
+  set-before l i p x (y ∷ ys) h = set-before (set l p y) i (suc p) x ys (omega arith) ∙ ap (λ (m : List A). sets m (suc p) ys) (set-comm l p i y x (λ e. omega arith))
+
+  pub sets-before : (l : List A) (i p : ℕ) (xs ys : List A) → i + length xs ≤ p → sets (sets l p ys) i xs ≡ sets (sets l i xs) p ys
+  sets-before l i p [] ys h = refl
+  sets-before l i p (x ∷ xs) ys h =
+      ap (λ (m : List A). sets m (suc i) xs) (set-before l i p x ys (omega arith)) ∙ sets-before (set l i x) (suc i) p xs ys (omega arith)

@@ -16,7 +16,7 @@ use Rattle.cleaning.specs.Cleaning.{mapped, reparented}
 use Rattle.archive.specs.Parse.{parse}
 use Rattle.columns.specs.declared.refusal.Ruling.the-variants.{Kept, Broken}
 use Rattle.run_state.specs.View.{sheetIn, heldIn}
-use Rattle.run_state.specs.Valid.{sheetOk, heldOk}
+use Rattle.run_state.specs.Valid.{sheetOk, heldOk, onceOk}
 use Rattle.run_state.specs.order.Ordered.{ordered, filled}
 use Rattle.run_take.specs.Took.{TookBy}
 use Rattle.run_take.specs.declared.Taken.{Taken}
@@ -37,7 +37,7 @@ use Rattle.run.specs.declared.Reply.the-variants.{Done, Refused}
 use Rattle.run.specs.declared.Number.the-variants as number
 use Rattle.run.specs.declared.Count.the-variants as count
 use Rattle.run.proofs.OverHeld.{taking-refused, taking-done, resolving-refused, resolving-done, resolved-grouped}
-use Rattle.run.proofs.InTurn.{OutOf, not-taking, not-resolved-yet, seen-taking, seen-resolved, survivors-valid, survivors-order, survivors-filled, resolved-valid, resolved-order, taking-valid, taking-order}
+use Rattle.run.proofs.InTurn.{OutOf, not-taking, not-resolved-yet, seen-taking, seen-resolved, survivors-valid, survivors-order, survivors-filled, survivors-once, resolved-valid, resolved-order, taking-valid, taking-order}
 
 -- ── out of turn ──────────────────────────────────────────────────────────────────────────────
 
@@ -98,6 +98,9 @@ module _ (r : Run) {b : Bool} (e : b ≡ isResolved r) (k : not b ≡ false) whe
   pub sheet-filled : filled (r .sheet) ≡ true
   sheet-filled = survivors-filled r is-resolved
 
+  pub sheet-once : onceOk (r .sheet) ≡ true
+  sheet-once = survivors-once r is-resolved
+
   pub held-valid : heldOk (r .held) ≡ true
   held-valid = resolved-valid r is-resolved
 
@@ -125,7 +128,7 @@ module _ (r : Run) {b : Bool} (e : b ≡ isResolved r) (k : not b ≡ false) whe
   write-now was w = record { answers = w .answers ∙ ap (λ s. writtenFrom s (length was)) (sym (seen-resolved r is-resolved)); rest = w .rest; within = w .within }
 
   pub list-ready : Ready (r .held) (r .sheet)
-  list-ready = record { heldValid = held-valid; heldOrder = held-order; valid = sheet-valid; inOrder = sheet-order; whole = sheet-filled }
+  list-ready = record { heldValid = held-valid; heldOrder = held-order; valid = sheet-valid; inOrder = sheet-order; whole = sheet-filled; once = sheet-once }
 
   pub list-now : {is : List ℕ} {a : Writing} (was : List ℕ) → columns.Lists (heldIn (r .held)) (sheetIn (r .sheet)) was is a → Lists r was is a
   unfolding runStep listedFrom
@@ -140,9 +143,9 @@ now-taking r p k o = rw (k, o, p)
 
 -- with the survivors' columns it is resolved
 now-resolved : (r : Run) → r .phase ≡ 1 → heldOk (r .held) ≡ true → ordered (r .held .sheet) ≡ true → sheetOk (r .sheet) ≡ true → grouped (r .sheet) ≡ true
-    → ordered (r .sheet) ≡ true → filled (r .sheet) ≡ true → view r ≡ resolved (heldIn (r .held)) (sheetIn (r .sheet))
+    → ordered (r .sheet) ≡ true → filled (r .sheet) ≡ true → onceOk (r .sheet) ≡ true → view r ≡ resolved (heldIn (r .held)) (sheetIn (r .sheet))
 unfolding view phased holdable writable
-now-resolved r p k o l g q f = rw (k, o, p, l, g, q, f)
+now-resolved r p k o l g q f n = rw (k, o, p, l, g, q, f, n)
 
 -- ── taking ───────────────────────────────────────────────────────────────────────────────────
 
@@ -188,4 +191,4 @@ module _ (r : Run) {b : Bool} (e : b ≡ isTaking r) (k : not b ≡ false) (q : 
   resolve-done d =
       goes r e k resolves _
       (resolving-done (r .held) q m d
-      ∙ ap (λ s. runOutcome s done) (sym (now-resolved _ refl (sources-valid r e k) (sources-order r e k) (m .valid d) (resolved-grouped (r .held) q m d) (m .inOrder d) (m .whole d))))
+      ∙ ap (λ s. runOutcome s done) (sym (now-resolved _ refl (sources-valid r e k) (sources-order r e k) (m .valid d) (resolved-grouped (r .held) q m d) (m .inOrder d) (m .whole d) (m .once d))))

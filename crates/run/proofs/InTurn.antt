@@ -14,7 +14,7 @@ use Rattle.cleaning.specs.Runs.{RunState, taking, resolved, spoiled, runOutcome
 use Rattle.run_state.specs.View.{sheetIn, heldIn}
 use Rattle.run_state.specs.declared.Sheet.{Sheet}
 use Rattle.run_state.specs.declared.Held.{Held}
-use Rattle.run_state.specs.Valid.{countsOk, sheetOk, heldOk}
+use Rattle.run_state.specs.Valid.{countsOk, sheetOk, heldOk, onceOk}
 use Rattle.run_state.specs.order.Ordered.{ordered, filled}
 use Rattle.run.specs.declared.Run.{Run}
 use Rattle.run.specs.View.{holdable, grouped, writable, phased, view, takingBy, resolvedBy, isTaking, isResolved}
@@ -39,9 +39,12 @@ module _ (s : Sheet) {a : Bool} (e : a ≡ sheetOk s) where
   not-sheet k = rw (← e, not-true a k)
 
   module _ (k : not a ≡ false) where
+    pub sheet-kept : sheetOk s ≡ true
+    sheet-kept = sym e ∙ not-false a k
+
     pub sheet-counts : countsOk s ≡ true
     unfolding sheetOk
-    sheet-counts = both (countsOk s) _ (sym e ∙ not-false a k) .0
+    sheet-counts = both (countsOk s) _ sheet-kept .0
 
     pub no-group : s .groups .count < 1 → false ≡ writable s
     unfolding writable grouped
@@ -52,9 +55,14 @@ module _ (s : Sheet) {a : Bool} (e : a ≡ sheetOk s) where
       unfolding writable grouped
       not-ordered m = rw (← e, not-false a k, lt-ltb 0 (s .groups .count) h, ← f, not-true b m)
 
-      pub then-filled : not b ≡ false → {d : Bool} → d ≡ filled s → d ≡ writable s
-      unfolding writable grouped
-      then-filled m g = rw (← e, not-false a k, lt-ltb 0 (s .groups .count) h, ← f, not-false b m) g
+      module _ (m : not b ≡ false) {d : Bool} (g : d ≡ filled s) where
+        pub not-filled : not d ≡ true → false ≡ writable s
+        unfolding writable grouped
+        not-filled n = rw (← e, not-false a k, lt-ltb 0 (s .groups .count) h, ← f, not-false b m, ← g, not-true d n)
+
+        pub then-once : not d ≡ false → {w : Bool} → w ≡ onceOk s → w ≡ writable s
+        unfolding writable grouped
+        then-once n o = rw (← e, not-false a k, lt-ltb 0 (s .groups .count) h, ← f, not-false b m, ← g, not-false d n) o
 
 module _ (phase : ℕ) (a : Bool) where
   pub other-phase : (phase ≡ 0 → ⊥) → false ≡ takingBy phase a
@@ -166,11 +174,12 @@ module _ (r : Run) where
     unfolding holdable
     resolved-order = both (heldOk (r .held)) _ (was-resolved .1 .0) .1
 
-    sheet-tests : (sheetOk (r .sheet) ≡ true) × ((ordered (r .sheet) ≡ true) × (filled (r .sheet) ≡ true))
+    sheet-tests : (sheetOk (r .sheet) ≡ true) × ((ordered (r .sheet) ≡ true) × ((filled (r .sheet) ≡ true) × (onceOk (r .sheet) ≡ true)))
     unfolding writable
     sheet-tests =
         let a = both (sheetOk (r .sheet)) _ (was-resolved .1 .1) in
-        (a .0, both (ordered (r .sheet)) _ (both (grouped (r .sheet)) _ (a .1) .1))
+        let b = both (ordered (r .sheet)) _ (both (grouped (r .sheet)) _ (a .1) .1) in
+        (a .0, (b .0, both (filled (r .sheet)) _ (b .1)))
 
     pub survivors-valid : sheetOk (r .sheet) ≡ true
     survivors-valid = sheet-tests .0
@@ -179,4 +188,7 @@ module _ (r : Run) where
     survivors-order = sheet-tests .1 .0
 
     pub survivors-filled : filled (r .sheet) ≡ true
-    survivors-filled = sheet-tests .1 .1
+    survivors-filled = sheet-tests .1 .1 .0
+
+    pub survivors-once : onceOk (r .sheet) ≡ true
+    survivors-once = sheet-tests .1 .1 .1

@@ -7,7 +7,7 @@ use Rattle.cleaning.specs.Runs.{RunState, taking, resolved, spoiled}
 use Rattle.run_state.specs.declared.Sheet.{Sheet}
 use Rattle.run_state.specs.declared.Held.{Held}
 use Rattle.run_state.specs.View.{sheetIn, heldIn}
-use Rattle.run_state.specs.Valid.{sheetOk, heldOk}
+use Rattle.run_state.specs.Valid.{sheetOk, heldOk, onceOk}
 use Rattle.run_state.specs.order.Ordered.{ordered, filled}
 use Rattle.run.specs.declared.Run.{Run}
 
@@ -19,9 +19,9 @@ holdable h = heldOk h && ordered (h .sheet)
 unfoldable pub grouped : Sheet → Bool
 grouped s = ltb 0 (s .groups .count)
 
--- columns of survivors, to be written group by group
+-- columns of survivors, to be written group by group; their lists name each parent once, as those that resolving makes do
 unfoldable pub writable : Sheet → Bool
-writable s = sheetOk s && (grouped s && (ordered s && filled s))
+writable s = sheetOk s && (grouped s && (ordered s && (filled s && onceOk s)))
 
 -- by phase: 0 takes sources, 1 is resolved
 unfoldable pub phased : ℕ → Run → RunState

@@ -27,7 +27,10 @@ pub(crate) fn is_writable(s: Sheet) -> bool
     if !run_state::order::is_ordered(s) {
         return false;
     }
-    run_state::order::is_filled(s)
+    if !run_state::order::is_filled(s) {
+        return false;
+    }
+    run_state::valid::is_once(s)
 }
 
 // Whether a run of that phase takes sources.

@@ -20,7 +20,7 @@ use Rattle.cleaning.specs.Runs.{RunState, taking, resolved, runOutcome, freshRu
 use Rattle.run_state.specs.declared.Held.{Held}
 use Rattle.run_state.specs.Blank.{blank}
 use Rattle.run_state.specs.View.{sheetIn, heldIn}
-use Rattle.run_state.specs.Valid.{sheetOk, heldOk}
+use Rattle.run_state.specs.Valid.{sheetOk, heldOk, onceOk}
 use Rattle.run_state.specs.order.Long.{LongHeld}
 use Rattle.run_state.specs.order.Ordered.{ordered, filled}
 use Rattle.run_take.specs.Took.{archiveRules}
@@ -75,6 +75,13 @@ module _ (l : List ℕ) (q : Resolution) (k : Survived l q) (e : q .ruling ≡ K
       go : Survived l q → filled (q .sheet) ≡ true
       go (untaken x a b) = two-rulings x b e
       go (taken h a b c m) = m .whole e
+
+  pub survivors-once : onceOk (q .sheet) ≡ true
+  survivors-once = go k
+    where
+      go : Survived l q → onceOk (q .sheet) ≡ true
+      go (untaken x a b) = two-rulings x b e
+      go (taken h a b c m) = m .once e
 
 -- ── the calls ────────────────────────────────────────────────────────────────────────────────
 

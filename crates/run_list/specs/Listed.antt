@@ -9,7 +9,7 @@ use Rattle.cleaning.specs.Sheet.{Sheet, summaryOf}
 use Rattle.cleaning.specs.Held.{Held, archiveHeld}
 use Rattle.run_state.specs.declared.Sheet as sheets
 use Rattle.run_state.specs.declared.Held as holds
-use Rattle.run_state.specs.Valid.{sheetOk, heldOk}
+use Rattle.run_state.specs.Valid.{sheetOk, heldOk, onceOk}
 use Rattle.run_state.specs.order.Ordered.{ordered, filled}
 use Rattle.run_state.specs.declared.Writing.{Writing}
 use Rattle.run_write.specs.Answers.{Gives}
@@ -21,6 +21,7 @@ pub record Ready (h : holds.Held) (s : sheets.Sheet) : Type 0 where
   pub valid : sheetOk s ≡ true
   pub inOrder : ordered s ≡ true
   pub whole : filled s ≡ true
+  pub once : onceOk s ≡ true
 
 -- the listing of what a run holds, and of the sheet of its survivors
 abbrev pub Lists : Held → Sheet → List ℕ → List ℕ → Writing → Type 0

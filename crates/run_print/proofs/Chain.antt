@@ -39,7 +39,7 @@ module _ (h : Held) (q : Resolution) (m : ResolvedBy h q) where
 
   module _ (d : q .ruling ≡ Kept) where
     pub list-ready : heldOk h ≡ true → ordered (h .sheet) ≡ true → Ready h (q .sheet)
-    list-ready k o = record { heldValid = k; heldOrder = o; valid = m .valid d; inOrder = m .inOrder d; whole = m .whole d }
+    list-ready k o = record { heldValid = k; heldOrder = o; valid = m .valid d; inOrder = m .inOrder d; whole = m .whole d; once = m .once d }
 
     pub then-listed : {was is : List ℕ} {w : Writing} → Lists (heldIn h) (sheetIn (q .sheet)) was is w
         → Gives printed (resolvedList (taking (heldIn h))) was is w

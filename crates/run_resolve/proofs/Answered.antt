@@ -45,6 +45,7 @@ broken-by h x r e f = record {
   valid = λ k. absurd (not-kept x e k);
   inOrder = λ k. absurd (not-kept x e k);
   whole = λ k. absurd (not-kept x e k);
+  once = λ k. absurd (not-kept x e k);
 }
 
 module _ (h : Held) where
@@ -73,6 +74,7 @@ module _ (h : Held) where
         valid = λ _. w .valid;
         inOrder = λ _. w .inOrder;
         whole = λ _. sym g ∙ not-false a b;
+        once = λ _. w .once;
       }
 
 pub lists-within : (h : Held) (q : Renewed) → ListsRenewed h q → q .over ≡ false → EdgesKept (flagsIn h) (newIn h) (q .edges)

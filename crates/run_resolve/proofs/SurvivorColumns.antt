@@ -1,7 +1,8 @@
--- The columns of the survivors stand for the survivors' sheet and are valid and in order.
+-- The columns of the survivors stand for the survivors' sheet and are valid and in order, with lists that name each parent once.
 use mathlib.Core.Path.{_≡_, refl, sym, ap, subst, _∙_}
 use mathlib.Core.Bool.{Bool, true, not}
 use mathlib.Core.List.{List, [], _∷_, map}
+use mathlib.Core.Option.{none}
 use Prim.Native.Nat.{ℕ, _+_, _-_, _^_, _≤_}
 use native.Mathlib.Omega.{arith}
 use lib.Dec.{eqb, leb, ltb}
@@ -11,18 +12,18 @@ use borrow.Author.Tests.{le-leb, lt-ltb}
 use Rattle.lists.specs.Lists.{all, upFrom}
 use Rattle.lists.proofs.Tests.{both}
 use Rattle.columns.specs.Limits.{maxRecords, maxNumbers, maxGroups, maxSubject, end64}
-use Rattle.columns.specs.Building.{inFile}
+use Rattle.columns.specs.Building.{inFile, slotRules}
 use Rattle.run_renumber.specs.NewLists.{newLists}
 use Rattle.cleaning.specs.Sections.{Tidy, reaches}
 use Rattle.cleaning.specs.Survivors.{survivorSheet}
 use Rattle.cleaning.proofs.HeldColumns.{held-entries, held-lists}
 use Rattle.cleaning.proofs.FilledGroups.{held-survive}
-use Rattle.cleaning.proofs.Neat.{Neat, neat-valid, survivors-tidy}
+use Rattle.cleaning.proofs.Neat.{Neat, neat-valid, survivors-tidy, survivors-once}
 use Rattle.run_state.specs.declared.Edges.{Edges}
 use Rattle.run_state.specs.declared.Sheet.{Sheet}
 use Rattle.run_state.specs.declared.Held.{Held}
 use Rattle.run_state.specs.View.{listed, unresolvedAt, rootAt, slotsIn, sheetIn, heldIn}
-use Rattle.run_state.specs.Valid.{edgesOk, countsOk, below, earlier, recordsOk, sheetOk, heldOk}
+use Rattle.run_state.specs.Valid.{edgesOk, countsOk, below, earlier, recordsOk, sheetOk, heldOk, onceOk}
 use Rattle.run_compact.specs.Columns.{gone, survive}
 use Rattle.run_state.specs.order.Ordered.{ordered}
 use Rattle.run_state.specs.order.Long.{LongSheet, LongHeld}
@@ -131,6 +132,14 @@ module _ (h : Held) (ok : heldOk h ≡ true) (o : ordered (h .sheet) ≡ true) (
     unfolding newIn heldIn sheetIn survivorSheet gone
     in-turn = rw (m .start, m .rows .count, m .edges, k .slots) (survivors-earlier (heldIn h) neat)
 
+    parents-once : slotRules ((sheetIn s) .start) 0 ((sheetIn s) .lists) ≡ none
+    unfolding newIn
+    parents-once = rw stands (survivors-once (heldIn h) neat)
+
+    named-once : onceOk s ≡ true
+    unfolding onceOk sheetIn
+    named-once = rw parents-once
+
     fine : sheetOk s ≡ true
     unfolding sheetOk
     fine = rw (in-limits, in-form, of-rows) in-turn
@@ -141,6 +150,7 @@ module _ (h : Held) (ok : heldOk h ≡ true) (o : ordered (h .sheet) ≡ true) (
       view = stands;
       valid = fine;
       inOrder = ordered-sheet s l fine tidy;
+      once = named-once;
       reached = filled-sheet s l fine
           ∙ ap (λ x. reaches (length (x .groups)) 0 (x .rowGroups)) stands
           ∙ sym (held-survive (heldIn h) (neat .rows) (neat .tidy));

@@ -19,7 +19,7 @@ use Rattle.cleaning.specs.Runs.{slotted, heldRules}
 use Rattle.run_state.specs.declared.Sheet.{Sheet}
 use Rattle.run_state.specs.declared.Held.{Held}
 use Rattle.run_state.specs.View.{sheetIn, heldIn}
-use Rattle.run_state.specs.Valid.{sheetOk}
+use Rattle.run_state.specs.Valid.{sheetOk, onceOk}
 use Rattle.run_state.specs.order.Ordered.{ordered, filled}
 use Rattle.run_resolve.specs.declared.parents.Renewed.{Renewed}
 use Rattle.run_resolve.specs.parents.Renewal.{EdgesKept}
@@ -46,11 +46,12 @@ pub record ListsRenewed (h : Held) (q : Renewed) : Type 0 where
   pub over : q .over ≡ ltb maxNumbers (entries (tables (archiveIn h)))
   pub kept : q .over ≡ false → EdgesKept (flagsIn h) (newIn h) (q .edges)
 
--- the sheet of the survivors, valid and in order; every group has a row where every group has a survivor
+-- the sheet of the survivors, valid and in order, with lists that name each parent once; every group has a row where every group has a survivor
 pub record SurvivorsIn (h : Held) (s : Sheet) : Type 0 where
   pub view : sheetIn s ≡ survivorSheet (heldIn h) (newIn h)
   pub valid : sheetOk s ≡ true
   pub inOrder : ordered s ≡ true
+  pub once : onceOk s ≡ true
   pub reached : filled s ≡ groupsSurvive (archiveIn h)
 
 -- the first broken rule; where there is none, the sheet of the survivors, to be written group by group
@@ -60,3 +61,4 @@ pub record ResolvedBy (h : Held) (r : Resolution) : Type 0 where
   pub valid : r .ruling ≡ Kept → sheetOk (r .sheet) ≡ true
   pub inOrder : r .ruling ≡ Kept → ordered (r .sheet) ≡ true
   pub whole : r .ruling ≡ Kept → filled (r .sheet) ≡ true
+  pub once : r .ruling ≡ Kept → onceOk (r .sheet) ≡ true

@@ -11,7 +11,13 @@ use borrow.Author.Tests.{lt-ltb, le-ltb, not-true, not-false}
 use Rattle.lists.specs.Lists.{all}
 use Rattle.lists.proofs.Slices.{slice-none}
 use Rattle.columns.specs.EdgeSet.{offsetsForm, cut, eventOf}
-use Rattle.columns.specs.Building.{inFile}
+use Rattle.columns.specs.Building.{inFile, slotRules}
+use Rattle.columns.specs.Answers.{ruling}
+use Rattle.columns.specs.declared.refusal.Refusal.{Refusal}
+use Rattle.columns.specs.declared.refusal.Ruling.{Ruling}
+use Rattle.columns.specs.declared.refusal.Ruling.the-variants.{Kept, Broken}
+use Rattle.columns.proofs.Told.{told, told-kept}
+use Rattle.cleaning.specs.Source.{isThere}
 use Rattle.columns_rules.proofs.SlotTables.{table-of, length-cut}
 use Rattle.columns_rules.proofs.ParentTurns.{slot-list}
 use Rattle.run_state.specs.Valid.{below, earlier}
@@ -86,3 +92,12 @@ module _ {t : Bool} (first rows s : ℕ) (offsets targets : List ℕ) (ok : offs
     pub slot-early : not r ≡ false → t ≡ earlier first (s + 1) (drop (s + 1) (cut offsets targets))
     unfolding earlier
     slot-early g = rw (e, here, ← k, not-false r g, add-one)
+
+-- ── every slot names its parents once ────────────────────────────────────────────────────────
+
+module _ (first : ℕ) (lists : List (List ℕ)) {r : Ruling} (e : r ≡ ruling (slotRules first 0 lists)) where
+  pub named-once : r ≡ Kept → true ≡ not (isThere (slotRules first 0 lists))
+  named-once k = rw (told-kept (slotRules first 0 lists) e k)
+
+  pub not-once : (x : Refusal) → r ≡ Broken x → false ≡ not (isThere (slotRules first 0 lists))
+  not-once x k = rw (told (slotRules first 0 lists) e k)

@@ -12,14 +12,15 @@ use Rattle.lists.specs.Lists.{all}
 use Rattle.lists.proofs.Tests.{both}
 use Rattle.columns.specs.Limits.{maxRecords, maxNumbers, maxGroups, maxSubject, end64}
 use Rattle.columns.specs.EdgeSet.{offsetsForm, cut}
-use Rattle.columns.specs.Building.{inFile, numbersOk}
+use Rattle.columns.specs.Building.{inFile, numbersOk, slotRules}
 use Rattle.columns_rules.proofs.FileOrder.{numbers-are}
+use Rattle.cleaning.specs.Source.{isThere}
 use Rattle.run_state.specs.declared.Sheet.{Sheet}
 use Rattle.run_state.specs.declared.Edges.{Edges}
 use Rattle.run_state.specs.declared.Held.{Held}
 use Rattle.run_state.specs.declared.valid.Sizes.{Sizes}
 use Rattle.run_state.specs.View.{slotsIn}
-use Rattle.run_state.specs.Valid.{tableOk, edgesOk, countsOk, below, earlier, recordsOk, sizesOf, columnsOk, sheetOk, heldOk}
+use Rattle.run_state.specs.Valid.{tableOk, edgesOk, countsOk, below, earlier, recordsOk, sizesOf, columnsOk, sheetOk, heldOk, onceOk}
 
 -- ── counts ───────────────────────────────────────────────────────────────────────────────────
 
@@ -178,6 +179,34 @@ module _ (s : Sheet) {a : Bool} (d : a ≡ countsOk s) where
       pub columns-test : {b : Bool} → b ≡ Columns z s → b ≡ sheetOk s
       unfolding sheetOk edgesOk recordsOk slotsIn columnsOk
       columns-test e = rw (← d, not-false a h) (rw y at e)
+
+-- a sheet whose lists are tested for parents that stand twice
+module _ (s : Sheet) (k : sheetOk s ≡ true) where
+  valid-counts : Few s
+  unfolding sheetOk
+  valid-counts = few s (both (countsOk s) _ k .0)
+
+  valid-edges : edgesOk (s .rows .count) (s .edges) ≡ true
+  unfolding sheetOk
+  valid-edges = both (edgesOk (s .rows .count) (s .edges)) _ (both (countsOk s) _ k .1) .0
+
+  pub valid-rows : s .rows .count ≤ 1024
+  valid-rows = valid-counts .rows
+
+  pub valid-end : s .start + s .rows .count < end64
+  valid-end = valid-counts .numbers
+
+  pub valid-numbers : s .edges .count ≤ 4096
+  valid-numbers = few-numbers (s .rows .count) (s .edges) valid-edges
+
+  pub valid-form : offsetsForm (s .rows .count) (s .edges .count) (take (2 * s .rows .count + 1) (s .edges .offsets)) ≡ true
+  valid-form = in-form (s .rows .count) (s .edges) valid-edges
+
+pub once-test : (s : Sheet) {r : Bool}
+    → r ≡ not (isThere (slotRules (s .start) 0 (cut (take (2 * s .rows .count + 1) (s .edges .offsets)) (take (s .edges .count) (s .edges .targets)))))
+    → r ≡ onceOk s
+unfolding onceOk slotsIn
+once-test s e = e
 
 module _ (h : Held) {a : Bool} (d : a ≡ countsOk (h .sheet)) where
   pub bad-held : not a ≡ true → false ≡ heldOk h

@@ -1,6 +1,6 @@
 -- What columns must satisfy to be those of a run: counts within the limits, tables in form, records of rows that are there, parents before their
 -- children. Every test computes, so that a run is tested before it is used.
-use mathlib.Core.Bool.{Bool, true, _&&_}
+use mathlib.Core.Bool.{Bool, true, _&&_, not}
 use mathlib.Core.List.{List, [], _∷_}
 use Prim.Native.Nat.{ℕ, suc, _+_, _*_}
 use lib.Dec.{ltb, leb}
@@ -8,7 +8,8 @@ use lib.ListN.{take}
 use Rattle.lists.specs.Lists.{all}
 use Rattle.columns.specs.Limits.{kinds, maxRecords, maxNumbers, maxGroups, maxSubject, end64}
 use Rattle.columns.specs.EdgeSet.{offsetsForm, cut, eventOf}
-use Rattle.columns.specs.Building.{inFile}
+use Rattle.columns.specs.Building.{inFile, slotRules}
+use Rattle.cleaning.specs.Source.{isThere}
 use Rattle.run_state.specs.declared.Sheet as sheets
 use Rattle.run_state.specs.declared.Edges.{Edges}
 use Rattle.run_state.specs.declared.Held as holds
@@ -59,3 +60,7 @@ sheetOk s = countsOk s && (edgesOk (s .rows .count) (s .edges) && (recordsOk s &
 
 unfoldable pub heldOk : holds.Held → Bool
 heldOk h = sheetOk (h .sheet) && (edgesOk (h .sheet .rows .count) (h .reverse) && edgesOk (h .sheet .rows .count) (h .inbound))
+
+-- no parent at or above its event, none twice in a list: 4 and 5 over all rows
+unfoldable pub onceOk : sheets.Sheet → Bool
+onceOk s = not (isThere (slotRules (s .start) 0 (slotsIn (s .rows .count) (s .edges))))

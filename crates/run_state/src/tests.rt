@@ -1,9 +1,11 @@
-// Tests of one or two columns: the form of offsets, numbers below their event, records of rows that are there.
+// Tests of one or two columns: the form of offsets, numbers below their event and once in a list, records of rows that are there.
 use arrays::index;
+use columns::refusal::Ruling;
 use columns_rules::records::parts::is_in_file;
+use columns_rules::slots::slot_rules;
 use columns_slots::sets::is_form;
 ghost use mathlib.Core.Path.{_≡_};
-ghost use mathlib.Core.Bool.{true};
+ghost use mathlib.Core.Bool.{true, not};
 ghost use mathlib.Core.List.{[]};
 ghost use Prim.Native.Nat.{_+_, _*_, _≤_, _<_};
 ghost use lib.ListN.{length, getD, take};
@@ -11,7 +13,8 @@ ghost use lib.Seq.{slice};
 ghost use Rattle.lists.specs.Lists.{all};
 ghost use Rattle.columns.specs.Limits.{end64};
 ghost use Rattle.columns.specs.EdgeSet.{offsetsForm, cut, eventOf};
-ghost use Rattle.columns.specs.Building.{inFile};
+ghost use Rattle.columns.specs.Building.{inFile, slotRules};
+ghost use Rattle.cleaning.specs.Source.{isThere};
 ghost use Rattle.run_state.specs.Valid.{below, earlier};
 
 // Whether the offsets of n rows are in form.
@@ -76,6 +79,21 @@ pub fn order_ok(first: u64, rows: usize, count: usize, offsets: &[u64], targets:
 {
     let k = 2 * rows + 1;
     are_earlier(first, rows, &offsets[..k], &targets[..count])
+}
+
+// Whether every number that is held is below its event and stands once in its list.
+pub fn once_ok(first: u64, rows: usize, count: usize, offsets: &[u64], targets: &[u64]) -> bool
+    requires { ⌜ (rows ≤ 1024) × ((first + rows < end64) × (count ≤ 4096)) ⌝ }
+    requires { ⌜ (length (now offsets) ≡ 2049) × (length (now targets) ≡ 4096) ⌝ }
+    requires { ⌜ offsetsForm rows count (take (2 * rows + 1) (now offsets)) ≡ true ⌝ }
+    ensures { λ r. ⌜ r ≡ not (isThere (slotRules first 0 (cut (take (2 * rows + 1) (now (offsets .entry))) (take count (now (targets .entry)))))) ⌝ }
+{
+    let k = 2 * rows + 1;
+    let r = slot_rules(first, rows, &offsets[..k], &targets[..count]);
+    match r {
+        Ruling::Kept => true,
+        Ruling::Broken(_) => false,
+    }
 }
 
 // Whether the first n numbers are those of rows from `first` on.

@@ -7,13 +7,15 @@ use crate::Sheet;
 use crate::Unresolved;
 use crate::tests::are_below;
 use crate::tests::are_in_file;
+use crate::tests::once_ok;
 use crate::tests::order_ok;
 use crate::tests::table_ok;
 ghost use mathlib.Core.Path.{_≡_};
+ghost use mathlib.Core.Bool.{true};
 ghost use Prim.Native.Nat.{_+_, _≤_, _<_};
 ghost use lib.ListN.{length};
 ghost use Rattle.columns.specs.Limits.{end64};
-ghost use Rattle.run_state.specs.Valid.{tableOk, countsOk, sizesOf, columnsOk, sheetOk, heldOk};
+ghost use Rattle.run_state.specs.Valid.{tableOk, countsOk, sizesOf, columnsOk, sheetOk, heldOk, onceOk};
 
 // The numbers that the tests of a sheet's columns go by.
 struct Sizes {
@@ -118,6 +120,17 @@ pub fn sheet_ok(s: Sheet) -> bool
     let children = s.unresolved.children;
     let roots = s.roots.rows;
     columns_ok(sizes_of(s), &offsets, &targets, &children, &roots)
+}
+
+// Whether the lists of a sheet name each parent once, and none at or above its event.
+pub fn is_once(s: Sheet) -> bool
+    requires { ⌜ sheetOk s ≡ true ⌝ }
+    ensures { λ r. ⌜ r ≡ onceOk s ⌝ }
+{
+    edges_long(s.edges);
+    let offsets = s.edges.offsets;
+    let targets = s.edges.targets;
+    once_ok(s.start, s.rows.count, s.edges.count, &offsets, &targets)
 }
 
 // Whether what is held is what a run holds.

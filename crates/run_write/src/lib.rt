@@ -10,7 +10,7 @@ use run_state::order::long::sheet_long;
 ghost use mathlib.Core.Path.{_≡_};
 ghost use mathlib.Core.Bool.{true};
 ghost use Rattle.run_state.specs.View.{sheetIn};
-ghost use Rattle.run_state.specs.Valid.{sheetOk};
+ghost use Rattle.run_state.specs.Valid.{sheetOk, onceOk};
 ghost use Rattle.run_state.specs.order.Ordered.{ordered, filled};
 ghost use Rattle.run_write.specs.Answers.{Laid, Wrote};
 
@@ -115,7 +115,7 @@ fn put_groups(s: Sheet, out: &mut [u8]) -> Measured
 // Writes the archive, unless a rule refuses it or it has no room. The archive is laid in a room of its own first, since nothing changes before the
 // last rule; one that were longer than the room is laid again where it belongs.
 pub fn write_sheet(s: Sheet, out: &mut [u8]) -> Writing
-    requires { ⌜ (sheetOk s ≡ true) × ((ordered s ≡ true) × (filled s ≡ true)) ⌝ }
+    requires { ⌜ (sheetOk s ≡ true) × ((ordered s ≡ true) × ((filled s ≡ true) × (onceOk s ≡ true))) ⌝ }
     ensures { λ r. ⌜ Wrote (sheetIn s) (now (out .entry)) (now (out .exit)) r ⌝ }
 {
     sheet_long(s);

@@ -1,13 +1,12 @@
 -- Edges of a granule: event minus target as a number of signed 64 bits, and one turn over targets, slots and edges.
-use mathlib.Core.Path.{_≡_, refl, ap}
+use mathlib.Core.Path.{_≡_, refl}
 use mathlib.Core.Bool.{Bool, true, false, not, _&&_}
 use mathlib.Core.Logic.{inl, inr}
 use mathlib.Core.List.{List, [], _∷_, map}
-use Prim.Native.Nat.{ℕ, zero, suc, _+_, _-_, _*_, _/_, _≤_, _<_}
+use Prim.Native.Nat.{ℕ, suc, _+_, _-_, _*_, _/_, _≤_, _<_}
 use native.Mathlib.Numerals.{add-one}
 use native.Mathlib.Omega.{arith}
 use lib.Dec.{ltb, leb}
-use lib.IntN.{pos, negsuc}
 use lib.ListN.{length, getD, drop, drop-of-length-le, length-take, length-drop}
 use lib.Seq.{slice, slice-cons, drop-cons, getD-take, getD-drop}
 use borrow.Author.Tests.{lt-ltb, le-ltb, leb-true, leb-false, not-true, not-false}
@@ -16,36 +15,21 @@ use Rattle.lists.proofs.Tests.{tested, all-append}
 use Rattle.lists.proofs.Slices.{slice-none}
 use Rattle.columns.specs.EdgeSet.{offsetsForm, cut, eventOf, deltaOf, deltasFrom}
 use Rattle.columns.specs.Building.{fits63, deltasFit}
+use Rattle.columns.proofs.Deltas.{delta-down, delta-up}
 use Rattle.columns_rules.specs.spans.Spanned.{spansFit, slotsFit}
 use Rattle.columns_rules.proofs.SlotTables.{table-of, length-cut, getD-cut}
 
 -- ── event minus target ───────────────────────────────────────────────────────────────────────
 
 module _ (event target : ℕ) where
-  pub delta-down : target ≤ event → deltaOf event target ≡ pos (event - target)
-  unfolding deltaOf
-  delta-down h = go target h
-    where
-      go : (t : ℕ) → t ≤ event → deltaOf event t ≡ pos (event - t)
-      go zero h = ap pos (omega arith)
-      go (suc n) h = rw (le-ltb event (suc n) h)
-
-  pub delta-up : event < target → deltaOf event target ≡ negsuc (target - event - 1)
-  unfolding deltaOf
-  delta-up h = go target h
-    where
-      go : (t : ℕ) → event < t → deltaOf event t ≡ negsuc (t - event - 1)
-      go zero h = absurd (omega arith)
-      go (suc n) h = rw (lt-ltb event (suc n) h) (ap negsuc (omega arith))
-
   pub span-down : target ≤ event → ltb (event - target) 9223372036854775808 ≡ fits63 (deltaOf event target)
   unfolding fits63
-  span-down h = rw (delta-down h)
+  span-down h = rw (delta-down event target h)
 
   pub span-up : event < target → leb (target - event) 9223372036854775808 ≡ fits63 (deltaOf event target)
   unfolding fits63
   span-up h =
-      rw (delta-up h) (elim (tested (leb (target - event) 9223372036854775808)) [
+      rw (delta-up event target h) (elim (tested (leb (target - event) 9223372036854775808)) [
         | inl e ↦ rw (e, lt-ltb (target - event - 1) 9223372036854775808 (omega (arith, leb-true (target - event) 9223372036854775808 e)))
         | inr e ↦ rw (e, le-ltb (target - event - 1) 9223372036854775808 (omega (arith, leb-false (target - event) 9223372036854775808 e)))
       ])

@@ -18,7 +18,8 @@ use Rattle.lists.proofs.Slices.{slice-none}
 use Rattle.columns.specs.EdgeSet.{deltaOf}
 use Rattle.columns.specs.Building.{fits63}
 use Rattle.columns_rules.specs.spans.Spanned.{spansFit}
-use Rattle.columns_rules.proofs.spans.SpanTurns.{delta-down, delta-up, span-down, span-up}
+use Rattle.columns.proofs.Deltas.{delta-down, delta-up}
+use Rattle.columns_rules.proofs.spans.SpanTurns.{span-down, span-up}
 
 below : (m : ℕ) → negsuc 0 -ℤ pos m ≡ negsuc m
 below zero = refl
@@ -51,7 +52,7 @@ module _ (event target : ℕ) (f : fits63 (deltaOf event target) ≡ true) where
     pub up-is : toZ w64 (ofZ w64 (negsuc 0 -ℤ toZ w64 (target - event - 1))) ≡ deltaOf event target
     up-is = rw (back, below (target - event - 1)) (toZ-ofZ w64 (negsuc (target - event - 1)) past-fits ∙ sym (delta-up event target h))
 
-signed : (d : ℤ) → fits63 d ≡ true → SFits w64 d
+pub signed : (d : ℤ) → fits63 d ≡ true → SFits w64 d
 unfolding fits63
 signed (pos n) e = record { sfits = ltb-true n 9223372036854775808 e }
 signed (negsuc n) e = record { sfits = ltb-true n 9223372036854775808 e }

@@ -1,11 +1,11 @@
 -- `run_clean::clean` meets its contract.
-use Rattle.run_clean.proofs.Chain.{survivors-valid, survivors-order, survivors-filled, is-refusal, then-written}
+use Rattle.run_clean.proofs.Chain.{survivors-valid, survivors-order, survivors-filled, survivors-once, is-refusal, then-written}
 use borrow.Author.Needs.{needs}
 use Rattle.run_clean.proofs.clean.Statement.{statement}
 use Rattle.run_clean.proofs.clean.Tie as tie
 
 write-sheet-requires : tie.Need-write-sheet-requires
-write-sheet-requires c κs = (search survivors-valid, (search survivors-order, search survivors-filled))
+write-sheet-requires c κs = (search survivors-valid, (search survivors-order, (search survivors-filled, search survivors-once)))
 
 returns : tie.Need-returns
 returns c = search is-refusal

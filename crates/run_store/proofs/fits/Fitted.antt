@@ -22,6 +22,7 @@ use Rattle.columns.specs.declared.refusal.Refusal.the-variants.{CoverForm}
 use Rattle.columns.proofs.FirstBroken.{each-none, passed}
 use Rattle.columns.proofs.Checks.{kept-form}
 use Rattle.archive_bytes.specs.Bytes.{be, several}
+use Rattle.archive_bytes.proofs.Several.{map-several}
 use Rattle.cover.specs.Cover.{evenColumns, sumsFit, linksOk, linkRules, rangeRules}
 use Rattle.archive.specs.File.{CoverColumns, File}
 use Rattle.archive.specs.Parse.{depthRead, rootAt}
@@ -42,7 +43,6 @@ use Rattle.run_state.specs.View.{factsAt, sheetIn, heldIn}
 use Rattle.run_state.specs.Valid.{edgesOk, countsOk, sheetOk, heldOk}
 use Rattle.run_state.specs.order.Long.{LongEdges, LongHeld}
 use Rattle.run_store.specs.grow.Column.{Small}
-use Rattle.run_store.proofs.parts.Things.{map-several}
 use Rattle.run_store.proofs.joined.Fitting.{SetFit, LinkFit, HeldFit}
 use Rattle.run_store.proofs.joined.RowLabels.{Labelled}
 use Rattle.run_store.proofs.joined.HeldOk.{SheetSound}

@@ -1,4 +1,4 @@
--- A part of each thing of a record, as a column.
+-- One number for each thing of a record, as a column.
 use mathlib.Core.Path.{_≡_, refl, ap}
 use mathlib.Core.List.{List, _∷_, map}
 use Prim.Native.Nat.{ℕ, zero, suc}
@@ -6,11 +6,6 @@ use lib.ListN.{drop, replicate}
 use Rattle.archive_bytes.specs.Bytes.{several}
 
 module _ {A B : Type 0} (w : ℕ) (f : List ℕ → A) where
-  pub map-several : (g : A → B) (n : ℕ) (l : List ℕ) → map g (several w f n l) ≡ several w (λ l. g (f l)) n l
-  unfolding several
-  map-several g zero l = refl
-  map-several g (suc n) l = ap (λ r. g (f l) ∷ r) (map-several g n (drop w l))
-
   pub same-several : (v : B) (n : ℕ) (l : List ℕ) → map (λ x. v) (several w f n l) ≡ replicate n v
   unfolding several
   same-several v zero l = refl

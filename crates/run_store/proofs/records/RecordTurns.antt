@@ -8,6 +8,7 @@ use mir.Syntax.{w64}
 use mir.Val.{Fits}
 use native.Mathlib.Omega.{arith}
 use Rattle.archive_bytes.specs.Bytes.{be, several}
+use Rattle.archive_bytes.proofs.Several.{map-several}
 use Rattle.archive.specs.Parse.{file, unresolvedAt, rootAt}
 use Rattle.archive.proofs.Back.{length-several}
 use Rattle.archive_read.specs.Layout.{partIn, middleIn, tailIn, fileFrom, fileIn, fileOf, Holds, AfterFile}
@@ -20,7 +21,6 @@ use Rattle.run_state.specs.declared.Roots.{Roots}
 use Rattle.run_state.specs.declared.Held.{Held}
 use Rattle.run_store.specs.grow.Column.{Small}
 use Rattle.run_store.specs.parts.Grown.{unresolvedWith, rootsWith}
-use Rattle.run_store.proofs.parts.Things.{map-several}
 use Rattle.run_store.specs.joined.Joined.{sheetMore, heldMore}
 use Rattle.run_store.specs.file.Fits.{HeldRoom}
 use Rattle.run_store.specs.file.Steps.{heldNext}

@@ -12,6 +12,7 @@ use mir.Val.{Fits}
 use native.Mathlib.Omega.{arith}
 use borrow.Author.Tests.{not-true, not-false}
 use Rattle.archive_bytes.specs.Bytes.{be, several, column}
+use Rattle.archive_bytes.proofs.Several.{map-several}
 use Rattle.archive.specs.File.{CoverColumns, Row}
 use Rattle.archive.specs.Parse.{file, rowAt}
 use Rattle.archive.proofs.Back.{length-several}
@@ -26,7 +27,7 @@ use Rattle.run_state.specs.declared.Rows.{Rows}
 use Rattle.run_state.specs.declared.Held.{Held}
 use Rattle.run_store.specs.grow.Column.{bit}
 use Rattle.run_store.specs.parts.Grown.{rowsWith, labelsWith}
-use Rattle.run_store.proofs.parts.Things.{map-several, same-several}
+use Rattle.run_store.proofs.parts.Things.{same-several}
 use Rattle.run_store.specs.joined.Joined.{labelsMore, sheetMore, heldMore}
 use Rattle.run_store.specs.file.Steps.{heldNext}
 use Rattle.run_store.specs.turns.Parts.{stored, Accepted}

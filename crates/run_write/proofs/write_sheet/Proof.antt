@@ -19,7 +19,7 @@ returns-2 : tie.Need-returns-2
 returns-2 c =
     let s = c .before .before .before .before .before .before .before .before .before .before .before .before .before .before in
     let pre = s .pre in
-    wrote-copy _ (c .before .before .before .before .before .before .before .before .before .before .before .before .sheet-long .ensures) (pre .0) (pre .1 .0) (pre .1 .1) (c .before .before .before .before .before .before .before .before .before .before .put-groups .ensures) _ (c .before .before .before .before .before .before .before .enum-told .given .1) (search needs) (length-replicate {A = ℕ} 196448 0) (c .before .before .before .before .before .if2 .taken) (c .before .before .store-bytes .ensures)
+    wrote-copy _ (c .before .before .before .before .before .before .before .before .before .before .before .before .sheet-long .ensures) (pre .0) (pre .1 .0) (pre .1 .1 .0) (c .before .before .before .before .before .before .before .before .before .before .put-groups .ensures) _ (c .before .before .before .before .before .before .before .enum-told .given .1) (search needs) (length-replicate {A = ℕ} 196448 0) (c .before .before .before .before .before .if2 .taken) (c .before .before .store-bytes .ensures)
 
 returns-3 : tie.Need-returns-3
 returns-3 c = search (needs, wrote-refused)

@@ -1,0 +1,2 @@
+pub mod ListWrites
+pub mod SectionWrites

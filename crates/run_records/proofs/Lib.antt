@@ -1,0 +1,11 @@
+pub mod Turns
+pub mod Whole
+pub mod Columns
+pub mod Ranges
+pub mod Covered
+pub mod SetsStored
+pub mod Going
+pub mod Halves
+pub mod Rest
+pub mod Grouped
+pub mod LaidStores

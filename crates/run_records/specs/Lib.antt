@@ -1,0 +1,5 @@
+pub mod Stored
+pub mod Narrow
+pub mod Front
+pub mod Lengths
+pub mod Files

@@ -1,0 +1,74 @@
+-- How many numbers of some rows' lists are in a range: those of the part of the column where the lists stand together.
+use mathlib.Core.Path.{_≡_, refl, sym, ap, _∙_}
+use mathlib.Core.Bool.{true}
+use mathlib.Core.List.{List}
+use Prim.Native.Nat.{ℕ, zero, suc, _+_, _-_, _*_, _≤_, _<_}
+use native.Mathlib.Omega.{arith}
+use lib.ListN.{length, getD}
+use lib.Seq.{slice}
+use Rattle.lists.specs.Lists.{joined, filter, part}
+use Rattle.columns.specs.Limits.{kinds, maxNumbers}
+use Rattle.columns.specs.EdgeSet.{fromTo, offsetsForm, cut, setOf}
+use Rattle.columns.specs.Building.{inFile, within, rowsWithin}
+use Rattle.columns.proofs.Offsets.{form-climbs, form-length, starts-at, ordered, inside}
+use Rattle.cleaning.proofs.Within.{count-within}
+use Rattle.run_section.specs.declared.Counts.{Counts}
+use Rattle.run_section.specs.declared.Section.{Section}
+use Rattle.run_section.specs.Files.{setsAt}
+use Rattle.run_section.specs.Sizes.{EdgesOf}
+use Rattle.run_section.proofs.Pieces.{joined-piece}
+
+module _ (rows a b : ℕ) (offsets targets : List ℕ) (form : offsetsForm rows (length targets) offsets ≡ true) (rises : a ≤ b) (there : b ≤ rows) where
+  pub offset-there : 2 * a < length offsets
+  offset-there = omega (arith, form-length rows (length targets) offsets form)
+
+  pub last-there : 2 * b < length offsets
+  last-there = omega (arith, form-length rows (length targets) offsets form)
+
+  climb : fromTo 0 (length targets) offsets ≡ true
+  climb = form-climbs rows (length targets) offsets form
+
+  climbs : (i d : ℕ) → i + d < length offsets → getD offsets i 0 ≤ getD offsets (i + d) 0
+  climbs i zero h = let e : i + 0 ≡ i = omega arith in rw e (omega arith)
+  climbs i (suc d) h =
+      let e : i + suc d ≡ i + d + 1 = omega arith in
+      rw e (omega (arith, climbs i d (omega arith), ordered (length targets) offsets climb (i + d) (omega arith) (getD offsets (i + d) 0) (getD offsets (i + d + 1) 0) refl refl))
+
+  up-to-all : (k : ℕ) → k < length offsets → getD offsets k 0 ≤ length targets
+  up-to-all zero h = omega (arith, starts-at (length targets) offsets climb)
+  up-to-all (suc k) h =
+      let e : suc k ≡ k + 1 = omega arith in
+      rw e (inside (length targets) offsets climb k (omega arith) (getD offsets k 0) (getD offsets (k + 1) 0) refl refl)
+
+  module _ (from to : ℕ) (f : from ≡ getD offsets (2 * a) 0) (t : to ≡ getD offsets (2 * b) 0) where
+    piece : joined (part (2 * a) (2 * (b - a)) (cut offsets targets)) ≡ slice from to targets
+    piece =
+        let e : 2 * a + 2 * (b - a) ≡ 2 * b = omega arith in
+        joined-piece offsets targets (form-climbs rows (length targets) offsets form) (2 * a) (2 * (b - a)) (omega (arith, last-there))
+        ∙ rw (e, ← f, ← t)
+
+    pub rows-rise : from ≤ to
+    rows-rise = let e : 2 * a + 2 * (b - a) ≡ 2 * b = omega arith in omega (arith, f, t, ap (λ k. getD offsets k 0) e, climbs (2 * a) (2 * (b - a)) (omega (arith, last-there)))
+
+    pub rows-end : to ≤ length targets
+    rows-end = omega (arith, t, up-to-all (2 * b) last-there)
+
+    pub rows-counted : {r : ℕ} (low high : ℕ) → r ≡ length (filter (inFile low high) (slice from to targets))
+        → r ≡ length (joined (rowsWithin low high a (b - a) offsets targets))
+    unfolding setOf
+    rows-counted low high q =
+        q ∙ ap (λ l. length (filter (inFile low high) l)) (sym piece) ∙ sym (count-within low high 0 (part (2 * a) (2 * (b - a)) (cut offsets targets)))
+
+    pub rows-few : {r : ℕ} → r ≤ to - from → length targets ≤ maxNumbers → r ≤ maxNumbers
+    rows-few q k = omega (arith, rows-end)
+
+-- ── the sets of a section ────────────────────────────────────────────────────────────────────
+
+pub edges-counted : (z : Counts) (s : Section) (offsets targets starts kids : List ℕ) {f r i : ℕ}
+    → f ≡ length (joined (rowsWithin 0 (z .start + z .rows) (s .rows .from) (s .rows .to - s .rows .from) offsets targets)) → f ≤ maxNumbers
+    → r ≡ length (joined (rowsWithin 0 (z .start + s .rows .to) (s .rows .from) (s .rows .to - s .rows .from) starts kids)) → r ≤ maxNumbers
+    → i ≡ length (joined (rowsWithin (z .start + s .rows .to) (z .start + z .rows) (s .rows .from) (s .rows .to - s .rows .from) starts kids)) → i ≤ maxNumbers
+    → EdgesOf (setsAt z s offsets targets starts kids) (record { forward = f; reverse = r; inbound = i })
+unfolding setsAt setOf
+edges-counted z s offsets targets starts kids a b c d e f =
+    record { forward-is = a; reverse-is = c; inbound-is = e; few-forward = b; few-reverse = d; few-inbound = f }

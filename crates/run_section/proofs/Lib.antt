@@ -1,0 +1,14 @@
+pub mod Records
+pub mod Placing
+pub mod Tested
+pub mod Pieces
+pub mod Sectioned
+pub mod Filed
+pub mod Counting
+pub mod Measured
+pub mod Measuring
+pub mod Grouped
+pub mod Covering
+pub mod CoverSections
+pub mod Laying
+pub mod LaidSheets

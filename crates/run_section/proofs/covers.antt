@@ -1,0 +1,5 @@
+pub mod Labelling
+pub mod Ranging
+pub mod Laying
+pub mod Adding
+pub mod Joining

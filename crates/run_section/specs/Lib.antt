@@ -1,0 +1,11 @@
+pub mod Tables
+pub mod Laid
+pub mod Sections
+pub mod Rules
+pub mod Ready
+pub mod Files
+pub mod Sizes
+pub mod Measures
+pub mod Covers
+pub mod Facts
+pub mod Prepared
