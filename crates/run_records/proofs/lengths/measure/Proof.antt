@@ -17,48 +17,32 @@ abbrev μ-loop : tie.MeasureT-loop
 μ-loop z subject groups covers rows unresolved roots links offsets targets starts kids n total₀ g₀ total g =
     n - g
 
--- src/groups.rt:77:5
 loop-holds : tie.Need-loop-holds Inv-loop μ-loop
 loop-holds c = let ready = c .before .before .before .before .before .before .before .before .before .pre .0 in (refl, omega arith, going-starts _ _ (sym (groups-count _ _ _ _ _ _ _ _ _)) (ready .few .groups-count))
 
--- src/groups.rt:78:13
 measure-group-requires : tie.Need-measure-group-requires Inv-loop μ-loop
 measure-group-requires c κs = let pre = c .before .before .before .before .before .before .before .before .before .before .before .pre in (pre .0, (pre .1, c .loop-test .taken))
 
--- src/groups.rt:84:28
-enum-known-v : tie.Need-enum-known-v Inv-loop μ-loop
-enum-known-v c = search needs
-
--- src/groups.rt:85:17
 returns : tie.Need-returns Inv-loop μ-loop
 returns c = all-broken _ _ _ _ (c .before .before .before .measure-group .ensures) (c .before .before .before .before .loop-test .taken) _ (c .before .v .given .1) (c .before .before .before .before .before .loop .inv .2)
 
--- src/groups.rt:91:17
-enum-told : tie.Need-enum-told Inv-loop μ-loop
-enum-told c = search needs
-
--- src/groups.rt:91:17
 add-total : tie.Need-add-total Inv-loop μ-loop
 add-total c = total-fits _ _ _ _ (c .before .before .before .measure-group .ensures) (c .before .before .before .before .loop-test .taken) (c .before .before .before .before .before .loop .inv .2)
 
--- src/groups.rt:92:17
 add-g : tie.Need-add-g Inv-loop μ-loop
 add-g c = record { fits = omega (arith, c .before .before .before .before .loop-test .taken, c .before .before .before .before .before .loop .inv .2 .few) }
 
--- src/groups.rt:77:5
 loop-less : tie.Need-loop-less Inv-loop μ-loop
 loop-less c = omega (arith, c .before .before .before .before .loop-test .taken)
 
--- src/groups.rt:77:5
 loop-again : tie.Need-loop-again Inv-loop μ-loop
 loop-again c = (refl, omega (arith, c .before .before .before .before .loop-test .taken), going-on _ _ _ _ (c .before .before .before .measure-group .ensures) (c .before .before .before .before .loop-test .taken) (c .before .enum-told .given .1) (c .before .before .before .before .before .loop .inv .2))
 
--- src/groups.rt:56:1
 returns-2 : tie.Need-returns-2 Inv-loop μ-loop
 returns-2 c = going-ends _ _ _ _ (c .loop-test .left) (c .before .loop .inv .2)
 
 pub measure-spec : {M : Type 1} → statement M
 measure-spec =
     tie.close
-    (tie.spec Inv-loop μ-loop loop-holds measure-group-requires enum-known-v returns enum-told add-total add-g loop-less loop-again
-    returns-2)
+    (tie.spec Inv-loop μ-loop loop-holds measure-group-requires (λ c. search needs) returns (λ c. search needs) add-total add-g loop-less
+    loop-again returns-2)

@@ -4,21 +4,11 @@ use borrow.Author.Needs.{needs}
 use Rattle.run_records.proofs.lengths.measure_group.Statement.{statement}
 use Rattle.run_records.proofs.lengths.measure_group.Tie as tie
 
--- src/groups.rt:38:9
-facts-of-requires : tie.Need-facts-of-requires
-facts-of-requires c κs = search needs
-
--- src/groups.rt:39:9
-section-of-requires : tie.Need-section-of-requires
-section-of-requires c κs = search needs
-
--- src/groups.rt:45:9
 sub-measure-section : tie.Need-sub-measure-section
 sub-measure-section c =
     let pre = c .before .before .before .before .before .before .before .before .before .before .before .before .pre in
     ranges-rise _ _ _ _ _ _ _ _ _ (pre .0) _ (pre .1 .1) _ (c .before .section-of .ensures) (pre .1 .0 .0) _ (pre .1 .0 .1) _ (c .before .before .facts-of .ensures)
 
--- src/groups.rt:40:5
 measure-section-requires : tie.Need-measure-section-requires
 measure-section-requires c κs =
     let pre = c .before .before .before .before .before .before .before .before .before .before .before .before .pre in (
@@ -29,11 +19,10 @@ measure-section-requires c κs =
       both-lists _ _ _ _ _ _ _ _ _ (pre .0) (pre .1 .0 .0),
     )
 
--- src/groups.rt:18:1
 returns : tie.Need-returns
 returns c =
     let pre = c .before .before .before .before .before .before .before .before .before .before .before .before .before .pre in
     group-measured _ _ _ _ _ _ _ _ _ (pre .0) _ (pre .1 .1) _ (c .before .before .section-of .ensures) (pre .1 .0 .0) _ (pre .1 .0 .1) _ (c .before .before .before .facts-of .ensures) _ (c .measure-section .ensures)
 
 pub measure-group-spec : {M : Type 1} → statement M
-measure-group-spec = tie.close (tie.spec facts-of-requires section-of-requires sub-measure-section measure-section-requires returns)
+measure-group-spec = tie.close (tie.spec (λ c κs. search needs) (λ c κs. search needs) sub-measure-section measure-section-requires returns)
