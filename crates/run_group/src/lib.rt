@@ -1,4 +1,3 @@
-// One group of the survivors: where its rows and records stand, their parts of the sheet's columns, and its chain cover.
-pub mod covers;
+// One group of the survivors: where its rows and records stand, and their parts of the sheet's columns.
 pub mod parts;
 pub mod sections;

@@ -9,16 +9,13 @@ use crate::parts::narrow::part8;
 use crate::parts::wide::part64;
 use crate::sections::places::byte_place_of;
 use crate::sections::places::place_of;
-use run_state::Groups;
 use run_state::Rows;
 use run_state::Unresolved;
-use run_state::output::Head;
 ghost use mathlib.Core.Path.{_≡_};
-ghost use Prim.Native.Nat.{_+_, _≤_, _<_};
+ghost use Prim.Native.Nat.{_+_, _≤_};
 ghost use lib.ListN.{take};
 ghost use Rattle.cleaning.specs.Sections.{place, between};
-ghost use Rattle.run_state.specs.View.{listed, factsAt, unresolvedAt};
-ghost use Rattle.run_state.specs.output.View.{depthIn};
+ghost use Rattle.run_state.specs.View.{listed, unresolvedAt};
 ghost use Rattle.run_group.specs.parts.Parts.{UnresolvedPart};
 
 // Where the rows of group g start: how many rows are of groups before it.
@@ -27,20 +24,6 @@ pub fn group_place(rows: Rows, g: usize) -> usize
     ensures { λ r. ⌜ r ≡ place g (take (rows .count) (rows .groups)) ⌝ }
 {
     byte_place_of(&rows.groups, rows.count, g as u64)
-}
-
-// What a file's head says of group g.
-pub fn part_head(groups: Groups, first: u64, g: usize) -> Head
-    requires { ⌜ g < 16 ⌝ }
-    ensures { λ r. ⌜ (r .first ≡ first) × ((r .group ≡ g) × (depthIn r ≡ (factsAt groups g) .depth)) ⌝ }
-{
-    Head {
-        first: first,
-        group: g as u8,
-        known: groups.known[g] != 0,
-        least: groups.least[g],
-        greatest: groups.greatest[g],
-    }
 }
 
 // The n unresolved records from place a on.

@@ -1,25 +1,35 @@
 -- The files of the groups from one on: their lines and what those take. All are those from group 0 on; one turn of each loop goes from g to g + 1.
 use mathlib.Core.Path.{_≡_, refl, sym, ap, _∙_}
+use mathlib.Core.Bool.{true}
 use mathlib.Core.List.{List, [], _∷_, _++_, map}
 use mathlib.Core.Option.{Option, none}
 use Prim.Native.Nat.{ℕ, suc, _+_, _-_, _*_, _≤_, _<_}
 use native.Mathlib.Numerals.{add-one}
 use native.Mathlib.Omega.{arith}
+use lib.Dec.{leb}
 use lib.ListN.{length}
+use borrow.Author.Tests.{leb-true}
+use Rattle.lists.proofs.Tests.{both}
 use Rattle.lists.specs.Lists.{flat, upFrom, sum}
 use Rattle.lists.proofs.Flat.{length-map-upFrom}
+use Rattle.columns.specs.Limits.{maxGroups, maxSubject}
 use Rattle.columns.specs.Answers.{ruling}
 use Rattle.columns.specs.Building.{buildRules}
 use Rattle.columns.specs.declared.refusal.Refusal.{Refusal}
+use Rattle.columns.specs.declared.refusal.Ruling.{Ruling}
 use Rattle.columns.specs.declared.refusal.Ruling.the-variants.{Kept, Broken}
+use Rattle.columns.proofs.Told.{told, told-kept}
 use Rattle.archive.specs.File.{File}
 use Rattle.cleaning.specs.Lines.{fileLines}
 use Rattle.cleaning.specs.Sheet as plain
 use Rattle.cleaning.specs.Sections.{sectionGraph, sectionFile, sectionRules}
 use Rattle.run_state.specs.declared.Sheet.{Sheet}
 use Rattle.run_state.specs.View.{factsAt, sheetIn}
+use Rattle.run_state.specs.Valid.{countsOk, sheetOk}
+use Rattle.run_state.specs.order.Long.{LongSheet}
+use Rattle.run_state.proofs.order.TidySheets.{counts}
 use Rattle.run_state.specs.output.View.{builtIn}
-use Rattle.run_write.proofs.Rest.{rulesFrom, rules-end, rules-next, rules-first, kept-rules, goes-on, stops}
+use Rattle.run_records.proofs.Going.{rulesFrom, rules-end, rules-next, rules-broken, rules-first}
 use Rattle.run_text.specs.numbers.Wrote.{Wrote}
 use Rattle.cleaning.specs.Listed.{fileSize}
 use Rattle.run_text.specs.files.Files.{fileText, entries, Within}
@@ -66,12 +76,26 @@ module _ (s : plain.Sheet) (g n : ℕ) where
   unfolding needFrom filesNeed sum
   need-next h = rw (files-next h, add-one)
 
+pub groups-few : (s : Sheet) → LongSheet s → sheetOk s ≡ true → s .groups .count ≤ 16
+unfolding countsOk
+groups-few s l k =
+    leb-true (s .groups .count) maxGroups (both (leb (s .groups .count) maxGroups) _ (both (leb (s .subject .length) maxSubject) _ (counts s l k) .1) .0)
+
 module _ (s : Sheet) where
+  groups-count : length ((sheetIn s) .groups) ≡ s .groups .count - 0
+  unfolding sheetIn
+  groups-count = length-map-upFrom (factsAt (s .groups)) 0 (s .groups .count) ∙ omega arith
+
+  pub all-rules : sectionRules (sheetIn s) ≡ rulesFrom (sheetIn s) 0 (s .groups .count)
+  unfolding sectionRules rulesFrom
+  all-rules = rw groups-count
+
+  pub no-rules : sectionRules (sheetIn s) ≡ none → rulesFrom (sheetIn s) 0 (s .groups .count) ≡ none
+  no-rules h = sym all-rules ∙ h
+
   all-files : sectionFiles (sheetIn s) ≡ filesFrom (sheetIn s) 0 (s .groups .count)
-  unfolding sectionFiles filesFrom sheetIn
-  all-files =
-      let e : length ((sheetIn s) .groups) ≡ s .groups .count - 0 = length-map-upFrom (factsAt (s .groups)) 0 (s .groups .count) ∙ omega arith in
-      ap (λ k. map (sectionFile (sheetIn s)) (upFrom 0 k)) e
+  unfolding sectionFiles filesFrom
+  all-files = ap (λ k. map (sectionFile (sheetIn s)) (upFrom 0 k)) groups-count
 
   pub all-need : filesNeed (sectionFiles (sheetIn s)) ≡ 0 + needFrom (sheetIn s) 0 (s .groups .count)
   unfolding needFrom
@@ -85,6 +109,19 @@ module _ (s : Sheet) where
   all-lines l at = rw all-files (record { stored = refl; next = refl })
 
 -- ── one turn ─────────────────────────────────────────────────────────────────────────────────
+
+module _ (s : plain.Sheet) (g n : ℕ) (h : g < n) {q : Ruling} (m : q ≡ ruling (buildRules (sectionGraph s g))) where
+  -- a group that keeps the rules leaves the others'
+  module _ (k : q ≡ Kept) where
+    kept-rules : buildRules (sectionGraph s g) ≡ none
+    kept-rules = told-kept (buildRules (sectionGraph s g)) m k
+
+    goes-on : {t : Option Refusal} → t ≡ rulesFrom s g n → t ≡ rulesFrom s (g + 1) n
+    goes-on e = e ∙ rules-next s g n h kept-rules ∙ ap (λ k. rulesFrom s k n) (sym (add-one g))
+
+  -- the rule that a group breaks is the first
+  stops : {t : Option Refusal} (x : Refusal) → t ≡ rulesFrom s g n → q ≡ Broken x → Broken x ≡ ruling t
+  stops x e k = rw (e, rules-broken s g n h x (told (buildRules (sectionGraph s g)) m k))
 
 module _ (s : plain.Sheet) (g n : ℕ) {r : Shown} (m : Shows s g r) (h : g < n) where
   module _ (k : r .ruling ≡ Kept) where

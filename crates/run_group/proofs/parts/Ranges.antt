@@ -4,7 +4,7 @@ use mathlib.Core.List.{List, map, map-map}
 use Prim.Native.Nat.{ℕ, _+_, _-_, _≤_, _<_}
 use native.Mathlib.Nat.{zero-add}
 use native.Mathlib.Omega.{arith}
-use lib.ListN.{length, getD, take, drop, length-take, List·getD-map}
+use lib.ListN.{length, getD, take, drop, length-take}
 use lib.Seq.{getD-take, getD-drop}
 use Rattle.lists.specs.Lists.{part, upFrom}
 use Rattle.lists.proofs.Filters.{map-places}
@@ -14,9 +14,8 @@ use Rattle.cleaning.proofs.Parts.{length-part}
 use Rattle.cleaning.proofs.Places.{place-within, place-rises}
 use Rattle.run_state.proofs.order.TidySheets.{column-listed}
 use Rattle.run_state.specs.declared.Unresolved.{Unresolved}
-use Rattle.run_state.specs.declared.Roots.{Roots}
-use Rattle.run_state.specs.View.{listed, unresolvedAt, rootAt}
-use Rattle.run_group.specs.parts.Parts.{UnresolvedPart, RootsPart, lessBy, lowered}
+use Rattle.run_state.specs.View.{listed, unresolvedAt}
+use Rattle.run_group.specs.parts.Parts.{UnresolvedPart}
 
 -- ── parts ────────────────────────────────────────────────────────────────────────────────────
 
@@ -46,14 +45,6 @@ module _ (xs ys : List ℕ) (a n j : ℕ) (h : j < n) where
 
   column-at : take n xs ≡ part a n ys → getD xs j 0 ≡ getD ys (a + j) 0
   column-at e = sym (getD-take n xs j 0 h) ∙ ap (λ l. getD l j 0) e ∙ part-at
-
-  less-at : (low : ℕ) → take n xs ≡ lowered low (part a n ys) → getD xs j 0 ≡ getD ys (a + j) 0 - low
-  unfolding lowered
-  less-at low e =
-      let less : ℕ → ℕ = λ x. x - low in
-      sym (getD-take n xs j 0 h) ∙ ap (λ l. getD l j 0) e
-      ∙ ap (λ d. getD (map less (part a n ys)) j d) {x = 0} {y = 0 - low} (omega arith)
-      ∙ List·getD-map less (part a n ys) j 0 ∙ ap less part-at
 
 -- ── places ───────────────────────────────────────────────────────────────────────────────────
 
@@ -96,18 +87,3 @@ module _ (u r : Unresolved) (low high a b : ℕ) (p : a ≡ place low (take (u .
       ))
       ∙ sym (between-places low high m (u .children) a b p q h (λ x. x .child) (unresolvedAt u)
       (map-map (λ x. x .child) (unresolvedAt u) (upFrom 0 m) ∙ column-listed m (u .children) (omega arith)))
-
-module _ (r q : Roots) (low high a b : ℕ) (p : a ≡ place low (take (r .count) (r .rows))) (o : b ≡ place high (take (r .count) (r .rows)))
-    (w : RootsPart a (b - a) low r q) (h : low ≤ high) (k : r .count ≤ 1024) where
-  pub roots-between : length (r .rows) ≡ 1024
-      → listed (rootAt q) (q .count) ≡ map (lessBy low) (between (λ x. x .row) low high (listed (rootAt r) (r .count)))
-  unfolding rootAt
-  roots-between l =
-      let m = r .count in
-      let n = b - a in
-      ap (λ k. listed (rootAt q) k) (w .count)
-      ∙ listed-shifted (rootAt q) (λ i. lessBy low (rootAt r i)) a n
-      (λ j i. rw (less-at (q .rows) (r .rows) a n j i low (w .rows), column-at (q .handles) (r .handles) a n j i (w .handles)))
-      ∙ sym (map-map (lessBy low) (rootAt r) (upFrom a n))
-      ∙ ap (map (lessBy low)) (sym (between-places low high m (r .rows) a b p o h (λ x. x .row) (rootAt r)
-      (map-map (λ x. x .row) (rootAt r) (upFrom 0 m) ∙ column-listed m (r .rows) (omega arith))))

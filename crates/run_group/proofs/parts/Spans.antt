@@ -1,25 +1,25 @@
 -- The rows of a group: what holds of where they start and end.
 use mathlib.Core.Path.{_≡_, refl, sym, ap₂, _∙_}
 use mathlib.Core.Bool.{true}
-use mathlib.Core.List.{List, map}
+use mathlib.Core.List.{List}
 use Prim.Native.Nat.{ℕ, _+_, _-_, _≤_, _<_}
 use native.Mathlib.Omega.{arith}
 use lib.ListN.{take}
 use mir.Syntax.{w64}
 use mir.Val.{Fits}
 use Rattle.columns.specs.Limits.{end64}
-use Rattle.archive.specs.File.{Unresolved, Root}
-use Rattle.cleaning.specs.Sections.{place, between, sectionStart, sectionRows, sectionUnresolved, sectionRoots}
+use Rattle.archive.specs.File.{Unresolved}
+use Rattle.cleaning.specs.Sections.{place, between, sectionStart, sectionRows, sectionUnresolved}
 use Rattle.run_state.specs.declared.Sheet.{Sheet}
-use Rattle.run_state.specs.View.{listed, unresolvedAt, rootAt, sheetIn}
+use Rattle.run_state.specs.View.{listed, unresolvedAt, sheetIn}
 use Rattle.run_state.specs.Valid.{sheetOk}
 use Rattle.run_state.proofs.Verdicts.{numbers-kept}
 use Rattle.run_state.specs.order.Ordered.{ordered}
 use Rattle.run_state.specs.order.Long.{LongSheet}
-use Rattle.run_state.proofs.order.Turns.{rows-few, children-few, roots-few, links-few}
+use Rattle.run_state.proofs.order.Turns.{rows-few, children-few}
 use Rattle.run_state.proofs.order.TidySheets.{counts}
-use Rattle.run_group.specs.parts.Parts.{SpanOf, lessBy}
-use Rattle.run_group.proofs.parts.Sectioned.{start-place, end-place, starts-rise, unresolved-section, roots-section, section-ends}
+use Rattle.run_group.specs.parts.Parts.{SpanOf}
+use Rattle.run_group.proofs.parts.Sectioned.{start-place, end-place, starts-rise, unresolved-section, section-ends}
 
 module _ (s : Sheet) (l : LongSheet s) (k : sheetOk s ≡ true) where
   pub rows-within : s .rows .count ≤ 1024
@@ -27,12 +27,6 @@ module _ (s : Sheet) (l : LongSheet s) (k : sheetOk s ≡ true) where
 
   pub records-within : s .unresolved .count ≤ 1024
   records-within = children-few s (counts s l k)
-
-  pub roots-within : s .roots .count ≤ 1024
-  roots-within = roots-few s (counts s l k)
-
-  pub links-within : s .links .count ≤ 1024
-  links-within = links-few s (counts s l k)
 
   pub start-within : s .start + s .rows .count < end64
   start-within = numbers-kept s (sym (counts s l k)) refl
@@ -73,8 +67,3 @@ module _ (s : Sheet) (g a b : ℕ) (p : SpanOf s g a b) where
     unfolding sheetIn
     unresolved-made e =
         e ∙ ap₂ (λ x y. between (λ u. u .child) (s .start + x) (s .start + y) (listed (unresolvedAt (s .unresolved)) (s .unresolved .count))) (p .from) (p .to) ∙ unresolved-section s g
-
-    pub roots-made : {rs : List Root} → rs ≡ map (lessBy a) (between (λ x. x .row) a b (listed (rootAt (s .roots)) (s .roots .count)))
-        → rs ≡ sectionRoots (sheetIn s) g
-    roots-made e =
-        e ∙ ap₂ (λ x y. map (lessBy x) (between (λ r. r .row) x y (listed (rootAt (s .roots)) (s .roots .count)))) (p .from) (p .to) ∙ roots-section s g

@@ -1,13 +1,12 @@
--- A part of a column copied to the front of another: one turn of the loop, whatever is made of the number.
-use mathlib.Core.Path.{_≡_, sym, ap, _∙_}
-use mathlib.Core.List.{List, [], _∷_, _++_, map, map-append}
-use Prim.Native.Nat.{ℕ, _+_, _-_, _≤_, _<_}
+-- A part of a column copied to the front of another: one turn of the loop.
+use mathlib.Core.Path.{_≡_, sym, _∙_}
+use mathlib.Core.List.{List, [], _∷_, _++_}
+use Prim.Native.Nat.{ℕ, _+_, _≤_, _<_}
 use native.Mathlib.Numerals.{add-one}
 use native.Mathlib.Omega.{arith}
 use lib.ListN.{length, getD, set, take, drop, length-drop}
 use lib.Seq.{take-suc, take-suc-set, getD-drop}
 use Rattle.lists.specs.Lists.{part}
-use Rattle.run_group.specs.parts.Parts.{lowered}
 
 -- a number more at the front
 grown : (out was : List ℕ) (i v : ℕ) → i < length out → take i out ≡ was → take (i + 1) (set out i v) ≡ was ++ (v ∷ [])
@@ -21,18 +20,6 @@ module _ (column out : List ℕ) (a i n : ℕ) (h : i < n) (k : a + n ≤ length
   pub part-turn : take i out ≡ part a i column → take (i + 1) (set out i (getD column (a + i) 0)) ≡ part a (i + 1) column
   part-turn e = grown out (part a i column) i (getD column (a + i) 0) (omega arith) e ∙ sym part-more
 
-  pub less-turn : (low v : ℕ) → v ≡ getD column (a + i) 0 - low → take i out ≡ lowered low (part a i column)
-      → take (i + 1) (set out i v) ≡ lowered low (part a (i + 1) column)
-  unfolding lowered
-  less-turn low v f e =
-      let less : ℕ → ℕ = λ x. x - low in
-      grown out (map less (part a i column)) i v (omega arith) e
-      ∙ ap (λ x. map less (part a i column) ++ (x ∷ [])) f
-      ∙ sym (ap (map less) part-more ∙ map-append less (part a i column) (getD column (a + i) 0 ∷ []))
-
 module _ (column out : List ℕ) (a i n : ℕ) (h : i ≤ n) (k : n ≤ i) where
   pub part-done : take i out ≡ part a i column → take n out ≡ part a n column
   part-done e = let z : n ≡ i = omega arith in rw z e
-
-  pub less-done : (low : ℕ) → take i out ≡ lowered low (part a i column) → take n out ≡ lowered low (part a n column)
-  less-done low e = let z : n ≡ i = omega arith in rw z e

@@ -3,11 +3,10 @@ use mathlib.Core.Path.{_≡_}
 use Prim.Native.Nat.{_+_, _-_, _*_, _≤_}
 use Rattle.cleaning.specs.Sections.{sectionRules}
 use Rattle.run_state.specs.View.{sheetIn}
-use Rattle.run_write.proofs.Rest.{rulesFrom}
-use Rattle.run_write.proofs.Whole.{groups-few, all-rules}
+use Rattle.run_records.proofs.Going.{rulesFrom}
 use Rattle.cleaning.specs.Listed.{filesNeed}
 use Rattle.run_list.specs.Groups.{sectionFiles}
-use Rattle.run_list.proofs.OverGroups.{needFrom, all-need, turn-within, turn-rules, turn-need, turn-broken, need-known, need-refused}
+use Rattle.run_list.proofs.OverGroups.{needFrom, groups-few, all-rules, all-need, turn-within, turn-rules, turn-need, turn-broken, need-known, need-refused}
 use borrow.Author.Needs.{needs}
 use Rattle.run_list.proofs.files.need_of_all.Statement.{statement}
 use Rattle.run_list.proofs.files.need_of_all.Tie as tie

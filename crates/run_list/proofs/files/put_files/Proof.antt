@@ -6,12 +6,11 @@ use lib.ListN.{length}
 use Rattle.lists.specs.Lists.{flat}
 use Rattle.cleaning.specs.Lines.{fileLines}
 use Rattle.run_state.specs.View.{sheetIn}
-use Rattle.run_write.proofs.Rest.{rulesFrom}
-use Rattle.run_write.proofs.Whole.{groups-few, no-rules}
+use Rattle.run_records.proofs.Going.{rulesFrom}
 use Rattle.run_text.proofs.lines.Columns.{Going}
 use Rattle.cleaning.specs.Listed.{filesNeed}
 use Rattle.run_list.specs.Groups.{sectionFiles}
-use Rattle.run_list.proofs.OverGroups.{linesFrom, needFrom, all-room, all-lines, lines-within, rules-left, lines-room, need-left, lines-left, lines-done}
+use Rattle.run_list.proofs.OverGroups.{linesFrom, needFrom, groups-few, no-rules, all-room, all-lines, lines-within, rules-left, lines-room, need-left, lines-left, lines-done}
 use borrow.Author.Needs.{needs}
 use Rattle.run_list.proofs.files.put_files.Statement.{statement}
 use Rattle.run_list.proofs.files.put_files.Tie as tie

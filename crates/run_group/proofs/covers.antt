@@ -1,4 +1,0 @@
-pub mod Ranged
-pub mod Stored
-pub mod Covered
-pub mod CoverSection

@@ -1,2 +1,0 @@
-pub mod PutBy
-pub mod Lends
