@@ -1,80 +1,63 @@
--- What the lines of one group's file show: its first number, its rows, and the sets that are built.
-use mathlib.Core.Path.{_≡_, refl, sym, ap, ap₂, _∙_}
-use mathlib.Core.Bool.{true}
-use mathlib.Core.Option.{none}
-use Prim.Native.Nat.{ℕ, _+_, _-_}
+-- One file: its head and its sets, one after the other, each with room where all have; and what they take.
+use mathlib.Core.Path.{_≡_, refl, ap, _∙_}
+use mathlib.Core.List.{List, [], _∷_, _++_}
+use Prim.Native.Nat.{ℕ, _+_, _-_, _*_, _≤_, _<_}
 use native.Mathlib.Omega.{arith}
-use lib.ListN.{length, length-map}
-use lib.Seq.{length-take-le}
-use Rattle.columns.specs.Building.{Built, buildRules, builtOf}
-use Rattle.cleaning.specs.Lines.{fileLines}
-use Rattle.cleaning.specs.Sheet as plain
-use Rattle.cleaning.specs.Sections.{unerasedRow, sectionStart, sectionRows, sectionFirst, sectionTags, sectionGraph, sectionFileOf, sectionFile}
-use Rattle.cleaning.proofs.Parts.{length-part}
-use Rattle.cleaning.proofs.SheetRows.{section-end, section-within}
-use Rattle.run_state.specs.declared.Sheet.{Sheet}
-use Rattle.run_state.specs.View.{sheetIn}
-use Rattle.run_state.specs.Valid.{sheetOk}
-use Rattle.run_state.specs.order.Ordered.{ordered}
-use Rattle.run_state.specs.order.Long.{LongSheet}
-use Rattle.run_state.specs.output.View.{setIn, builtIn}
-use Rattle.run_state.proofs.order.TidySheets.{tidy-sheet}
-use Rattle.run_group.specs.parts.Parts.{SpanOf}
-use Rattle.run_group.proofs.parts.Spans.{span-room, span-rows}
-use Rattle.run_sets.specs.section.Parted.{judged}
-use Rattle.run_sets.specs.ByVerdict.{Holds, SetsBy}
-use Rattle.run_sets.specs.declared.GroupSets.{GroupSets}
-use Rattle.run_sets.proofs.Judged.{rules-are, held-sets}
-use Rattle.cleaning.specs.Listed.{fileSize}
-use Rattle.run_text.specs.files.Files.{setsText, fileText, entries, Within}
-use Rattle.cleaning.specs.Listed.{fileNeed}
-use Rattle.run_list.specs.Groups.{LongDeltas, Shows}
+use lib.ListN.{length}
+use lib.Seq.{length-sets}
+use Rattle.lists.specs.Text.{text}
+use Rattle.columns.specs.EdgeSet.{EdgeSet}
+use Rattle.cleaning.specs.Lines.{setLines}
+use Rattle.run_section.specs.declared.Counts.{Counts}
+use Rattle.run_section.specs.declared.sizes.Edges.{Edges}
+use Rattle.run_section.specs.Files.{setsOver}
+use Rattle.run_section.specs.Sizes.{EdgesOf}
+use Rattle.run_text.specs.numbers.Wrote.{Wrote}
+use Rattle.run_text.specs.lines.Parts.{headText}
+use Rattle.run_text.specs.files.Files.{setSize, setsText, fileText}
+use Rattle.run_text.proofs.numbers.Joined.{then, renamed}
+use Rattle.run_list.specs.Groups.{setOver, linesOver, needOver}
 
-section-lines : (s : plain.Sheet) (g : ℕ) (b : Built) → fileText g (sectionFirst s g) (length (sectionFileOf s g b .rows)) b ≡ fileLines (sectionFileOf s g b)
-unfolding fileText setsText fileLines
-section-lines s g b = refl
+-- bytes that a text is written into stay as many
+pub same-length : {xs was is : List ℕ} {n at r : ℕ} → Wrote xs n was at is r → length is ≡ length was
+same-length w = ap length (w .stored) ∙ simp length-sets
 
-module _ (s : Sheet) (g a b : ℕ) (l : LongSheet s) (k : sheetOk s ≡ true) (o : ordered s ≡ true) (p : SpanOf s g a b) where
-  rows-count : length (sectionFile (sheetIn s) g .rows) ≡ b - a
-  unfolding sectionFile
-  rows-count =
-      let t = tidy-sheet s l k o in
-      length-map (sectionTags (sheetIn s) g) unerasedRow
-      ∙ length-part (sectionStart (sheetIn s) g) (sectionRows (sheetIn s) g) ((sheetIn s) .tags) (omega (arith, section-end (sheetIn s) t g, section-within (sheetIn s) t g))
-      ∙ sym (span-rows s g a b p)
+module _ (z : Counts) (g a b : ℕ) (offsets targets starts kids : List ℕ) where
+  abbrev parents : EdgeSet
+  parents = setOver z a b 0 (z .start + z .rows) offsets targets
 
-  first-is : s .start + a ≡ sectionFirst (sheetIn s) g
-  unfolding sheetIn
-  first-is = ap (λ x. s .start + x) (p .from)
+  abbrev within : EdgeSet
+  within = setOver z a b 0 (z .start + b) starts kids
 
-  module _ (q : GroupSets) (m : SetsBy (judged (sectionGraph (sheetIn s) g)) (b - a) q) (d : LongDeltas (q .sets)) where
-    module _ (e : buildRules (sectionGraph (sheetIn s) g) ≡ none) where
-      held : Holds (b - a) (builtOf (sectionGraph (sheetIn s) g)) q
-      held = held-sets (sectionGraph (sheetIn s) g) (b - a) q m e
+  abbrev past : EdgeSet
+  past = setOver z a b (z .start + b) (z .start + z .rows) starts kids
 
-      few : Within (b - a) (q .sets)
-      few = record { few = omega (arith, span-room s g a b p l k o); forward = held .forward; reverse = held .reverse; inbound = held .inbound }
+  need-is : needOver z a b offsets targets starts kids ≡ 224 + 126 * (b - a) + 21 * (parents .count + (within .count + past .count))
+  unfolding needOver setsOver
+  need-is = refl
 
-      same-lines : fileText g (s .start + a) (b - a) (builtIn (b - a) (q .sets)) ≡ fileLines (sectionFile (sheetIn s) g)
-      unfolding sectionFile
-      same-lines =
-          ap (fileText g (s .start + a) (b - a)) (held .sets)
-          ∙ ap₂ (λ x y. fileText g x y (builtOf (sectionGraph (sheetIn s) g))) first-is (sym rows-count)
-          ∙ section-lines (sheetIn s) g (builtOf (sectionGraph (sheetIn s) g))
+  pub need-told : (e : Edges) → EdgesOf (setsOver z a b offsets targets starts kids) e
+      → 224 + 126 * (b - a) + 21 * (e .forward + (e .reverse + e .inbound)) ≡ needOver z a b offsets targets starts kids
+  unfolding needOver
+  need-told e h = rw (h .forward-is, h .reverse-is, h .inbound-is)
 
-      same-need : fileSize (b - a) (entries (q .sets)) ≡ fileNeed (sectionFile (sheetIn s) g)
-      unfolding fileNeed sectionFile builtIn setIn
-      same-need =
-          omega (
-            arith,
-            rows-count,
-            ap (λ x. length (x .forward .deltas)) (held .sets),
-            ap (λ x. length (x .reverse .deltas)) (held .sets),
-            ap (λ x. length (x .inbound .deltas)) (held .sets),
-            length-take-le (q .sets .forward .count) (q .sets .forward .deltas) (omega (arith, d .forward, held .forward)),
-            length-take-le (q .sets .reverse .count) (q .sets .reverse .deltas) (omega (arith, d .reverse, held .reverse)),
-            length-take-le (q .sets .inbound .count) (q .sets .inbound .deltas) (omega (arith, d .inbound, held .inbound)),
-          )
+  module _ (l : List ℕ) (at : ℕ) (room : at + needOver z a b offsets targets starts kids ≤ length l) where
+    pub head-fits : at + 68 ≤ length l
+    head-fits = omega (arith, need-is)
 
-    pub file-shown : Shows (sheetIn s) g (record { ruling = q .ruling; first = s .start + a; rows = b - a; sets = q .sets })
-    file-shown = record { rules = rules-are (sectionGraph (sheetIn s) g) (b - a) q m; within = few; lines = same-lines; need = same-need }
+    module _ {i : List ℕ} {p : ℕ} (h : Wrote (headText g (z .start + a) (b - a)) 68 l at i p) where
+      pub forward-fits : p + setSize 7 (2 * (b - a) + 1) (parents .count) ≤ length i
+      forward-fits = omega (arith, need-is, same-length h, h .next, h .short)
+
+      module _ {j : List ℕ} {q : ℕ} (f : Wrote (setLines (102 ∷ 111 ∷ 114 ∷ 119 ∷ 97 ∷ 114 ∷ 100 ∷ []) parents) (setSize 7 (2 * (b - a) + 1) (parents .count)) i p j q) where
+        pub reverse-fits : q + setSize 7 (2 * (b - a) + 1) (within .count) ≤ length j
+        reverse-fits = omega (arith, need-is, same-length h, h .next, h .short, same-length f, f .next, f .short)
+
+        module _ {k : List ℕ} {r : ℕ} (v : Wrote (setLines (114 ∷ 101 ∷ 118 ∷ 101 ∷ 114 ∷ 115 ∷ 101 ∷ []) within) (setSize 7 (2 * (b - a) + 1) (within .count)) j q k r) where
+          pub inbound-fits : r + setSize 7 (2 * (b - a) + 1) (past .count) ≤ length k
+          inbound-fits = omega (arith, need-is, same-length h, h .next, h .short, same-length f, f .next, f .short, same-length v, v .next, v .short)
+
+          pub group-shown : {m : List ℕ} {t : ℕ} → Wrote (setLines (105 ∷ 110 ∷ 98 ∷ 111 ∷ 117 ∷ 110 ∷ 100 ∷ []) past) (setSize 7 (2 * (b - a) + 1) (past .count)) k r m t
+              → Wrote (linesOver z g a b offsets targets starts kids) (needOver z a b offsets targets starts kids) l at m t
+          unfolding linesOver setsOver fileText setsText text
+          group-shown w = renamed (then h (then f (then v w))) refl (omega (arith, need-is))

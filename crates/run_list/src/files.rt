@@ -1,169 +1,151 @@
-// The lines of the output files, and the bytes that they take at most.
-use columns::refusal::Ruling;
-use run_group::parts::group_place;
-use run_group::parts::part_unresolved;
-use run_sets::group_sets;
-use run_state::Sheet;
-use run_state::Unresolved;
-use run_state::order::long::sheet_long;
-use run_state::output::Set;
-use run_state::output::Sets;
-use run_text::files::put_file;
+// The lines of the output files out of tables of survivors, and the bytes that they take at most. The rows of a group are those from row a up to row b.
+use columns_sets::sections::write_lists;
+use run_section::Counts;
+use run_section::places::rows_of;
+use run_section::sizes::edges_of;
+use run_text::files::put_set;
+use run_text::lines::put_head;
 ghost use mathlib.Core.Path.{_≡_};
-ghost use mathlib.Core.Bool.{true};
-ghost use mathlib.Core.Option.{none};
-ghost use Prim.Native.Nat.{_+_, _≤_, _<_};
+ghost use Prim.Native.Nat.{_+_, _-_, _*_, _≤_, _<_};
 ghost use lib.ListN.{length};
-ghost use Rattle.lists.specs.Lists.{flat};
-ghost use Rattle.columns.specs.Limits.{maxRecords, maxNumbers};
-ghost use Rattle.cleaning.specs.Lines.{fileLines};
-ghost use Rattle.cleaning.specs.Sections.{sectionUnresolved, sectionRules};
-ghost use Rattle.run_state.specs.View.{listed, unresolvedAt, sheetIn};
-ghost use Rattle.run_state.specs.Valid.{sheetOk};
-ghost use Rattle.run_state.specs.order.Ordered.{ordered};
-ghost use Rattle.run_group.specs.parts.Parts.{SpanOf};
+ghost use Rattle.columns.specs.Limits.{end64};
+ghost use Rattle.cleaning.specs.Lines.{setLines};
+ghost use Rattle.run_section.specs.Rules.{Lists};
 ghost use Rattle.run_text.specs.numbers.Wrote.{Wrote};
-ghost use Rattle.cleaning.specs.Listed.{fileSize};
-ghost use Rattle.run_text.specs.files.Files.{entries, Within};
-ghost use Rattle.cleaning.specs.Listed.{filesNeed};
-ghost use Rattle.run_list.specs.Groups.{sectionFiles, LongDeltas, Shows, NeededBy};
+ghost use Rattle.run_text.specs.files.Files.{setSize};
+ghost use Rattle.run_list.specs.Groups.{setOver, linesOver, needOver, Shown, linesOf, needOf, Tabled, Spanned};
 
 // ── one file ─────────────────────────────────────────────────────────────────────────────────
 
-// The first rule that a group breaks; where there is none, what the lines of its file show.
-pub(crate) struct Shown {
-    pub ruling: Ruling,
-    pub first: u64,
-    pub rows: usize,
-    pub sets: Sets,
-}
-
-fn deltas_long(s: Set)
-    ensures { λ _. ⌜ length (s .deltas) ≡ maxNumbers ⌝ }
-{}
-
-// How long the columns of deltas are; it does nothing.
-fn sets_long(s: Sets)
-    ensures { λ _. ⌜ LongDeltas s ⌝ }
+// One set: of the lists of the rows the numbers from low up to high.
+fn put_lists(
+    out: &mut [u8],
+    at: usize,
+    name: &[u8],
+    z: Counts,
+    a: usize,
+    b: usize,
+    offsets: &[u64],
+    targets: &[u64],
+    low: u64,
+    high: u64,
+) -> usize
+    requires { ⌜ Shown z a b (now offsets) (now targets) ⌝ }
+    requires { ⌜ at + setSize (length (now name)) (2 * (b - a) + 1) (setOver z a b low high (now offsets) (now targets) .count) ≤ length (now out) ⌝ }
+    ensures { λ r. ⌜ Wrote (setLines (now (name .entry)) (setOver z a b low high (now (offsets .entry)) (now (targets .entry))))
+        (setSize (length (now (name .entry))) (2 * (b - a) + 1) (setOver z a b low high (now (offsets .entry)) (now (targets .entry)) .count))
+        (now (out .entry)) at (now (out .exit)) r ⌝ }
 {
-    deltas_long(s.forward);
-    deltas_long(s.reverse);
-    deltas_long(s.inbound);
-}
-
-// Where the rows of a group start and end.
-struct Span {
-    from: usize,
-    to: usize,
-}
-
-fn span_of(s: Sheet, g: usize) -> Span
-    requires { ⌜ (sheetOk s ≡ true) × (g < s .groups .count) ⌝ }
-    ensures { λ r. ⌜ SpanOf s g (r .from) (r .to) ⌝ }
-{
-    sheet_long(s);
-    let a = group_place(s.rows, g);
-    let b = group_place(s.rows, g + 1);
-    Span { from: a, to: b }
-}
-
-// The unresolved records of group g, whose rows stand from row a up to row b.
-fn unresolved_of(s: Sheet, g: usize, a: usize, b: usize) -> Unresolved
-    requires { ⌜ (sheetOk s ≡ true) × (ordered s ≡ true) ⌝ }
-    requires { ⌜ SpanOf s g a b ⌝ }
-    ensures { λ r. ⌜ (r .count ≤ maxRecords) × (listed (unresolvedAt r) (r .count) ≡ sectionUnresolved (sheetIn s) g) ⌝ }
-{
-    sheet_long(s);
-    let low = s.start + (a as u64);
-    let high = s.start + (b as u64);
-    part_unresolved(s.unresolved, low, high)
-}
-
-fn shown_of(s: Sheet, g: usize) -> Shown
-    requires { ⌜ (sheetOk s ≡ true) × ((ordered s ≡ true) × (g < s .groups .count)) ⌝ }
-    ensures { λ r. ⌜ Shows (sheetIn s) g r ⌝ }
-{
-    sheet_long(s);
-    let p = span_of(s, g);
-    let a = p.from;
-    let b = p.to;
     let n = b - a;
-    let first = s.start + (a as u64);
-    let u = unresolved_of(s, g, a, b);
-    let q = group_sets(s, u, g, a, n);
-    let v = q.ruling;
-    let sets = q.sets;
-    sets_long(sets);
-    Shown {
-        ruling: v,
-        first: first,
-        rows: n,
-        sets: sets,
-    }
+    let k = 2 * n + 1;
+    let first = z.start + (a as u64);
+    let mut starts = [0u64; 2049];
+    let mut deltas = [0i64; 4096];
+    let m = write_lists(
+        first,
+        n,
+        offsets,
+        targets,
+        a,
+        low,
+        high,
+        &mut starts,
+        &mut deltas,
+    );
+    put_set(out, at, name, &starts[..k], &deltas[..m])
 }
 
-// The bytes that the lines of a file take at most.
-fn need_of(rows: usize, sets: Sets) -> usize
-    requires { ⌜ Within rows sets ⌝ }
-    ensures { λ r. ⌜ (r ≡ fileSize rows (entries sets)) × (r ≤ 387296) ⌝ }
+// The lines of group g's file.
+fn put_group(
+    out: &mut [u8],
+    at: usize,
+    z: Counts,
+    g: usize,
+    a: usize,
+    b: usize,
+    offsets: &[u64],
+    targets: &[u64],
+    starts: &[u64],
+    kids: &[u64],
+) -> usize
+    requires { ⌜ (Shown z a b (now offsets) (now targets)) × (Shown z a b (now starts) (now kids)) ⌝ }
+    requires { ⌜ at + needOver z a b (now offsets) (now targets) (now starts) (now kids) ≤ length (now out) ⌝ }
+    ensures { λ r. ⌜ Wrote (linesOver z g a b (now (offsets .entry)) (now (targets .entry)) (now (starts .entry)) (now (kids .entry)))
+        (needOver z a b (now (offsets .entry)) (now (targets .entry)) (now (starts .entry)) (now (kids .entry))) (now (out .entry)) at (now (out .exit)) r ⌝ }
 {
-    let n = sets.forward.count + (sets.reverse.count + sets.inbound.count);
-    224 + 126 * rows + 21 * n
+    let end = z.start + (b as u64);
+    let all = z.start + (z.rows as u64);
+    let p = put_head(out, at, g as u64, z.start + (a as u64), b - a);
+    let q = put_lists(out, p, b"forward", z, a, b, offsets, targets, 0, all);
+    let r = put_lists(out, q, b"reverse", z, a, b, starts, kids, 0, end);
+    put_lists(out, r, b"inbound", z, a, b, starts, kids, end, all)
+}
+
+// The bytes that they take at most.
+fn need_group(
+    z: Counts,
+    a: usize,
+    b: usize,
+    offsets: &[u64],
+    targets: &[u64],
+    starts: &[u64],
+    kids: &[u64],
+) -> usize
+    requires { ⌜ (z .rows ≤ 1024) × ((z .start + z .rows < end64) × ((a ≤ b) × (b ≤ z .rows))) ⌝ }
+    requires { ⌜ Lists (z .rows) (now offsets) (now targets) (now starts) (now kids) ⌝ }
+    ensures { λ r. ⌜ (r ≡ needOver z a b (now (offsets .entry)) (now (targets .entry)) (now (starts .entry)) (now (kids .entry))) × (r ≤ 387296) ⌝ }
+{
+    let e = edges_of(z, a, b, offsets, targets, starts, kids);
+    224 + 126 * (b - a) + 21 * (e.forward + (e.reverse + e.inbound))
 }
 
 // ── all files ────────────────────────────────────────────────────────────────────────────────
 
-// The first broken rule of all groups, or the bytes that the lines of their files take at most.
-pub(crate) struct Needed {
-    pub ruling: Ruling,
-    pub bytes: usize,
-}
-
-pub(crate) fn need_of_all(s: Sheet) -> Needed
-    requires { ⌜ (sheetOk s ≡ true) × (ordered s ≡ true) ⌝ }
-    ensures { λ r. ⌜ NeededBy (sheetIn s) r ⌝ }
+// The bytes that the lines of the first n groups' files take at most.
+pub(crate) fn need_files(
+    z: Counts,
+    n: usize,
+    rows: &[u64],
+    offsets: &[u64],
+    targets: &[u64],
+    starts: &[u64],
+    kids: &[u64],
+) -> usize
+    requires { ⌜ Tabled z n (now rows) (now offsets) (now targets) (now starts) (now kids) ⌝ }
+    ensures { λ r. ⌜ (r ≡ needOf z n (now (rows .entry)) (now (offsets .entry)) (now (targets .entry)) (now (starts .entry)) (now (kids .entry))) × (r ≤ 6196736) ⌝ }
 {
-    sheet_long(s);
-    let n = s.groups.count;
-    let mut bytes: usize = 0;
-    let mut g: usize = 0;
+    let mut total = 0;
+    let mut g = 0;
     while g < n {
-        let f = shown_of(s, g);
-        let v = f.ruling;
-        match v {
-            Ruling::Broken(x) => {
-                return Needed {
-                    ruling: Ruling::Broken(x),
-                    bytes: 0,
-                };
-            }
-            Ruling::Kept => {
-                let sets = f.sets;
-                bytes += need_of(f.rows, sets);
-                g += 1;
-            }
-        }
+        let r = rows_of(z, g, rows);
+        total += need_group(z, r.from, r.to, offsets, targets, starts, kids);
+        g += 1;
     }
-    Needed {
-        ruling: Ruling::Kept,
-        bytes: bytes,
-    }
+    total
 }
 
-// The lines of all files. No group breaks a rule.
-pub(crate) fn put_files(s: Sheet, out: &mut [u8], at: usize) -> usize
-    requires { ⌜ (sheetOk s ≡ true) × ((ordered s ≡ true) × (sectionRules (sheetIn s) ≡ none)) ⌝ }
-    requires { ⌜ at + filesNeed (sectionFiles (sheetIn s)) ≤ length (now out) ⌝ }
-    ensures { λ r. ⌜ Wrote (flat fileLines (sectionFiles (sheetIn s))) (filesNeed (sectionFiles (sheetIn s))) (now (out .entry)) at (now (out .exit)) r ⌝ }
+// Those lines.
+pub(crate) fn put_files(
+    out: &mut [u8],
+    at: usize,
+    z: Counts,
+    n: usize,
+    rows: &[u64],
+    offsets: &[u64],
+    targets: &[u64],
+    starts: &[u64],
+    kids: &[u64],
+) -> usize
+    requires { ⌜ (Tabled z n (now rows) (now offsets) (now targets) (now starts) (now kids)) × (Spanned z n (now rows) (now offsets) (now targets) (now starts) (now kids)) ⌝ }
+    requires { ⌜ at + needOf z n (now rows) (now offsets) (now targets) (now starts) (now kids) ≤ length (now out) ⌝ }
+    ensures { λ r. ⌜ Wrote (linesOf z n (now (rows .entry)) (now (offsets .entry)) (now (targets .entry)) (now (starts .entry)) (now (kids .entry)))
+        (needOf z n (now (rows .entry)) (now (offsets .entry)) (now (targets .entry)) (now (starts .entry)) (now (kids .entry))) (now (out .entry)) at (now (out .exit)) r ⌝ }
 {
-    sheet_long(s);
-    let n = s.groups.count;
     let mut p = at;
-    let mut g: usize = 0;
+    let mut g = 0;
     while g < n {
-        let f = shown_of(s, g);
-        let sets = f.sets;
-        p = put_file(out, p, g as u64, f.first, f.rows, sets);
+        let r = rows_of(z, g, rows);
+        p = put_group(out, p, z, g, r.from, r.to, offsets, targets, starts, kids);
         g += 1;
     }
     p

@@ -21,7 +21,7 @@ use Rattle.archive_store.proofs.Chained.{then, record-stored}
 use Rattle.run_section.specs.declared.Counts.{Counts}
 use Rattle.run_section.specs.declared.Section.{Section}
 use Rattle.run_section.specs.declared.sizes.Edges.{Edges}
-use Rattle.run_section.specs.Files.{many, setsAt}
+use Rattle.run_section.specs.Files.{many, setsAt, setsOver}
 use Rattle.run_section.specs.Rules.{Lists}
 use Rattle.run_section.specs.Sizes.{EdgesOf}
 use Rattle.run_records.specs.Front.{setIn, builtBytes, edgesBody}
@@ -83,7 +83,7 @@ edges-started l at n size e f d = rw f at d
 module _ (z : Counts) (s : Section) (e : Edges) (offsets targets starts kids : List ℕ) (rises : s .rows .from ≤ s .rows .to) (there : s .rows .to ≤ z .rows)
     (lists : Lists (z .rows) offsets targets starts kids) (counted : EdgesOf (setsAt z s offsets targets starts kids) e) where
   built-size : length (builtBytes (setsAt z s offsets targets starts kids)) ≡ edgesBody (many (s .rows)) e
-  unfolding setsAt
+  unfolding setsOver
   built-size =
       let end = z .start + s .rows .to in
       let top = z .start + z .rows in

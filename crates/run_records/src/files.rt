@@ -46,7 +46,7 @@ fn put_front(
     ensures { λ r. ⌜ Wrote (frontAt z g s k (now (subject .entry)) (setsAt z s (now (offsets .entry)) (now (targets .entry)) (now (starts .entry)) (now (kids .entry))))
         (now (out .entry)) (now (out .exit)) at r ⌝ }
 {
-    let e = edges_of(z, s, offsets, targets, starts, kids);
+    let e = edges_of(z, s.rows.from, s.rows.to, offsets, targets, starts, kids);
     let p = put_head(out, at, z, g, s, k, subject);
     put_edges(out, p, z, s, e, offsets, targets, starts, kids)
 }

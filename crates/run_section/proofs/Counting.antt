@@ -13,8 +13,7 @@ use Rattle.columns.specs.Building.{inFile, within, rowsWithin}
 use Rattle.columns.proofs.Offsets.{form-climbs, form-length, starts-at, ordered, inside}
 use Rattle.cleaning.proofs.Within.{count-within}
 use Rattle.run_section.specs.declared.Counts.{Counts}
-use Rattle.run_section.specs.declared.Section.{Section}
-use Rattle.run_section.specs.Files.{setsAt}
+use Rattle.run_section.specs.Files.{setsOver}
 use Rattle.run_section.specs.Sizes.{EdgesOf}
 use Rattle.run_section.proofs.Pieces.{joined-piece}
 
@@ -64,11 +63,11 @@ module _ (rows a b : ℕ) (offsets targets : List ℕ) (form : offsetsForm rows 
 
 -- ── the sets of a section ────────────────────────────────────────────────────────────────────
 
-pub edges-counted : (z : Counts) (s : Section) (offsets targets starts kids : List ℕ) {f r i : ℕ}
-    → f ≡ length (joined (rowsWithin 0 (z .start + z .rows) (s .rows .from) (s .rows .to - s .rows .from) offsets targets)) → f ≤ maxNumbers
-    → r ≡ length (joined (rowsWithin 0 (z .start + s .rows .to) (s .rows .from) (s .rows .to - s .rows .from) starts kids)) → r ≤ maxNumbers
-    → i ≡ length (joined (rowsWithin (z .start + s .rows .to) (z .start + z .rows) (s .rows .from) (s .rows .to - s .rows .from) starts kids)) → i ≤ maxNumbers
-    → EdgesOf (setsAt z s offsets targets starts kids) (record { forward = f; reverse = r; inbound = i })
-unfolding setsAt setOf
-edges-counted z s offsets targets starts kids a b c d e f =
-    record { forward-is = a; reverse-is = c; inbound-is = e; few-forward = b; few-reverse = d; few-inbound = f }
+pub edges-counted : (z : Counts) (a b : ℕ) (offsets targets starts kids : List ℕ) {f r i : ℕ}
+    → f ≡ length (joined (rowsWithin 0 (z .start + z .rows) a (b - a) offsets targets)) → f ≤ maxNumbers
+    → r ≡ length (joined (rowsWithin 0 (z .start + b) a (b - a) starts kids)) → r ≤ maxNumbers
+    → i ≡ length (joined (rowsWithin (z .start + b) (z .start + z .rows) a (b - a) starts kids)) → i ≤ maxNumbers
+    → EdgesOf (setsOver z a b offsets targets starts kids) (record { forward = f; reverse = r; inbound = i })
+unfolding setsOver setOf
+edges-counted z a b offsets targets starts kids f k r l i m =
+    record { forward-is = f; reverse-is = r; inbound-is = i; few-forward = k; few-reverse = l; few-inbound = m }

@@ -22,7 +22,7 @@ use Rattle.run_section.specs.declared.Section.{Section}
 use Rattle.run_section.specs.Tables.{field, unresolvedIn, rootIn, linkIn, sheetOf}
 use Rattle.run_section.specs.Sections.{SectionAt}
 use Rattle.run_section.specs.Ready.{Ready, Children}
-use Rattle.run_section.specs.Files.{listsAt, linksAt, setsAt, fileAt}
+use Rattle.run_section.specs.Files.{listsAt, linksAt, setsAt, setsOver, fileAt}
 use Rattle.run_section.proofs.Sectioned.{rows-count, facts-are, start-is, end-is, rows-are, tags-are, unresolved-are, roots-are, links-are, same-once, same-end, all-children}
 
 module _ (z : Counts) (subject : List ℕ) (groups : Groups) (rows unresolved roots links offsets targets : List ℕ) where
@@ -56,7 +56,7 @@ module _ (z : Counts) (subject : List ℕ) (groups : Groups) (rows unresolved ro
         )
 
     pub sets-are : builtOf (sectionGraph S g) ≡ setsAt z s offsets targets starts kids
-    unfolding setsAt
+    unfolding setsOver
     sets-are =
         section-built S (ready .tidy) g (same-once z subject groups rows unresolved roots links offsets targets g s h ready there children)
         (same-end z subject groups rows unresolved roots links offsets targets g s h ready there children)

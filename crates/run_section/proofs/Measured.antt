@@ -31,7 +31,7 @@ use Rattle.run_section.specs.declared.Counts.{Counts}
 use Rattle.run_section.specs.declared.Section.{Section}
 use Rattle.run_section.specs.Tables.{field, unresolvedIn, rootIn, linkIn}
 use Rattle.run_section.specs.Rules.{Lists}
-use Rattle.run_section.specs.Files.{many, tagsAt, unresolvedAt, rootsAt, linksAt, setsAt, fileAt}
+use Rattle.run_section.specs.Files.{many, tagsAt, unresolvedAt, rootsAt, linksAt, setsAt, setsOver, fileAt}
 use Rattle.run_section.specs.declared.sizes.Edges.{Edges}
 use Rattle.run_section.specs.Sizes.{EdgesOf, sizeAt}
 use Rattle.run_section.specs.Measures.{sizeBy}
@@ -39,7 +39,7 @@ use Rattle.run_section.specs.Measures.{sizeBy}
 -- ── sets ─────────────────────────────────────────────────────────────────────────────────────
 
 module _ (first low high a n rows : ℕ) (offsets targets : List ℕ) (form : offsetsForm rows (length targets) offsets ≡ true) (there : a + n ≤ rows) where
-  set-has : {k : ℕ} → k ≡ setOf first (rowsWithin low high a n offsets targets) .count → SetHas n k (setOf first (rowsWithin low high a n offsets targets))
+  pub set-has : {k : ℕ} → k ≡ setOf first (rowsWithin low high a n offsets targets) .count → SetHas n k (setOf first (rowsWithin low high a n offsets targets))
   unfolding setOf
   set-has e =
       let lists = rowsWithin low high a n offsets targets in
@@ -72,7 +72,7 @@ module _ (z : Counts) (subject : List ℕ) (groups : Groups) (g : ℕ) (s : Sect
     (labels : there ≡ true → length ls ≡ many (s .rows)) (spans : there ≡ true → length (rangesOf ls) ≡ ranges) where
   pub file-length : length (fileBytes (fileAt z subject groups g s rows unresolved roots (setsAt z s offsets targets starts kids) (coverWhere there ls (linksAt s links))))
       ≡ sizeBy (length subject) s (setsAt z s offsets targets starts kids) there ranges
-  unfolding fileAt setsAt sizeBy
+  unfolding fileAt setsOver sizeBy
   file-length =
       let n = many (s .rows) in
       let first = z .start + s .rows .from in

@@ -40,13 +40,17 @@ rootsAt s roots = map (λ r. record { row = r .row - s .rows .from; handle = r .
 abbrev pub linksAt : Section → List ℕ → List Link
 linksAt s links = map (λ l. l .link) (several 5 linkIn (many (s .links)) (drop (s .links .from * 5) links))
 
--- its sets: all parents; the children below its end; those from it on
-unfoldable pub setsAt : Counts → Section → List ℕ → List ℕ → List ℕ → List ℕ → Built
-setsAt z s offsets targets starts kids = record {
-  forward = setOf (z .start + s .rows .from) (rowsWithin 0 (z .start + z .rows) (s .rows .from) (many (s .rows)) offsets targets);
-  reverse = setOf (z .start + s .rows .from) (rowsWithin 0 (z .start + s .rows .to) (s .rows .from) (many (s .rows)) starts kids);
-  inbound = setOf (z .start + s .rows .from) (rowsWithin (z .start + s .rows .to) (z .start + z .rows) (s .rows .from) (many (s .rows)) starts kids);
+-- the sets of the rows from row a up to row b: all parents; the children below their end; those from it on
+unfoldable pub setsOver : Counts → ℕ → ℕ → List ℕ → List ℕ → List ℕ → List ℕ → Built
+setsOver z a b offsets targets starts kids = record {
+  forward = setOf (z .start + a) (rowsWithin 0 (z .start + z .rows) a (b - a) offsets targets);
+  reverse = setOf (z .start + a) (rowsWithin 0 (z .start + b) a (b - a) starts kids);
+  inbound = setOf (z .start + a) (rowsWithin (z .start + b) (z .start + z .rows) a (b - a) starts kids);
 }
+
+-- a section's sets
+abbrev pub setsAt : Counts → Section → List ℕ → List ℕ → List ℕ → List ℕ → Built
+setsAt z s = setsOver z (s .rows .from) (s .rows .to)
 
 unfoldable pub fileAt : Counts → List ℕ → Groups → ℕ → Section → List ℕ → List ℕ → List ℕ → Built → Option CoverColumns → File
 fileAt z subject groups g s rows unresolved roots sets cover = record {

@@ -34,16 +34,20 @@ pub record Rooms (starts kids ranges : List ℕ) : Type 0 where
   pub kids-room : length kids ≡ 4096
   pub ranges-room : length ranges ≡ 3072
 
-pub record PreparedBy (s : Sheet) (rows unresolved roots links starts kids ranges : List ℕ) (r : Prepared) : Type 0 where
+-- the tables of a sheet, and the children of its rows
+pub record LaidBy (s : Sheet) (rows unresolved roots links starts kids : List ℕ) (r : Prepared) : Type 0 where
   pub counts-are : r .counts ≡ countsOf s
   pub laid : SheetLaid s rows unresolved roots links
   pub sheet-is : sheetOf (countsOf s) (subjectIn s) (s .groups) rows unresolved roots links (offsetsIn s) (targetsIn s) ≡ sheetIn s
   pub ready : Ready (countsOf s) (subjectIn s) (s .groups) rows unresolved roots links (offsetsIn s) (targetsIn s)
   pub children : Children (countsOf s) (offsetsIn s) (targetsIn s) (take (kinds * s .rows .count + 1) starts) (take (r .kids) kids)
   pub kids-few : r .kids ≤ 4096
-  pub covers : CoversAt (countsOf s) (s .groups) rows ranges (r .covers)
   pub long-starts : length starts ≡ 2049
   pub long-kids : length kids ≡ 4096
+
+pub record PreparedBy (s : Sheet) (rows unresolved roots links starts kids ranges : List ℕ) (r : Prepared) : Type 0 where
+  pub tables : LaidBy s rows unresolved roots links starts kids r
+  pub covers : CoversAt (countsOf s) (s .groups) rows ranges (r .covers)
   pub long-ranges : length ranges ≡ 3072
 
 -- ── steps ────────────────────────────────────────────────────────────────────────────────────

@@ -38,7 +38,7 @@ fn file_length(
     ensures { λ r. ⌜ r ≡ sizeBy size s (setsAt z s (now (offsets .entry)) (now (targets .entry)) (now (starts .entry)) (now (kids .entry))) covered ranges ⌝ }
     ensures { λ r. ⌜ r ≤ maxFileSize ⌝ }
 {
-    let e = edges_of(z, s, offsets, targets, starts, kids);
+    let e = edges_of(z, s.rows.from, s.rows.to, offsets, targets, starts, kids);
     section_size(size, s, e, covered, ranges)
 }
 

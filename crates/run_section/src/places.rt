@@ -46,7 +46,7 @@ fn span_of(table: &[u64], width: usize, n: usize, low: u64, high: u64) -> Span
 }
 
 // The rows of group g.
-pub(crate) fn rows_of(z: Counts, g: usize, rows: &[u64]) -> Span
+pub fn rows_of(z: Counts, g: usize, rows: &[u64]) -> Span
     requires { ⌜ (g < 16) × (SortedTable 4 (z .rows) (now rows)) ⌝ }
     ensures { λ r. ⌜ SpanAt 4 (z .rows) (now (rows .entry)) g (g + 1) r ⌝ }
 {

@@ -14,7 +14,7 @@ ghost use Rattle.columns.specs.EdgeSet.{offsetsForm};
 ghost use Rattle.columns.specs.Building.{rowsWithin};
 ghost use Rattle.archive_store.specs.sizes.FileSize.{maxFileSize};
 ghost use Rattle.run_section.specs.Rules.{Lists};
-ghost use Rattle.run_section.specs.Files.{setsAt};
+ghost use Rattle.run_section.specs.Files.{setsOver};
 ghost use Rattle.run_section.specs.Sizes.{EdgesOf, sizeAt};
 
 // How many edges each set has.
@@ -44,21 +44,20 @@ fn count_rows(
     count_between(targets, from, to, low, high)
 }
 
-// The edges of a section's sets: its rows' parents, their children below its end, and those from it on.
+// The edges of the sets of the rows from row a up to row b: their parents, their children below row b, and those from it on.
 pub fn edges_of(
     z: Counts,
-    s: Section,
+    a: usize,
+    b: usize,
     offsets: &[u64],
     targets: &[u64],
     starts: &[u64],
     kids: &[u64],
 ) -> Edges
-    requires { ⌜ (z .rows ≤ 1024) × ((z .start + z .rows < end64) × ((s .rows .from ≤ s .rows .to) × (s .rows .to ≤ z .rows))) ⌝ }
+    requires { ⌜ (z .rows ≤ 1024) × ((z .start + z .rows < end64) × ((a ≤ b) × (b ≤ z .rows))) ⌝ }
     requires { ⌜ Lists (z .rows) (now offsets) (now targets) (now starts) (now kids) ⌝ }
-    ensures { λ e. ⌜ EdgesOf (setsAt z s (now (offsets .entry)) (now (targets .entry)) (now (starts .entry)) (now (kids .entry))) e ⌝ }
+    ensures { λ e. ⌜ EdgesOf (setsOver z a b (now (offsets .entry)) (now (targets .entry)) (now (starts .entry)) (now (kids .entry))) e ⌝ }
 {
-    let a = s.rows.from;
-    let b = s.rows.to;
     let end = z.start + (b as u64);
     let all = z.start + (z.rows as u64);
     let forward = count_rows(z.rows, a, b, offsets, targets, 0, all);

@@ -3,4 +3,3 @@ pub mod Valid
 pub mod Blank
 pub mod ByColumns
 pub mod order
-pub mod output

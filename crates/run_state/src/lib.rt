@@ -2,7 +2,6 @@
 // A run crosses to C and Rust by value, so that the layout of each struct is C's.
 pub mod empty;
 pub mod order;
-pub mod output;
 pub mod tests;
 pub mod valid;
 

@@ -1,23 +1,15 @@
-// The lines of a file of the listing in lent bytes. Each function writes from `at` on and answers the place after what it wrote.
+// The lines of a set of the listing in lent bytes. Each function writes from `at` on and answers the place after what it wrote.
 use crate::lines::put_deltas;
-use crate::lines::put_head;
 use crate::lines::put_numbers;
 use crate::lines::put_word;
 use crate::numbers::put_byte;
-use run_state::output::Set;
-use run_state::output::Sets;
 ghost use mathlib.Core.List.{_∷_, map};
 ghost use Prim.Native.Nat.{_+_, _*_, _≤_};
 ghost use lib.ListN.{length};
 ghost use Rattle.lists.specs.Text.{text};
-ghost use Rattle.columns.specs.Limits.{maxRecords, maxNumbers};
 ghost use Rattle.cleaning.specs.Lines.{decimal, signed, line, setLines};
-ghost use Rattle.run_state.specs.output.View.{setIn, builtIn};
 ghost use Rattle.run_text.specs.numbers.Wrote.{Wrote};
-ghost use Rattle.cleaning.specs.Listed.{fileSize};
-ghost use Rattle.run_text.specs.files.Files.{columnsOf, setSize, setsText, setsSize, fileText, entries, Within};
-
-// ── a set ────────────────────────────────────────────────────────────────────────────────────
+ghost use Rattle.run_text.specs.files.Files.{columnsOf, setSize};
 
 // A space and a word.
 fn put_name(out: &mut [u8], at: usize, name: &[u8]) -> usize
@@ -54,40 +46,4 @@ pub fn put_set(out: &mut [u8], at: usize, name: &[u8], offsets: &[u64], deltas: 
 {
     let p = put_offsets_line(out, at, name, offsets);
     put_deltas_line(out, p, name, deltas)
-}
-
-// ── the sets of a file, by value ─────────────────────────────────────────────────────────────
-
-// A set of so many rows.
-fn put_rows(out: &mut [u8], at: usize, name: &[u8], rows: usize, s: Set) -> usize
-    requires { ⌜ (rows ≤ maxRecords) × (s .count ≤ maxNumbers) ⌝ }
-    requires { ⌜ at + setSize (length (now name)) (2 * rows + 1) (s .count) ≤ length (now out) ⌝ }
-    ensures { λ r. ⌜ Wrote (setLines (now (name .entry)) (setIn rows s)) (setSize (length (now (name .entry))) (2 * rows + 1) (s .count)) (now (out .entry)) at (now (out .exit)) r ⌝ }
-{
-    let offsets = s.offsets;
-    let deltas = s.deltas;
-    let k = 2 * rows + 1;
-    let n = s.count;
-    put_set(out, at, name, &offsets[..k], &deltas[..n])
-}
-
-fn put_sets(out: &mut [u8], at: usize, rows: usize, sets: Sets) -> usize
-    requires { ⌜ (Within rows sets) × (at + setsSize rows (entries sets) ≤ length (now out)) ⌝ }
-    ensures { λ r. ⌜ Wrote (setsText (builtIn rows sets)) (setsSize rows (entries sets)) (now (out .entry)) at (now (out .exit)) r ⌝ }
-{
-    let forward = sets.forward;
-    let reverse = sets.reverse;
-    let inbound = sets.inbound;
-    let p = put_rows(out, at, b"forward", rows, forward);
-    let q = put_rows(out, p, b"reverse", rows, reverse);
-    put_rows(out, q, b"inbound", rows, inbound)
-}
-
-// The lines of a file: its group, first number and rows, and its sets.
-pub fn put_file(out: &mut [u8], at: usize, group: u64, first: u64, rows: usize, sets: Sets) -> usize
-    requires { ⌜ (Within rows sets) × (at + fileSize rows (entries sets) ≤ length (now out)) ⌝ }
-    ensures { λ r. ⌜ Wrote (fileText group first rows (builtIn rows sets)) (fileSize rows (entries sets)) (now (out .entry)) at (now (out .exit)) r ⌝ }
-{
-    let p = put_head(out, at, group, first, rows);
-    put_sets(out, p, rows, sets)
 }

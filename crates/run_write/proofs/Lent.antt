@@ -23,7 +23,7 @@ use Rattle.run_section.specs.declared.prepare.Prepared.{Prepared}
 use Rattle.run_section.specs.Tables.{sheetOf}
 use Rattle.run_section.specs.Ready.{Ready, Children}
 use Rattle.run_section.specs.Covers.{CoversAt}
-use Rattle.run_section.specs.Prepared.{PreparedBy, subjectIn, offsetsIn, targetsIn}
+use Rattle.run_section.specs.Prepared.{LaidBy, PreparedBy, subjectIn, offsetsIn, targetsIn}
 use Rattle.run_records.specs.Files.{Stores}
 use Rattle.run_records.proofs.LaidStores.{laid-stores}
 use Rattle.run_write.specs.Answers.{Wrote}
@@ -49,7 +49,7 @@ module _ (s : Sheet) (long : LongSheet s) (ok : sheetOk s ≡ true) where
 
 -- ── what was prepared ────────────────────────────────────────────────────────────────────────
 
-module _ (s : Sheet) (p : Prepared) (rows unresolved roots links starts kids ranges : List ℕ) (d : PreparedBy s rows unresolved roots links starts kids ranges p) where
+module _ (s : Sheet) (p : Prepared) (rows unresolved roots links starts kids : List ℕ) (d : LaidBy s rows unresolved roots links starts kids p) where
   rows-few : s .rows .count ≤ 1024
   rows-few = d .ready .few .rows
 
@@ -83,18 +83,19 @@ module _ (s : Sheet) (p : Prepared) (rows unresolved roots links starts kids ran
   pub children : Children (p .counts) (offsetsIn s) (targetsIn s) (take (2 * s .rows .count + 1) starts) (take (p .kids) kids)
   children = rw (d .counts-are) (d .children)
 
-  pub covers : CoversAt (p .counts) (s .groups) rows ranges (p .covers)
-  covers = rw (d .counts-are) (d .covers)
-
-  pub stores : Stores (p .counts) rows unresolved links ranges
-  stores = rw (d .counts-are) (laid-stores s rows unresolved roots links ranges (d .laid) (omega (arith, d .long-ranges)))
-
-  sheet-is : sheetOf (p .counts) (subjectIn s) (s .groups) rows unresolved roots links (offsetsIn s) (targetsIn s) ≡ sheetIn s
+  pub sheet-is : sheetOf (p .counts) (subjectIn s) (s .groups) rows unresolved roots links (offsetsIn s) (targetsIn s) ≡ sheetIn s
   sheet-is = rw (d .counts-are) (d .sheet-is)
 
   pub all-filled : LongSheet s → sheetOk s ≡ true → filled s ≡ true → Filled (sheetOf (p .counts) (subjectIn s) (s .groups) rows unresolved roots links (offsetsIn s) (targetsIn s))
   all-filled l ok f = rw sheet-is (sym (filled-sheet s l ok) ∙ f)
 
+module _ (s : Sheet) (p : Prepared) (rows unresolved roots links starts kids ranges : List ℕ) (d : PreparedBy s rows unresolved roots links starts kids ranges p) where
+  pub covers : CoversAt (p .counts) (s .groups) rows ranges (p .covers)
+  covers = rw (d .tables .counts-are) (d .covers)
+
+  pub stores : Stores (p .counts) rows unresolved links ranges
+  stores = rw (d .tables .counts-are) (laid-stores s rows unresolved roots links ranges (d .tables .laid) (omega (arith, d .long-ranges)))
+
   pub wrote-laid : {was is : List ℕ} {r : Writing}
       → Wrote (sheetOf (p .counts) (subjectIn s) (s .groups) rows unresolved roots links (offsetsIn s) (targetsIn s)) was is r → Wrote (sheetIn s) was is r
-  wrote-laid w = rw sheet-is at w
+  wrote-laid w = rw (sheet-is s p rows unresolved roots links starts kids (d .tables)) at w

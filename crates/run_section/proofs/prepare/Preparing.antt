@@ -136,14 +136,16 @@ module _ (s : Sheet) (rows unresolved roots links : List ℕ) (t : TablesReady s
   prepared p q r =
       let d = rw y at p in
       record {
-        counts-are = y;
-        laid = t .laid;
-        sheet-is = laid-sheet s (t .laid);
-        ready = t .ready;
-        children = d .children;
-        kids-few = d .few;
+        tables = record {
+          counts-are = y;
+          laid = t .laid;
+          sheet-is = laid-sheet s (t .laid);
+          ready = t .ready;
+          children = d .children;
+          kids-few = d .few;
+          long-starts = d .long-starts;
+          long-kids = d .long-kids;
+        };
         covers = rw y at q;
-        long-starts = d .long-starts;
-        long-kids = d .long-kids;
         long-ranges = r;
       }

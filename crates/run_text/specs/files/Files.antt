@@ -1,6 +1,6 @@
 -- Document 01, the worked run: the lines of a file, said of its parts, and the bytes that they take at most.
 use mathlib.Core.List.{List, _++_}
-use Prim.Native.Nat.{ℕ, _+_, _*_, _≤_}
+use Prim.Native.Nat.{ℕ, _+_, _*_}
 use lib.IntN.{ℤ}
 use lib.ListN.{length}
 use Rattle.lists.specs.Text.{text}
@@ -8,7 +8,6 @@ use Rattle.columns.specs.Limits.{maxRecords, maxNumbers, maxGroups}
 use Rattle.columns.specs.EdgeSet.{EdgeSet}
 use Rattle.columns.specs.Building.{Built}
 use Rattle.cleaning.specs.Lines.{setLines}
-use Rattle.run_state.specs.declared.output.Sets.{Sets}
 use Rattle.run_text.specs.lines.Parts.{headText}
 
 -- ── the text ─────────────────────────────────────────────────────────────────────────────────
@@ -29,10 +28,6 @@ fileText group first rows s = headText group first rows ++ setsText s
 abbrev pub setSize : ℕ → ℕ → ℕ → ℕ
 setSize name n m = 17 + 2 * name + 21 * (n + m)
 
--- the three sets of a file, each by a name of 7 letters
-abbrev pub setsSize : ℕ → ℕ → ℕ
-setsSize rows deltas = 156 + 126 * rows + 21 * deltas
-
 -- all output files of a run
 abbrev pub filesRoom : ℕ
 filesRoom = 224 * maxGroups + 126 * maxRecords + 21 * (3 * maxNumbers)
@@ -40,15 +35,3 @@ filesRoom = 224 * maxGroups + 126 * maxRecords + 21 * (3 * maxNumbers)
 -- and with them a line for each event, and the last one: 437,792 bytes
 abbrev pub listingRoom : ℕ
 listingRoom = 46 * maxRecords + (filesRoom + 32)
-
--- ── sets by value ────────────────────────────────────────────────────────────────────────────
-
-abbrev pub entries : Sets → ℕ
-entries s = s .forward .count + (s .reverse .count + s .inbound .count)
-
--- no count is past its column
-pub record Within (rows : ℕ) (s : Sets) : Type 0 where
-  pub few : rows ≤ maxRecords
-  pub forward : s .forward .count ≤ maxNumbers
-  pub reverse : s .reverse .count ≤ maxNumbers
-  pub inbound : s .inbound .count ≤ maxNumbers

@@ -1,4 +1,0 @@
-pub mod Turns
-pub mod Ranges
-pub mod Sectioned
-pub mod Spans

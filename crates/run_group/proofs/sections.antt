@@ -1,4 +1,0 @@
-pub mod PlaceTurns
-pub mod RebaseTurns
-pub mod EdgeTurns
-pub mod Before

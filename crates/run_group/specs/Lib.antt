@@ -1,2 +1,0 @@
-pub mod parts
-pub mod sections

@@ -1,4 +1,0 @@
-pub mod SetSizes
-pub mod LentColumns
-pub mod GroupGraphs
-pub mod Judged

@@ -1,3 +1,0 @@
-pub mod ByVerdict
-pub mod ColumnGraphs
-pub mod section
