@@ -1,5 +1,6 @@
-/* The chain cover of a file: built, stored, read and asked. A slice is a pointer and a length in elements; a refusal is told by its number, 0 is
- * none, and after one nothing is written. Columns that are written have room for 1,024 numbers. */
+/* The chain cover of a file: built, stored, read and asked. A slice is a pointer and a length in elements, of which the caller owes what
+ * ridgeoven.h says; a refusal is told by its number, 0 is none, and after one nothing is written. Columns that are written have room for 1,024
+ * numbers. */
 #ifndef RIDGEOVEN_COVER_H
 #define RIDGEOVEN_COVER_H
 

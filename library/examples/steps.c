@@ -6,7 +6,7 @@
 
 static uint8_t archive[1 << 20];
 static uint8_t cleaned[RIDGEOVEN_CLEANED_MAX];
-static ridgeoven_step step;
+static ridgeoven_run run;
 
 static void accepted(uint64_t refusal) {
     if (refusal != 0) {
@@ -19,23 +19,26 @@ static void accepted(uint64_t refusal) {
 
 int main(int count, char **words) {
     size_t length = fread(archive, 1, sizeof archive, stdin);
-    step = ridgeoven_take(ridgeoven_new(), archive, length);
-    accepted(step.refusal);
-    step = ridgeoven_resolve(step.run);
-    accepted(step.refusal);
+    if (ferror(stdin) || !feof(stdin)) {
+        fprintf(stderr, "the archive cannot be read, or is longer than %zu bytes\n", sizeof archive);
+        return 2;
+    }
+    ridgeoven_run_new(&run);
+    accepted(ridgeoven_run_take(&run, archive, length));
+    accepted(ridgeoven_run_resolve(&run));
     for (int i = 1; i < count; i++) {
         uint64_t old = strtoull(words[i], NULL, 10);
-        ridgeoven_number new = ridgeoven_new_number(step.run, old);
+        ridgeoven_number new = ridgeoven_run_new_number(&run, old);
         accepted(new.refusal);
         if (new.known)
             fprintf(stderr, "%llu is now %llu\n", (unsigned long long)old, (unsigned long long)new.number);
         else
             fprintf(stderr, "%llu is gone\n", (unsigned long long)old);
     }
-    ridgeoven_answer changed = ridgeoven_reparented(step.run);
+    ridgeoven_answer changed = ridgeoven_run_reparented(&run);
     accepted(changed.refusal);
     fprintf(stderr, "reparented: %zu\n", changed.length);
-    ridgeoven_answer written = ridgeoven_write(step.run, cleaned, sizeof cleaned);
+    ridgeoven_answer written = ridgeoven_run_write(&run, cleaned, sizeof cleaned);
     accepted(written.refusal);
     return fwrite(cleaned, 1, written.length, stdout) == written.length && fflush(stdout) == 0 ? 0 : 2;
 }

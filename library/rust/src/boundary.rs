@@ -1,5 +1,14 @@
-//! The functions of `ridgeoven.h`. Whoever calls them gives pointers of slices that have the lengths given, and no slice that is written is
-//! borrowed by anybody else meanwhile.
+//! The numbers, records and functions of `ridgeoven.h`. Whoever calls them gives pointers of slices that have the lengths given, and no slice
+//! that is written is borrowed by anybody else meanwhile.
+
+/// Not every number is asked for here.
+#[allow(dead_code)]
+mod header {
+    include!(concat!(env!("OUT_DIR"), "/header.rs"));
+}
+
+use header::RUN_WORDS;
+pub use header::{CLEANED_MAX, LISTING_ROOM, STACK, WORDS_ROOM};
 
 #[repr(C)]
 pub struct Answer {
@@ -10,7 +19,7 @@ pub struct Answer {
 /// What a run holds is the library's own.
 #[derive(Clone, Copy)]
 #[repr(C)]
-pub struct Run([u64; 40_992]);
+pub struct Run([u64; RUN_WORDS]);
 
 #[repr(C)]
 pub struct Step {

@@ -9,6 +9,8 @@ mod boundary;
 mod links;
 mod refusal;
 mod run;
+#[cfg(test)]
+mod sizes;
 
 pub use links::{Cover, LINKS_MAX, Link, Range, build_cover, links_from, sort_links, store_links};
 pub use refusal::Refusal;
@@ -19,14 +21,14 @@ use refusal::length;
 use std::thread;
 
 /// No cleaned archive is longer.
-pub const CLEANED_MAX: usize = 196_448;
+pub const CLEANED_MAX: usize = boundary::CLEANED_MAX;
 
 /// No listing needs more room.
-pub const LISTING_ROOM: usize = 437_792;
+pub const LISTING_ROOM: usize = boundary::LISTING_ROOM;
 
-/// A call uses less stack, copies of a run that debug builds make among it, but more than many threads have: each is made on a thread of its
-/// own.
-const STACK: usize = 5 << 20;
+/// What a call needs, and two copies of a run that debug builds make besides, is more than many threads have: each call is made on a thread of
+/// its own.
+const STACK: usize = boundary::STACK + 2 * size_of::<boundary::Run>();
 
 /// What a call answers that is made with stack enough.
 fn on_stack<T: Send>(call: impl FnOnce() -> T + Send) -> T {

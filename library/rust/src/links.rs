@@ -32,7 +32,7 @@ pub struct Cover {
 }
 
 #[repr(C)]
-struct Covered {
+pub(crate) struct Covered {
     refusal: u64,
     ranges: usize,
     links: usize,

@@ -1,10 +1,7 @@
 //! Why a call is refused.
 
-use crate::boundary::{Answer, ridgeoven_words};
+use crate::boundary::{Answer, WORDS_ROOM, ridgeoven_words};
 use std::fmt;
-
-/// No refusal's words are longer.
-const WORDS: usize = 120;
 
 /// Why a call was refused, by document 01's number: 1 to 27 for the archive, 40 for a call out of turn, 41 for too little room, 42 and 43
 /// for the limits.
@@ -14,7 +11,7 @@ pub struct Refusal(pub u64);
 impl Refusal {
     /// What the number means; nothing where it is no refusal's.
     pub fn words(self) -> String {
-        let mut out = [0; WORDS];
+        let mut out = [0; WORDS_ROOM];
         let answer = unsafe { ridgeoven_words(self.0, out.as_mut_ptr(), out.len()) };
         String::from_utf8_lossy(&out[..answer.length]).into_owned()
     }

@@ -1,8 +1,6 @@
 //! A run, step by step.
 
-use crate::boundary::{
-    self, Step, ridgeoven_new, ridgeoven_new_number, ridgeoven_reparented, ridgeoven_resolve, ridgeoven_take, ridgeoven_write,
-};
+use crate::boundary::{self, Step, ridgeoven_new, ridgeoven_new_number, ridgeoven_reparented, ridgeoven_resolve, ridgeoven_take, ridgeoven_write};
 use crate::refusal::{Refusal, accepted, length};
 use crate::{CLEANED_MAX, in_vec, on_stack};
 
@@ -29,21 +27,22 @@ impl Run {
         Self(on_stack(|| Box::new(unsafe { ridgeoven_new() })))
     }
 
-    fn stepped(&mut self, step: Box<Step>) -> Result<(), Refusal> {
-        *self.0 = step.run;
-        accepted(step.refusal, ())
-    }
-
     /// Takes the files of an archive, after those taken before.
     pub fn take(&mut self, bytes: &[u8]) -> Result<(), Refusal> {
-        let step = on_stack(|| Box::new(unsafe { ridgeoven_take(*self.0, bytes.as_ptr(), bytes.len()) }));
-        self.stepped(step)
+        let run = &mut *self.0;
+        on_stack(|| {
+            let step = unsafe { ridgeoven_take(*run, bytes.as_ptr(), bytes.len()) };
+            stepped(run, &step)
+        })
     }
 
     /// Ends the taking: the survivors get their new numbers and parents.
     pub fn resolve(&mut self) -> Result<(), Refusal> {
-        let step = on_stack(|| Box::new(unsafe { ridgeoven_resolve(*self.0) }));
-        self.stepped(step)
+        let run = &mut *self.0;
+        on_stack(|| {
+            let step = unsafe { ridgeoven_resolve(*run) };
+            stepped(run, &step)
+        })
     }
 
     /// Writes the cleaned archive of a resolved run into `out`: how long it is.
@@ -66,4 +65,11 @@ impl Run {
     pub fn reparented(&self) -> Result<usize, Refusal> {
         length(on_stack(|| unsafe { ridgeoven_reparented(*self.0) }))
     }
+}
+
+/// The run after a step, in its place; a refused step leaves it as it was.
+fn stepped(run: &mut boundary::Run, step: &Step) -> Result<(), Refusal> {
+    accepted(step.refusal, ())?;
+    *run = step.run;
+    Ok(())
 }

@@ -94,6 +94,15 @@ pub fn file(out: &mut Vec<u8>, file: &File) {
     }
 }
 
+/// The records of a file's edges and rows.
+#[cfg(feature = "port")]
+pub fn edges_and_rows(one: &File) -> Vec<u8> {
+    let mut out = Vec::new();
+    record(&mut out, 2, edges(one));
+    record(&mut out, 3, rows(one));
+    out
+}
+
 pub fn archive(files: &[File]) -> Vec<u8> {
     let mut out = Vec::new();
     for one in files {

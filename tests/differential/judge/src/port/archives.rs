@@ -1,14 +1,11 @@
 //! Whole archives asked of the proved library (feature `port`): its cleaned bytes and its listing beside those of the run over the
 //! original, and twins, which differ only in what was erased and must be cleaned to the same bytes.
 
-use super::boundary::{Answer, ridgeoven_clean, ridgeoven_list};
+use super::boundary::{Answer, CLEANED_MAX, LISTING_ROOM, ridgeoven_clean, ridgeoven_list};
 use super::lent::Lent;
+use super::records;
 use crate::cleaning;
 use crate::refusals::Number;
-
-/// No cleaned archive is longer, and no listing needs more room.
-pub const CLEANED: usize = 196_448;
-const LISTED: usize = 437_792;
 
 type Call = unsafe extern "C" fn(*const u8, usize, *mut u8, usize) -> Answer;
 
@@ -24,11 +21,14 @@ fn asked(call: Call, room: usize, bytes: &[u8]) -> Result<Result<Vec<u8>, Number
 }
 
 pub fn clean(bytes: &[u8]) -> Result<Result<Vec<u8>, Number>, String> {
-    asked(ridgeoven_clean, CLEANED, bytes)
+    asked(ridgeoven_clean, CLEANED_MAX, bytes)
 }
 
-/// What differs between the two, if anything does: the answer of cleaning, then the listing's.
+/// What differs between the two, if anything does: the records, the answer of cleaning, then the listing's.
 pub fn differs(bytes: &[u8]) -> Option<String> {
+    if let Some(wrong) = records::differs(bytes) {
+        return Some(wrong);
+    }
     let original = cleaning::clean(bytes).map(|cleaned| cleaned.bytes);
     match clean(bytes) {
         Err(wrong) => return Some(format!("cleaning: {wrong}")),
@@ -36,7 +36,7 @@ pub fn differs(bytes: &[u8]) -> Option<String> {
         Ok(_) => {}
     }
     let (listing, _) = cleaning::answers(bytes);
-    let listed = match asked(ridgeoven_list, LISTED, bytes) {
+    let listed = match asked(ridgeoven_list, LISTING_ROOM, bytes) {
         Err(wrong) => return Some(format!("listing: {wrong}")),
         Ok(Ok(listed)) => String::from_utf8_lossy(&listed).into_owned(),
         Ok(Err(number)) => format!("refused {number}\n"),

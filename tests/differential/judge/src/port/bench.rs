@@ -1,11 +1,9 @@
 //! Times of the original and of the port on the same inputs, in one process: the best of many calls each.
 
 use super::boundary::{
-    ridgeoven_build, ridgeoven_children, ridgeoven_cover_build, ridgeoven_cover_read, ridgeoven_cover_store, ridgeoven_parents,
-    ridgeoven_read_granule, ridgeoven_sums, ridgeoven_walk, ridgeoven_write_edges, ridgeoven_write_rows,
+    CLEANED_MAX, ridgeoven_build, ridgeoven_children, ridgeoven_clean, ridgeoven_cover_build, ridgeoven_cover_read, ridgeoven_cover_store, ridgeoven_new,
+    ridgeoven_parents, ridgeoven_read_granule, ridgeoven_resolve, ridgeoven_take, ridgeoven_walk, ridgeoven_write,
 };
-use super::archives::CLEANED;
-use super::boundary::{ridgeoven_clean, ridgeoven_new, ridgeoven_resolve, ridgeoven_take, ridgeoven_write};
 use crate::archive::{Cover, File, Range, Row, Set};
 use crate::blocks;
 use crate::cleaning;
@@ -143,38 +141,6 @@ impl Inputs {
         write::archive(&(0..GROUPS).map(file).collect::<Vec<_>>())
     }
 
-    /// The original decodes the three sets, the port reads the whole archive that holds them.
-    fn archive_read(&self) -> [f64; 2] {
-        let (block, bytes) = (blocks::granule(&self.sets, None), self.archive(|_| false));
-        let rust = best(|| drop(black_box(self.decoded(&block))));
-        let port = best(|| assert_eq!(unsafe { ridgeoven_sums(bytes.as_ptr(), bytes.len()) }.refusal, 0));
-        [rust, port]
-    }
-
-    /// The original encodes the three sets, the port writes them and the rows as records, whose bytes are those of the archive.
-    fn archive_written(&self) -> [f64; 2] {
-        let (graph, granule) = (self.graph(), [sources::granule(self.rows)]);
-        let rust = best(|| drop(black_box(encode_graph_blocks(&graph, self.rows as u64, &granule).expect("a sound file"))));
-        let [f, r, i] = &self.sets;
-        let (flags, tags) = (vec![0u8; self.rows], (0..self.rows as u64).collect::<Vec<u64>>());
-        let mut out = vec![0u8; 196_448];
-        let mut end = 0;
-        let port = best(|| {
-            let answer = unsafe {
-                let edges = ridgeoven_write_edges(
-                    out.as_mut_ptr(), out.len(), 0, f.offsets.as_ptr(), f.offsets.len(), f.deltas.as_ptr(), f.deltas.len(),
-                    r.offsets.as_ptr(), r.offsets.len(), r.deltas.as_ptr(), r.deltas.len(),
-                    i.offsets.as_ptr(), i.offsets.len(), i.deltas.as_ptr(), i.deltas.len(),
-                );
-                ridgeoven_write_rows(out.as_mut_ptr(), out.len(), edges.length, flags.as_ptr(), flags.len(), tags.as_ptr(), tags.len())
-            };
-            assert_eq!(answer.refusal, 0);
-            end = answer.length;
-        });
-        assert!(self.archive(|_| false).windows(end).any(|part| part == &out[..end]));
-        [rust, port]
-    }
-
     /// The original is given its own rows and edges, the port columns.
     fn build(&self) -> [f64; 2] {
         let (graph, edges) = (self.graph(), self.inbound());
@@ -282,7 +248,7 @@ impl Inputs {
 
 /// Both read an archive, renumber it and write it; the original is spared taking's rules. The bytes are the same.
 fn cleaned(bytes: &[u8]) -> [f64; 2] {
-    let mut out = vec![0u8; CLEANED];
+    let mut out = vec![0u8; CLEANED_MAX];
     let mut length = 0;
     let rust = best(|| drop(black_box(cleaning::renumbered(bytes))));
     let port = best(|| {
@@ -296,7 +262,7 @@ fn cleaned(bytes: &[u8]) -> [f64; 2] {
 
 /// The same by the steps of a run, which goes in and out of each call by value.
 fn stepped(bytes: &[u8]) -> [f64; 2] {
-    let mut out = vec![0u8; CLEANED];
+    let mut out = vec![0u8; CLEANED_MAX];
     let mut length = 0;
     let rust = best(|| drop(black_box(cleaning::renumbered(bytes))));
     let port = best(|| {
@@ -400,8 +366,6 @@ pub fn table() {
         let sizes = [64, 256, 1024].map(|rows| inputs(rows, each));
         line("build a granule", shape, &sizes.each_ref().map(Inputs::build));
         line("read a granule", shape, &sizes.each_ref().map(Inputs::read));
-        line("read an archive", shape, &sizes.each_ref().map(Inputs::archive_read));
-        line("write its edges and rows", shape, &sizes.each_ref().map(Inputs::archive_written));
         for (part, erased) in [("no row erased", (|_| false) as fn(u64) -> bool), ("every fourth row erased", |row| row % 4 == 1)] {
             if each == 1 || !erased(1) {
                 line("clean an archive", &format!("{shape}, {part}"), &sizes.each_ref().map(|one| cleaned(&one.archive(erased))));

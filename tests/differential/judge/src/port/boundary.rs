@@ -2,6 +2,15 @@
 //! parameters, its pointer and its length. Every function answers a record whose first part is a refusal's number, or 0; outputs are
 //! lent. The README beside the workspace says what each is given.
 
+/// The numbers of `library/ridgeoven.h`, not all of which are asked for here.
+#[allow(dead_code)]
+mod header {
+    include!(concat!(env!("OUT_DIR"), "/header.rs"));
+}
+
+use header::RUN_WORDS;
+pub use header::{CLEANED_MAX, LISTING_ROOM};
+
 /// How many entries were written.
 #[repr(C)]
 pub struct Answer {
@@ -69,7 +78,7 @@ pub struct Sums {
 /// A run is the library's own, given and given back by value.
 #[derive(Clone, Copy)]
 #[repr(C)]
-pub struct Run([u64; 40_992]);
+pub struct Run([u64; RUN_WORDS]);
 
 #[repr(C)]
 pub struct Step {

@@ -5,6 +5,7 @@ pub mod bench;
 mod boundary;
 mod lent;
 pub mod questions;
+mod records;
 pub mod runs;
 pub mod smallest;
 

@@ -1,8 +1,7 @@
 //! A run of the proved library call by call (feature `port`) beside a run over the original: the files of an archive taken in several
 //! takings, calls out of turn and takings that are refused among them, then resolved, asked and written.
 
-use super::archives::CLEANED;
-use super::boundary::{self, ridgeoven_new, ridgeoven_new_number, ridgeoven_reparented, ridgeoven_resolve, ridgeoven_take, ridgeoven_write};
+use super::boundary::{self, CLEANED_MAX, ridgeoven_new, ridgeoven_new_number, ridgeoven_reparented, ridgeoven_resolve, ridgeoven_take, ridgeoven_write};
 use super::lent::Lent;
 use crate::random::Random;
 use crate::refusals::Number;
@@ -43,7 +42,7 @@ impl Port {
             Call::Take(bytes) => self.step(unsafe { ridgeoven_take(*self.0, bytes.as_ptr(), bytes.len()) }),
             Call::Resolve => self.step(unsafe { ridgeoven_resolve(*self.0) }),
             Call::Write => {
-                let mut out = Lent::<u8>::new(CLEANED);
+                let mut out = Lent::<u8>::new(CLEANED_MAX);
                 let answer = unsafe { ridgeoven_write(*self.0, out.at(), out.len()) };
                 refused(answer.refusal, Answer::Wrote(out.taken(answer.length)?.to_vec()))
             }

@@ -1,0 +1,62 @@
+//! The records of an archive asked of the proved library (feature `port`): how many of each kind it has, and each file's edges and rows written
+//! again, which must be the bytes that stand in the archive.
+
+use super::boundary::{ridgeoven_sums, ridgeoven_write_edges, ridgeoven_write_rows};
+use super::lent::{Lent, NUMBERS, RECORDS};
+use crate::archive::File;
+use crate::{read, write};
+
+/// What differs, if anything does.
+pub fn differs(bytes: &[u8]) -> Option<String> {
+    let files = read::archive(bytes);
+    let (expected, port) = (counts(files.as_deref()), summed(bytes));
+    if port != expected {
+        return Some(format!("the archive's counts are {expected:?}, the port's {port:?}"));
+    }
+    let small = |file: &File| file.rows.len() <= RECORDS && file.sets.iter().all(|set| set.deltas.len() <= NUMBERS);
+    files?.into_iter().filter(small).find_map(|file| match written(&file) {
+        Err(wrong) => Some(format!("records: {wrong}")),
+        Ok(port) => (port != write::edges_and_rows(&file)).then(|| "edges and rows are written otherwise".into()),
+    })
+}
+
+/// A refusal or 0, and the counts: of files, events, roots, unresolved records, ranges, links, and deltas of each set.
+fn counts(files: Option<&[File]>) -> [u64; 10] {
+    let Some(files) = files else { return [23, 0, 0, 0, 0, 0, 0, 0, 0, 0] };
+    let sum = |count: &dyn Fn(&File) -> usize| files.iter().map(|file| count(file) as u64).sum();
+    let of_cover = |file: &File| file.cover.as_ref().map_or((0, 0), |cover| (cover.ranges.len(), cover.links[0].len()));
+    let set = |number: usize| sum(&|file: &File| file.sets[number].deltas.len());
+    [
+        0, files.len() as u64, sum(&|file| file.rows.len()), sum(&|file| file.roots.len()), sum(&|file| file.unresolved.len()),
+        sum(&|file| of_cover(file).0), sum(&|file| of_cover(file).1), set(0), set(1), set(2),
+    ]
+}
+
+fn summed(bytes: &[u8]) -> [u64; 10] {
+    let sums = unsafe { ridgeoven_sums(bytes.as_ptr(), bytes.len()) };
+    let counts = [sums.files, sums.events, sums.roots, sums.unresolved, sums.ranges, sums.links, sums.forward, sums.reverse, sums.inbound];
+    let mut all = [sums.refusal; 10];
+    for (place, count) in all[1..].iter_mut().zip(counts) {
+        *place = count as u64;
+    }
+    all
+}
+
+/// The edges record and the rows record behind it.
+fn written(file: &File) -> Result<Vec<u8>, String> {
+    let [f, r, i] = &file.sets;
+    let (flags, tags): (Vec<u8>, Vec<u64>) = file.rows.iter().map(|row| (u8::from(row.erased), row.tag)).unzip();
+    let mut out = Lent::<u8>::new(write::edges_and_rows(file).len() + 1);
+    let edges = unsafe {
+        ridgeoven_write_edges(
+            out.at(), out.len(), 0, f.offsets.as_ptr(), f.offsets.len(), f.deltas.as_ptr(), f.deltas.len(),
+            r.offsets.as_ptr(), r.offsets.len(), r.deltas.as_ptr(), r.deltas.len(),
+            i.offsets.as_ptr(), i.offsets.len(), i.deltas.as_ptr(), i.deltas.len(),
+        )
+    };
+    let rows = unsafe { ridgeoven_write_rows(out.at(), out.len(), edges.length, flags.as_ptr(), flags.len(), tags.as_ptr(), tags.len()) };
+    match (edges.refusal, rows.refusal) {
+        (0, 0) => Ok(out.taken(rows.length)?.to_vec()),
+        refused => Err(format!("refused {refused:?}")),
+    }
+}
