@@ -10,6 +10,8 @@ use lib.Seq.{sets-eq, take-at, drop-at}
 use mir.Syntax.{w64}
 use mir.Val.{Fits}
 use borrow.Author.Tests.{lt-ltb, le-ltb}
+use Rattle.columns.specs.Limits.{kinds}
+use Rattle.columns.proofs.Served.{kinds-served}
 use Rattle.lists.specs.Lists.{upFrom}
 use Rattle.lists.proofs.Flat.{map-ext}
 use Rattle.lists.proofs.Filters.{each-below}
@@ -41,16 +43,16 @@ use Rattle.run_list.specs.Listed.{Ready, Lists}
 use Rattle.run_list.specs.declared.files.Needed.{Needed}
 use Rattle.run_list.proofs.WholeText.{need-parts}
 
-files-sections : (s : plain.Sheet) → Tidy s → Filled s → outputs (summaryOf s) ≡ sectionFiles s
+files-sections : (s : plain.Sheet) → Tidy kinds s → Filled s → outputs kinds (summaryOf kinds s) ≡ sectionFiles s
 unfolding outputs sectionFiles summaryOf groupsOfSheet
 files-sections s t f =
-    let e : groupNumbers (summaryOf s) ≡ upFrom 0 (length (s .groups)) = ap (upFrom 0) (groups-length (s .links) 0 (s .groups)) in
+    let e : groupNumbers (summaryOf kinds s) ≡ upFrom 0 (length (s .groups)) = ap (upFrom 0) (groups-length (s .links) 0 (s .groups)) in
     rw e
-    (map-ext (outputOf (summaryOf s)) (sectionFile s) (upFrom 0 (length (s .groups)))
-    (each-below _ (length (s .groups)) (λ g l. file-section s t g l (filled-section s f g l))))
+    (map-ext (outputOf kinds (summaryOf kinds s)) (sectionFile kinds s) (upFrom 0 (length (s .groups)))
+    (each-below _ (length (s .groups)) (λ g l. file-section kinds kinds-served s t g l (filled-section s f g l))))
 
 module _ (h : Held) (s : Sheet) (ready : Ready h s) (hl : LongHeld h) (l : LongSheet s) {m : Needed} (d : NeededBy (sheetIn s) m) where
-  tidy : Tidy (sheetIn s)
+  tidy : Tidy kinds (sheetIn s)
   tidy = tidy-sheet s l (ready .valid) (ready .inOrder)
 
   whole : Filled (sheetIn s)
@@ -62,23 +64,23 @@ module _ (h : Held) (s : Sheet) (ready : Ready h s) (hl : LongHeld h) (l : LongS
   pub need-fits : Fits w64 (46 * h .sheet .rows .count + (m .bytes + 32))
   need-fits = record { fits = omega (arith, few-held h (ready .heldValid) hl, d .few) }
 
-  by-sections : (room : ℕ) → listed room (archiveIn h) (summaryOf (sheetIn s))
-      ≡ unless (firstOf (sectionRules (sheetIn s) ∷ refuse SliceShort (ltb room (listingNeed (archiveIn h) (sectionFiles (sheetIn s)))) ∷ []))
+  by-sections : (room : ℕ) → listed kinds room (archiveIn h) (summaryOf kinds (sheetIn s))
+      ≡ unless (firstOf (sectionRules kinds (sheetIn s) ∷ refuse SliceShort (ltb room (listingNeed (archiveIn h) (sectionFiles (sheetIn s)))) ∷ []))
       (listingText (archiveIn h) (sectionFiles (sheetIn s)))
   unfolding listed
-  by-sections room = rw (rules-sections (sheetIn s) tidy whole, files-sections (sheetIn s) tidy whole)
+  by-sections room = rw (rules-sections kinds kinds-served (sheetIn s) tidy whole, files-sections (sheetIn s) tidy whole)
 
   pub list-refused : (was : List ℕ) (x : Refusal) → m .ruling ≡ Broken x → Lists (heldIn h) (sheetIn s) was was (Refused x)
   unfolding unless firstOf
   list-refused was x e = record {
-    answers = sym (ap listInto {y = verdict.refused x} (by-sections (length was) ∙ rw (told (sectionRules (sheetIn s)) (d .rules) e)));
+    answers = sym (ap listInto {y = verdict.refused x} (by-sections (length was) ∙ rw (told (sectionRules kinds (sheetIn s)) (d .rules) e)));
     rest = refl;
     within = omega arith;
   }
 
   module _ (e : m .ruling ≡ Kept) where
-    pub rules-kept : sectionRules (sheetIn s) ≡ none
-    rules-kept = told-kept (sectionRules (sheetIn s)) (d .rules) e
+    pub rules-kept : sectionRules kinds (sheetIn s) ≡ none
+    rules-kept = told-kept (sectionRules kinds (sheetIn s)) (d .rules) e
 
     need-told : listingNeed (archiveIn h) (sectionFiles (sheetIn s)) ≡ 46 * h .sheet .rows .count + (m .bytes + 32)
     need-told = omega (arith, need-parts h (ready .heldValid) (ready .heldOrder) hl (sectionFiles (sheetIn s)), d .bytes-are rules-kept)

@@ -6,6 +6,8 @@ use Prim.Native.Nat.{ℕ, _+_, _-_}
 use native.Mathlib.Omega.{arith}
 use lib.ListN.{length, length-map}
 use lib.Seq.{length-take-le}
+use Rattle.columns.specs.Limits.{kinds}
+use Rattle.columns.proofs.Served.{kinds-served}
 use Rattle.columns.specs.Building.{Built, buildRules, builtOf}
 use Rattle.cleaning.specs.Lines.{fileLines}
 use Rattle.cleaning.specs.Sheet as plain
@@ -35,34 +37,34 @@ unfolding fileText setsText fileLines
 section-lines s g b = refl
 
 module _ (s : Sheet) (g a b : ℕ) (l : LongSheet s) (k : sheetOk s ≡ true) (o : ordered s ≡ true) (p : SpanOf s g a b) where
-  rows-count : length (sectionFile (sheetIn s) g .rows) ≡ b - a
+  rows-count : length (sectionFile kinds (sheetIn s) g .rows) ≡ b - a
   unfolding sectionFile
   rows-count =
       let t = tidy-sheet s l k o in
       length-map (sectionTags (sheetIn s) g) unerasedRow
-      ∙ length-part (sectionStart (sheetIn s) g) (sectionRows (sheetIn s) g) ((sheetIn s) .tags) (omega (arith, section-end (sheetIn s) t g, section-within (sheetIn s) t g))
+      ∙ length-part (sectionStart (sheetIn s) g) (sectionRows (sheetIn s) g) ((sheetIn s) .tags) (omega (arith, section-end kinds kinds-served (sheetIn s) t g, section-within kinds kinds-served (sheetIn s) t g))
       ∙ sym (span-rows s g a b p)
 
   first-is : s .start + a ≡ sectionFirst (sheetIn s) g
   unfolding sheetIn
   first-is = ap (λ x. s .start + x) (p .from)
 
-  module _ (q : GroupSets) (m : SetsBy (judged (sectionGraph (sheetIn s) g)) (b - a) q) (d : LongDeltas (q .sets)) where
-    module _ (e : buildRules (sectionGraph (sheetIn s) g) ≡ none) where
-      held : Holds (b - a) (builtOf (sectionGraph (sheetIn s) g)) q
-      held = held-sets (sectionGraph (sheetIn s) g) (b - a) q m e
+  module _ (q : GroupSets) (m : SetsBy (judged (sectionGraph kinds (sheetIn s) g)) (b - a) q) (d : LongDeltas (q .sets)) where
+    module _ (e : buildRules kinds (sectionGraph kinds (sheetIn s) g) ≡ none) where
+      held : Holds (b - a) (builtOf kinds (sectionGraph kinds (sheetIn s) g)) q
+      held = held-sets (sectionGraph kinds (sheetIn s) g) (b - a) q m e
 
       few : Within (b - a) (q .sets)
       few = record { few = omega (arith, span-room s g a b p l k o); forward = held .forward; reverse = held .reverse; inbound = held .inbound }
 
-      same-lines : fileText g (s .start + a) (b - a) (builtIn (b - a) (q .sets)) ≡ fileLines (sectionFile (sheetIn s) g)
+      same-lines : fileText g (s .start + a) (b - a) (builtIn (b - a) (q .sets)) ≡ fileLines (sectionFile kinds (sheetIn s) g)
       unfolding sectionFile
       same-lines =
           ap (fileText g (s .start + a) (b - a)) (held .sets)
-          ∙ ap₂ (λ x y. fileText g x y (builtOf (sectionGraph (sheetIn s) g))) first-is (sym rows-count)
-          ∙ section-lines (sheetIn s) g (builtOf (sectionGraph (sheetIn s) g))
+          ∙ ap₂ (λ x y. fileText g x y (builtOf kinds (sectionGraph kinds (sheetIn s) g))) first-is (sym rows-count)
+          ∙ section-lines (sheetIn s) g (builtOf kinds (sectionGraph kinds (sheetIn s) g))
 
-      same-need : fileSize (b - a) (entries (q .sets)) ≡ fileNeed (sectionFile (sheetIn s) g)
+      same-need : fileSize (b - a) (entries (q .sets)) ≡ fileNeed (sectionFile kinds (sheetIn s) g)
       unfolding fileNeed sectionFile builtIn setIn
       same-need =
           omega (
@@ -77,4 +79,4 @@ module _ (s : Sheet) (g a b : ℕ) (l : LongSheet s) (k : sheetOk s ≡ true) (o
           )
 
     pub file-shown : Shows (sheetIn s) g (record { ruling = q .ruling; first = s .start + a; rows = b - a; sets = q .sets })
-    file-shown = record { rules = rules-are (sectionGraph (sheetIn s) g) (b - a) q m; within = few; lines = same-lines; need = same-need }
+    file-shown = record { rules = rules-are (sectionGraph kinds (sheetIn s) g) (b - a) q m; within = few; lines = same-lines; need = same-need }

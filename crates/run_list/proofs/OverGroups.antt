@@ -12,7 +12,7 @@ use borrow.Author.Tests.{leb-true}
 use Rattle.lists.proofs.Tests.{both}
 use Rattle.lists.specs.Lists.{flat, upFrom, sum}
 use Rattle.lists.proofs.Flat.{length-map-upFrom}
-use Rattle.columns.specs.Limits.{maxGroups, maxSubject}
+use Rattle.columns.specs.Limits.{kinds, maxGroups, maxSubject}
 use Rattle.columns.specs.Answers.{ruling}
 use Rattle.columns.specs.Building.{buildRules}
 use Rattle.columns.specs.declared.refusal.Refusal.{Refusal}
@@ -43,7 +43,7 @@ use Rattle.run_list.proofs.Along.{part-more, parts-end}
 
 -- of the groups from g up to n
 unfoldable pub filesFrom : plain.Sheet → ℕ → ℕ → List File
-filesFrom s g n = map (sectionFile s) (upFrom g (n - g))
+filesFrom s g n = map (sectionFile kinds s) (upFrom g (n - g))
 
 unfoldable pub linesFrom : plain.Sheet → ℕ → ℕ → List ℕ
 linesFrom s g n = flat fileLines (filesFrom s g n)
@@ -56,7 +56,7 @@ module _ (s : plain.Sheet) (g n : ℕ) where
   unfolding filesFrom upFrom
   files-end h = let e : n - g ≡ 0 = omega arith in rw e
 
-  files-next : g < n → filesFrom s g n ≡ sectionFile s g ∷ filesFrom s (suc g) n
+  files-next : g < n → filesFrom s g n ≡ sectionFile kinds s g ∷ filesFrom s (suc g) n
   unfolding filesFrom upFrom
   files-next h = let e : n - g ≡ suc (n - suc g) = omega arith in rw e
 
@@ -68,11 +68,11 @@ module _ (s : plain.Sheet) (g n : ℕ) where
   unfolding needFrom filesNeed sum
   need-end h = rw (files-end h)
 
-  lines-next : g < n → linesFrom s g n ≡ fileLines (sectionFile s g) ++ linesFrom s (g + 1) n
+  lines-next : g < n → linesFrom s g n ≡ fileLines (sectionFile kinds s g) ++ linesFrom s (g + 1) n
   unfolding linesFrom
   lines-next h = rw (files-next h, add-one)
 
-  need-next : g < n → needFrom s g n ≡ fileNeed (sectionFile s g) + needFrom s (g + 1) n
+  need-next : g < n → needFrom s g n ≡ fileNeed (sectionFile kinds s g) + needFrom s (g + 1) n
   unfolding needFrom filesNeed sum
   need-next h = rw (files-next h, add-one)
 
@@ -86,16 +86,16 @@ module _ (s : Sheet) where
   unfolding sheetIn
   groups-count = length-map-upFrom (factsAt (s .groups)) 0 (s .groups .count) ∙ omega arith
 
-  pub all-rules : sectionRules (sheetIn s) ≡ rulesFrom (sheetIn s) 0 (s .groups .count)
+  pub all-rules : sectionRules kinds (sheetIn s) ≡ rulesFrom (sheetIn s) 0 (s .groups .count)
   unfolding sectionRules rulesFrom
   all-rules = rw groups-count
 
-  pub no-rules : sectionRules (sheetIn s) ≡ none → rulesFrom (sheetIn s) 0 (s .groups .count) ≡ none
+  pub no-rules : sectionRules kinds (sheetIn s) ≡ none → rulesFrom (sheetIn s) 0 (s .groups .count) ≡ none
   no-rules h = sym all-rules ∙ h
 
   all-files : sectionFiles (sheetIn s) ≡ filesFrom (sheetIn s) 0 (s .groups .count)
   unfolding sectionFiles filesFrom
-  all-files = ap (λ k. map (sectionFile (sheetIn s)) (upFrom 0 k)) groups-count
+  all-files = ap (λ k. map (sectionFile kinds (sheetIn s)) (upFrom 0 k)) groups-count
 
   pub all-need : filesNeed (sectionFiles (sheetIn s)) ≡ 0 + needFrom (sheetIn s) 0 (s .groups .count)
   unfolding needFrom
@@ -110,18 +110,18 @@ module _ (s : Sheet) where
 
 -- ── one turn ─────────────────────────────────────────────────────────────────────────────────
 
-module _ (s : plain.Sheet) (g n : ℕ) (h : g < n) {q : Ruling} (m : q ≡ ruling (buildRules (sectionGraph s g))) where
+module _ (s : plain.Sheet) (g n : ℕ) (h : g < n) {q : Ruling} (m : q ≡ ruling (buildRules kinds (sectionGraph kinds s g))) where
   -- a group that keeps the rules leaves the others'
   module _ (k : q ≡ Kept) where
-    kept-rules : buildRules (sectionGraph s g) ≡ none
-    kept-rules = told-kept (buildRules (sectionGraph s g)) m k
+    kept-rules : buildRules kinds (sectionGraph kinds s g) ≡ none
+    kept-rules = told-kept (buildRules kinds (sectionGraph kinds s g)) m k
 
     goes-on : {t : Option Refusal} → t ≡ rulesFrom s g n → t ≡ rulesFrom s (g + 1) n
     goes-on e = e ∙ rules-next s g n h kept-rules ∙ ap (λ k. rulesFrom s k n) (sym (add-one g))
 
   -- the rule that a group breaks is the first
   stops : {t : Option Refusal} (x : Refusal) → t ≡ rulesFrom s g n → q ≡ Broken x → Broken x ≡ ruling t
-  stops x e k = rw (e, rules-broken s g n h x (told (buildRules (sectionGraph s g)) m k))
+  stops x e k = rw (e, rules-broken s g n h x (told (buildRules kinds (sectionGraph kinds s g)) m k))
 
 module _ (s : plain.Sheet) (g n : ℕ) {r : Shown} (m : Shows s g r) (h : g < n) where
   module _ (k : r .ruling ≡ Kept) where
@@ -138,7 +138,7 @@ module _ (s : plain.Sheet) (g n : ℕ) {r : Shown} (m : Shows s g r) (h : g < n)
   turn-broken x e k = stops s g n h (m .rules) x e k
 
   module _ (k : rulesFrom s g n ≡ none) where
-    first-kept : buildRules (sectionGraph s g) ≡ none
+    first-kept : buildRules kinds (sectionGraph kinds s g) ≡ none
     first-kept = rules-first s g n h k
 
     pub lines-within : Within (r .rows) (r .sets)
@@ -161,7 +161,7 @@ module _ (s : plain.Sheet) (g n : ℕ) {r : Shown} (m : Shows s g r) (h : g < n)
 -- ── where the loops end ──────────────────────────────────────────────────────────────────────
 
 module _ (s : Sheet) (g n : ℕ) where
-  pub need-known : (t : ℕ) → sectionRules (sheetIn s) ≡ rulesFrom (sheetIn s) g n → filesNeed (sectionFiles (sheetIn s)) ≡ t + needFrom (sheetIn s) g n → n ≤ g
+  pub need-known : (t : ℕ) → sectionRules kinds (sheetIn s) ≡ rulesFrom (sheetIn s) g n → filesNeed (sectionFiles (sheetIn s)) ≡ t + needFrom (sheetIn s) g n → n ≤ g
       → g ≤ n → n ≤ 16 → t ≤ g * 387296 → NeededBy (sheetIn s) (record { ruling = Kept; bytes = t })
   need-known t e f h a b d = record {
     rules = rw (e, rules-end (sheetIn s) g n h);
@@ -174,7 +174,7 @@ module _ (s : Sheet) (g n : ℕ) where
       → Wrote (flat fileLines (sectionFiles (sheetIn s))) (filesNeed (sectionFiles (sheetIn s))) was at is p
   lines-done v h u = parts-end v (lines-end (sheetIn s) g n h) (omega arith)
 
-pub need-refused : (s : Sheet) (x : Refusal) → Broken x ≡ ruling (sectionRules (sheetIn s)) → NeededBy (sheetIn s) (record { ruling = Broken x; bytes = 0 })
+pub need-refused : (s : Sheet) (x : Refusal) → Broken x ≡ ruling (sectionRules kinds (sheetIn s)) → NeededBy (sheetIn s) (record { ruling = Broken x; bytes = 0 })
 need-refused s x e = record {
   rules = e;
   bytes-are = λ k. let f : Broken x ≡ Kept = e ∙ ap ruling k in let z : _≡_ {A = ℕ} 0 1 = cc in absurd (omega arith);

@@ -5,7 +5,7 @@ use mathlib.Core.Option.{none}
 use Prim.Native.Nat.{ℕ, _≤_}
 use lib.ListN.{length}
 use Rattle.lists.specs.Lists.{upFrom}
-use Rattle.columns.specs.Limits.{maxNumbers}
+use Rattle.columns.specs.Limits.{kinds, maxNumbers}
 use Rattle.columns.specs.Answers.{ruling}
 use Rattle.columns.specs.Building.{buildRules}
 use Rattle.archive.specs.File.{File}
@@ -22,7 +22,7 @@ use Rattle.run_list.specs.declared.files.Needed.{Needed}
 
 -- the output files, groups rising
 unfoldable pub sectionFiles : Sheet → List File
-sectionFiles s = map (sectionFile s) (upFrom 0 (length (s .groups)))
+sectionFiles s = map (sectionFile kinds s) (upFrom 0 (length (s .groups)))
 
 -- how long the columns of deltas are
 pub record LongDeltas (s : Sets) : Type 0 where
@@ -32,13 +32,13 @@ pub record LongDeltas (s : Sets) : Type 0 where
 
 -- the first of building's rules that group g breaks; where there is none, the lines of its file and what they take, by its first number, rows and sets
 pub record Shows (s : Sheet) (g : ℕ) (r : Shown) : Type 0 where
-  pub rules : r .ruling ≡ ruling (buildRules (sectionGraph s g))
-  pub within : buildRules (sectionGraph s g) ≡ none → Within (r .rows) (r .sets)
-  pub lines : buildRules (sectionGraph s g) ≡ none → fileText g (r .first) (r .rows) (builtIn (r .rows) (r .sets)) ≡ fileLines (sectionFile s g)
-  pub need : buildRules (sectionGraph s g) ≡ none → fileSize (r .rows) (entries (r .sets)) ≡ fileNeed (sectionFile s g)
+  pub rules : r .ruling ≡ ruling (buildRules kinds (sectionGraph kinds s g))
+  pub within : buildRules kinds (sectionGraph kinds s g) ≡ none → Within (r .rows) (r .sets)
+  pub lines : buildRules kinds (sectionGraph kinds s g) ≡ none → fileText g (r .first) (r .rows) (builtIn (r .rows) (r .sets)) ≡ fileLines (sectionFile kinds s g)
+  pub need : buildRules kinds (sectionGraph kinds s g) ≡ none → fileSize (r .rows) (entries (r .sets)) ≡ fileNeed (sectionFile kinds s g)
 
 -- the first broken rule of all groups; where there is none, what the lines of their files take at most
 pub record NeededBy (s : Sheet) (r : Needed) : Type 0 where
-  pub rules : r .ruling ≡ ruling (sectionRules s)
-  pub bytes-are : sectionRules s ≡ none → r .bytes ≡ filesNeed (sectionFiles s)
+  pub rules : r .ruling ≡ ruling (sectionRules kinds s)
+  pub bytes-are : sectionRules kinds s ≡ none → r .bytes ≡ filesNeed (sectionFiles s)
   pub few : r .bytes ≤ 6196736

@@ -15,7 +15,7 @@ ghost use mathlib.Core.Option.{none};
 ghost use Prim.Native.Nat.{_+_, _≤_, _<_};
 ghost use lib.ListN.{length};
 ghost use Rattle.lists.specs.Lists.{flat};
-ghost use Rattle.columns.specs.Limits.{maxRecords, maxNumbers};
+ghost use Rattle.columns.specs.Limits.{kinds, maxRecords, maxNumbers};
 ghost use Rattle.cleaning.specs.Lines.{fileLines};
 ghost use Rattle.cleaning.specs.Sections.{sectionUnresolved, sectionRules};
 ghost use Rattle.run_state.specs.View.{listed, unresolvedAt, sheetIn};
@@ -152,7 +152,7 @@ pub(crate) fn need_of_all(s: Sheet) -> Needed
 
 // The lines of all files. No group breaks a rule.
 pub(crate) fn put_files(s: Sheet, out: &mut [u8], at: usize) -> usize
-    requires { ⌜ (sheetOk s ≡ true) × ((ordered s ≡ true) × (sectionRules (sheetIn s) ≡ none)) ⌝ }
+    requires { ⌜ (sheetOk s ≡ true) × ((ordered s ≡ true) × (sectionRules kinds (sheetIn s) ≡ none)) ⌝ }
     requires { ⌜ at + filesNeed (sectionFiles (sheetIn s)) ≤ length (now out) ⌝ }
     ensures { λ r. ⌜ Wrote (flat fileLines (sectionFiles (sheetIn s))) (filesNeed (sectionFiles (sheetIn s))) (now (out .entry)) at (now (out .exit)) r ⌝ }
 {

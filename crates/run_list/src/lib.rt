@@ -14,6 +14,7 @@ ghost use mathlib.Core.Path.{_≡_};
 ghost use mathlib.Core.Option.{none};
 ghost use Prim.Native.Nat.{_≤_};
 ghost use lib.ListN.{length};
+ghost use Rattle.columns.specs.Limits.{kinds};
 ghost use Rattle.cleaning.specs.Held.{archiveHeld};
 ghost use Rattle.cleaning.specs.Lines.{listingText};
 ghost use Rattle.cleaning.specs.Sections.{sectionRules};
@@ -26,8 +27,8 @@ ghost use Rattle.run_list.specs.Listed.{Ready, Lists};
 // The text, which has room. No group breaks a rule.
 fn put_listing(h: Held, s: Sheet, out: &mut [u8]) -> usize
     requires { ⌜ Ready h s ⌝ }
-    requires { ⌜ (sectionRules (sheetIn s) ≡ none) × (listingNeed (archiveHeld (heldIn h)) (sectionFiles (sheetIn s)) ≤ length (now out)) ⌝ }
-    ensures { λ r. ⌜ Wrote (listingText (archiveHeld (heldIn h)) (sectionFiles (sheetIn s))) (listingNeed (archiveHeld (heldIn h)) (sectionFiles (sheetIn s))) (now (out .entry)) 0 (now (out .exit)) r ⌝ }
+    requires { ⌜ (sectionRules kinds (sheetIn s) ≡ none) × (listingNeed (archiveHeld kinds (heldIn h)) (sectionFiles (sheetIn s)) ≤ length (now out)) ⌝ }
+    ensures { λ r. ⌜ Wrote (listingText (archiveHeld kinds (heldIn h)) (sectionFiles (sheetIn s))) (listingNeed (archiveHeld kinds (heldIn h)) (sectionFiles (sheetIn s))) (now (out .entry)) 0 (now (out .exit)) r ⌝ }
 {
     held_long(h);
     let p = maps::put_held(out, h);

@@ -43,9 +43,9 @@ linksAt s links = map (λ l. l .link) (several 5 linkIn (many (s .links)) (drop 
 -- its sets: all parents; the children below its end; those from it on
 unfoldable pub setsAt : Counts → Section → List ℕ → List ℕ → List ℕ → List ℕ → Built
 setsAt z s offsets targets starts kids = record {
-  forward = setOf (z .start + s .rows .from) (rowsWithin 0 (z .start + z .rows) (s .rows .from) (many (s .rows)) offsets targets);
-  reverse = setOf (z .start + s .rows .from) (rowsWithin 0 (z .start + s .rows .to) (s .rows .from) (many (s .rows)) starts kids);
-  inbound = setOf (z .start + s .rows .from) (rowsWithin (z .start + s .rows .to) (z .start + z .rows) (s .rows .from) (many (s .rows)) starts kids);
+  forward = setOf kinds (z .start + s .rows .from) (rowsWithin kinds 0 (z .start + z .rows) (s .rows .from) (many (s .rows)) offsets targets);
+  reverse = setOf kinds (z .start + s .rows .from) (rowsWithin kinds 0 (z .start + s .rows .to) (s .rows .from) (many (s .rows)) starts kids);
+  inbound = setOf kinds (z .start + s .rows .from) (rowsWithin kinds (z .start + s .rows .to) (z .start + z .rows) (s .rows .from) (many (s .rows)) starts kids);
 }
 
 unfoldable pub fileAt : Counts → List ℕ → Groups → ℕ → Section → List ℕ → List ℕ → List ℕ → Built → Option CoverColumns → File

@@ -15,7 +15,8 @@ use Rattle.lists.proofs.Tests.{both}
 use Rattle.lists.proofs.Each.{each-imp}
 use Rattle.lists.proofs.Pairs.{each-upFrom}
 use Rattle.lists.proofs.Flat.{flat-ext, length-map-upFrom, getD-map-upFrom, flat-map}
-use Rattle.columns.specs.Limits.{maxRecords, maxGroups, maxSubject, end64}
+use Rattle.columns.specs.Limits.{kinds, maxRecords, maxGroups, maxSubject, end64}
+use Rattle.columns.proofs.Served.{kinds-served}
 use Rattle.columns.specs.Reading.{Label}
 use Rattle.columns_rules.specs.records.Recorded.{labelsGiven}
 use Rattle.archive.specs.File.{Unresolved}
@@ -58,7 +59,7 @@ numbers-end s k =
     (both (leb (s .groups .count) maxGroups) _ (both (leb (s .subject .length) maxSubject) _ (both (countsOk s) _ k .0) .1) .1) .1) .1) .1) .1)
 
 module _ (s : Sheet) (l : LongSheet s) (k : sheetOk s ≡ true) (o : ordered s ≡ true) (g : ℕ) where
-  tidy : Tidy (sheetIn s)
+  tidy : Tidy kinds (sheetIn s)
   tidy = tidy-sheet s l k o
 
   few : s .rows .count ≤ 1024
@@ -78,17 +79,17 @@ module _ (s : Sheet) (l : LongSheet s) (k : sheetOk s ≡ true) (o : ordered s �
 
   module _ (a n : ℕ) (ea : a ≡ sectionStart (sheetIn s) g) (en : n ≡ sectionRows (sheetIn s) g) where
     next : a + n ≡ sectionStart (sheetIn s) (suc g)
-    next = omega (arith, section-end (sheetIn s) tidy g)
+    next = omega (arith, section-end kinds kinds-served (sheetIn s) tidy g)
 
     inside : a + n ≤ s .rows .count
-    inside = omega (arith, next, section-within (sheetIn s) tidy g, row-count)
+    inside = omega (arith, next, section-within kinds kinds-served (sheetIn s) tidy g, row-count)
 
     module _ (c : hasCover (s .groups) g ≡ true) where
       label-there : (i : ℕ) → a ≤ i → i < a + n → labelList (getD ((sheetIn s) .labels) i none) ≡ labelOf (s .rows) i ∷ []
       unfolding sheetIn labelAt
       label-there i h m =
           let e : getD (s .rows .groups) i 0 ≡ g
-          = sym (getD-take (s .rows .count) (s .rows .groups) i 0 (omega (arith, inside))) ∙ group-row (sheetIn s) tidy g i (omega arith) (omega (arith, next)) in
+          = sym (getD-take (s .rows .count) (s .rows .groups) i 0 (omega (arith, inside))) ∙ group-row kinds kinds-served (sheetIn s) tidy g i (omega arith) (omega (arith, next)) in
           let d : getD ((sheetIn s) .labels) i none ≡ labelAt (s .groups) (s .rows) i
           = getD-map-upFrom (labelAt (s .groups) (s .rows)) 0 (s .rows .count) i none (omega (arith, inside)) ∙ ap (labelAt (s .groups) (s .rows)) (zero-add i) in
           rw (d, e, c)
@@ -116,7 +117,7 @@ module _ (s : Sheet) (l : LongSheet s) (k : sheetOk s ≡ true) (o : ordered s �
     })
 
     edges-given : flat (edgesOfRow (s .start + a) (s .start + a + n) (s .start) (slotsIn (s .rows .count) (s .edges))) (upFrom 0 a ++ upFrom (a + n) (s .rows .count - (a + n)))
-        ≡ sectionEdges (sheetIn s) g
+        ≡ sectionEdges kinds (sheetIn s) g
     unfolding sheetIn edgesOfRow rowEdges parentsAt otherRows
     edges-given =
         let e : s .start + a + n ≡ s .start + sectionStart (sheetIn s) (suc g) = omega (arith, next) in
@@ -138,7 +139,7 @@ module _ (s : Sheet) (l : LongSheet s) (k : sheetOk s ≡ true) (o : ordered s �
             form = in-form (s .rows .count) (s .edges) (edges-form s l k);
           }
 
-      graph-section : groupGraph s (sectionUnresolved (sheetIn s) g) g a n ≡ sectionGraph (sheetIn s) g
+      graph-section : groupGraph s (sectionUnresolved (sheetIn s) g) g a n ≡ sectionGraph kinds (sheetIn s) g
       unfolding groupGraph columnsGraph partGraph sectionGraph sheetIn factsAt
       graph-section =
           let f = facts h in
@@ -159,5 +160,5 @@ module _ (s : Sheet) (l : LongSheet s) (k : sheetOk s ≡ true) (o : ordered s �
           }
 
       pub section-built : (us : List Unresolved) → us ≡ sectionUnresolved (sheetIn s) g → (r : GroupSets)
-          → SetsBy (judged (groupGraph s us g a n)) n r → SetsBy (judged (sectionGraph (sheetIn s) g)) n r
+          → SetsBy (judged (groupGraph s us g a n)) n r → SetsBy (judged (sectionGraph kinds (sheetIn s) g)) n r
       section-built us e r q = rw (e, graph-section) at q

@@ -2,6 +2,7 @@
 use mathlib.Core.Path.{_≡_, refl}
 use mathlib.Core.Option.{Option, none, some}
 use Prim.Native.Nat.{ℕ}
+use Rattle.columns.specs.Limits.{kinds}
 use Rattle.columns.specs.Refusal.{unless}
 use Rattle.columns.specs.Building.{Graph, buildRules, builtOf}
 use Rattle.columns.specs.Answers.{ruling}
@@ -13,21 +14,21 @@ use Rattle.run_sets.specs.section.Parted.{judged}
 use Rattle.run_sets.specs.ByVerdict.{Holds, SetsBy}
 
 module _ (g : Graph) (n : ℕ) (q : GroupSets) (m : SetsBy (judged g) n q) where
-  by-rules : (r : Option Refusal) → buildRules g ≡ r → SetsBy (unless r (builtOf g)) n q
+  by-rules : (r : Option Refusal) → buildRules kinds g ≡ r → SetsBy (unless r (builtOf kinds g)) n q
   unfolding judged
   by-rules r e = rw (← e) m
 
-  pub rules-are : q .ruling ≡ ruling (buildRules g)
+  pub rules-are : q .ruling ≡ ruling (buildRules kinds g)
   unfolding unless SetsBy
-  rules-are = go (buildRules g) refl
+  rules-are = go (buildRules kinds g) refl
     where
-      go : (r : Option Refusal) → buildRules g ≡ r → q .ruling ≡ ruling r
+      go : (r : Option Refusal) → buildRules kinds g ≡ r → q .ruling ≡ ruling r
       go none e = by-rules none e .ruling
       go (some x) e = by-rules (some x) e
 
-  pub held-sets : buildRules g ≡ none → Holds n (builtOf g) q
+  pub held-sets : buildRules kinds g ≡ none → Holds n (builtOf kinds g) q
   unfolding unless SetsBy
   held-sets e = by-rules none e
 
-  pub kept-sets : q .ruling ≡ Kept → Holds n (builtOf g) q
-  kept-sets k = held-sets (told-kept (buildRules g) rules-are k)
+  pub kept-sets : q .ruling ≡ Kept → Holds n (builtOf kinds g) q
+  kept-sets k = held-sets (told-kept (buildRules kinds g) rules-are k)

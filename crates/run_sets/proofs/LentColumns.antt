@@ -9,6 +9,7 @@ use lib.IntN.{ℤ}
 use lib.ListN.{length, getD, set, take, drop, replicate, length-replicate, replicate-append-replicate, length-take, length-drop}
 use lib.Seq.{take-at, take-suc, take-suc-set, length-take-le}
 use borrow.Author.Tests.{eq-eqb, ne-eqb}
+use Rattle.columns.specs.Limits.{kinds, kinds as runKinds}
 use Rattle.lists.specs.Lists.{part, upFrom}
 use Rattle.lists.proofs.Each.{each-all}
 use Rattle.lists.proofs.Flat.{map-ext, length-map-upFrom}
@@ -116,7 +117,7 @@ module _ (groups : Groups) (g : ℕ) where
 -- what is lent of columns, each up to its count
 pub rows-lent : (bytes : List ℕ) (size start total : ℕ) (offsets targets : List ℕ) (count : ℕ) (children kinds flags : List ℕ) (p m : ℕ) (depth : given.Depth) (labelled : Bool) (chains seqs : List ℕ) (a n : ℕ)
     (r : Encoded) (fo : List ℕ) (fd : List ℤ) (ro : List ℕ) (rd : List ℤ) (io : List ℕ) (id : List ℤ) (fo′ : List ℕ) (fd′ : List ℤ) (ro′ : List ℕ) (rd′ : List ℤ) (io′ : List ℕ) (id′ : List ℤ)
-    → a + n ≤ total → total ≤ 1024 → count ≤ 4096 → offsetsForm total count (take (2 * total + 1) offsets) ≡ true → length targets ≡ 4096 → LongSlices fo fd ro rd io id
+    → a + n ≤ total → total ≤ 1024 → count ≤ 4096 → offsetsForm runKinds total count (take (2 * total + 1) offsets) ≡ true → length targets ≡ 4096 → LongSlices fo fd ro rd io id
     → Answers (judged (partGraph (take size bytes) start total (cut (take (2 * total + 1) offsets) (take count targets))
     (record { children = take (p + m - p) (drop p children); kindsGiven = take (p + m - p) (drop p kinds); flags = take m flags }) (depthOf depth)
     (labelsGiven labelled (take (a + n - a) (drop a chains)) (take (a + n - a) (drop a seqs))) a n)) r fo fd ro rd io id fo′ fd′ ro′ rd′ io′ id′
@@ -134,7 +135,7 @@ rows-lent bytes size start total offsets targets count children kinds flags p m 
 -- what is lent of a sheet
 module _ (s : Sheet) {bytes : List ℕ} {size start total : ℕ} {offsets targets : List ℕ} {count : ℕ} {chains seqs : List ℕ} {groups : Groups}
     (w : Lends s bytes size start total offsets targets count chains seqs groups) where
-  pub lent-form : offsetsForm (s .rows .count) (s .edges .count) (take (2 * s .rows .count + 1) (s .edges .offsets)) ≡ true → offsetsForm total count (take (2 * total + 1) offsets) ≡ true
+  pub lent-form : offsetsForm kinds (s .rows .count) (s .edges .count) (take (2 * s .rows .count + 1) (s .edges .offsets)) ≡ true → offsetsForm kinds total count (take (2 * total + 1) offsets) ≡ true
   lent-form e = rw (w .total-is, w .count-is, w .offsets-are) e
 
   -- rows before row a name none of the n rows from there on

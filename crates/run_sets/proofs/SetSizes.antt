@@ -9,6 +9,7 @@ use native.Mathlib.Omega.{arith}
 use lib.IntN.{ℤ}
 use lib.ListN.{length, take, drop, length-append, length-map, take-append-drop}
 use lib.Seq.{sets, sets-eq, take-at, drop-drop}
+use Rattle.columns.specs.Limits.{kinds}
 use Rattle.lists.specs.Lists.{flat, filter, joined, starts, part, upFrom}
 use Rattle.lists.proofs.Tests.{tested}
 use Rattle.lists.proofs.Flat.{flat-append, joined-append, length-starts}
@@ -113,22 +114,22 @@ record AllSized (n : ℕ) (b : Built) : Type 0 where
   pub reverse : Sized n (b .reverse)
   pub inbound : Sized n (b .inbound)
 
-set-sized : (first n : ℕ) (lists : List (List ℕ)) → length lists ≡ 2 * n → length (joined lists) ≤ 4096 → Sized n (setOf first (part (2 * 0) (2 * n) lists))
+set-sized : (first n : ℕ) (lists : List (List ℕ)) → length lists ≡ 2 * n → length (joined lists) ≤ 4096 → Sized n (setOf kinds first (part (2 * 0) (2 * n) lists))
 unfolding setOf
 set-sized first n lists e h =
     let l = part (2 * 0) (2 * n) lists in
     record {
       offsets = omega (arith, length-starts 0 l, part-full 0 n n lists e (omega arith));
-      deltas = set-count first l;
+      deltas = set-count kinds first l;
       few = omega (arith, part-fewer (2 * 0) (2 * n) lists);
     }
 
 module _ (subject : List ℕ) (start total : ℕ) (offsets targets : List ℕ) (records : UnresolvedColumns) (depth : Option Depth) (labels : Option Labels) (a n : ℕ)
-    (h : a + n ≤ total) (small : length targets ≤ 4096) (ok : offsetsForm total (length targets) offsets ≡ true) where
+    (h : a + n ≤ total) (small : length targets ≤ 4096) (ok : offsetsForm kinds total (length targets) offsets ≡ true) where
   all-few : length (joined (cut offsets targets)) ≤ 4096
-  all-few = omega (arith, cut-fewer (length targets) offsets targets (form-climbs total (length targets) offsets ok))
+  all-few = omega (arith, cut-fewer (length targets) offsets targets (form-climbs kinds total (length targets) offsets ok))
 
-  graph-sized : AllSized n (builtOf (partGraph subject start total (cut offsets targets) records depth labels a n))
+  graph-sized : AllSized n (builtOf kinds (partGraph subject start total (cut offsets targets) records depth labels a n))
   unfolding builtOf forwardPart reversePart inboundPart partGraph inboundColumns
   graph-sized =
       let l = part (2 * a) (2 * n) (cut offsets targets) in
@@ -137,9 +138,9 @@ module _ (subject : List ℕ) (start total : ℕ) (offsets targets : List ℕ) (
       let es = flat (edgesOfRow (start + a) (start + a + n) start (cut offsets targets)) (upFrom 0 a ++ upFrom (a + n) (total - (a + n))) in
       record {
         forward = set-sized (start + a + 0) n (cut (starts 0 l) (joined l)) (rw (cut-joined l) full) (rw (cut-joined l) (omega (arith, all-few)));
-        reverse = set-sized (start + a + 0) n (reverseLists (start + a) n (cut (starts 0 l) (joined l))) (length-turned (start + a) n (cut (starts 0 l) (joined l)))
+        reverse = set-sized (start + a + 0) n (reverseLists kinds (start + a) n (cut (starts 0 l) (joined l))) (length-turned (start + a) n (cut (starts 0 l) (joined l)))
             (rw (cut-joined l) (omega (arith, all-few, reverse-fewer (start + a) n l)));
-        inbound = set-sized (start + a + 0) n (inboundLists (start + a) n (inboundColumns es)) (length-arrived (start + a) n (inboundColumns es))
+        inbound = set-sized (start + a + 0) n (inboundLists kinds (start + a) n (inboundColumns es)) (length-arrived (start + a) n (inboundColumns es))
             (omega (
               arith,
               all-few,
@@ -185,13 +186,13 @@ module _ (r : Encoded) {fo : List ℕ} {fd : List ℤ} {ro : List ℕ} {rd : Lis
   told b n w l (some x) q = rw (q .answer)
 
   pub sets-lent : (subject : List ℕ) (start total : ℕ) (offsets targets : List ℕ) (records : UnresolvedColumns) (depth : Option Depth) (labels : Option Labels) (a n : ℕ)
-      → a + n ≤ total → total ≤ 1024 → length targets ≤ 4096 → offsetsForm total (length targets) offsets ≡ true
+      → a + n ≤ total → total ≤ 1024 → length targets ≤ 4096 → offsetsForm kinds total (length targets) offsets ≡ true
       → Answers (judged (partGraph subject start total (cut offsets targets) records depth labels a n)) r fo fd ro rd io id fo′ fd′ ro′ rd′ io′ id′
       → SetsBy (judged (partGraph subject start total (cut offsets targets) records depth labels a n)) n (lentSets r fo′ fd′ ro′ rd′ io′ id′)
   unfolding judged
   sets-lent subject start total offsets targets records depth labels a n h few small ok q =
       let g = partGraph subject start total (cut offsets targets) records depth labels a n in
-      told (builtOf g) n (graph-sized subject start total offsets targets records depth labels a n h small ok) (omega arith) (buildRules g) q
+      told (builtOf kinds g) n (graph-sized subject start total offsets targets records depth labels a n h small ok) (omega arith) (buildRules kinds g) q
 
 -- ── sets by value ────────────────────────────────────────────────────────────────────────────
 

@@ -7,7 +7,7 @@ use Prim.Native.Nat.{ℕ, _+_, _*_, _≤_, _<_}
 use lib.IntN.{ℤ}
 use lib.ListN.{length, take}
 use Rattle.lists.specs.Lists.{part}
-use Rattle.columns.specs.Limits.{maxRecords, maxNumbers, maxGroups, maxSubject, offsetsRoom, end64}
+use Rattle.columns.specs.Limits.{kinds, maxRecords, maxNumbers, maxGroups, maxSubject, offsetsRoom, end64}
 use Rattle.columns.specs.EdgeSet.{offsetsForm}
 use Rattle.columns.specs.Building.{Depth, UnresolvedColumns, Graph}
 use Rattle.columns_rules.specs.records.Recorded.{labelsGiven}
@@ -56,18 +56,18 @@ pub record Lends (s : Sheet) (bytes : List ℕ) (size start total : ℕ) (offset
 -- how long the columns are
 pub record LongColumns (bytes offsets targets chains seqs : List ℕ) : Type 0 where
   pub bytes-long : length bytes ≡ maxSubject
-  pub offsets-long : length offsets ≡ offsetsRoom
+  pub offsets-long : length offsets ≡ offsetsRoom kinds
   pub targets-long : length targets ≡ maxNumbers
   pub chains-long : length chains ≡ maxRecords
   pub seqs-long : length seqs ≡ maxRecords
 
 -- and the six slices that are lent for the sets
 pub record LongSlices (fo : List ℕ) (fd : List ℤ) (ro : List ℕ) (rd : List ℤ) (io : List ℕ) (id : List ℤ) : Type 0 where
-  pub forward-offsets : length fo ≡ offsetsRoom
+  pub forward-offsets : length fo ≡ offsetsRoom kinds
   pub forward-deltas : length fd ≡ maxNumbers
-  pub reverse-offsets : length ro ≡ offsetsRoom
+  pub reverse-offsets : length ro ≡ offsetsRoom kinds
   pub reverse-deltas : length rd ≡ maxNumbers
-  pub inbound-offsets : length io ≡ offsetsRoom
+  pub inbound-offsets : length io ≡ offsetsRoom kinds
   pub inbound-deltas : length id ≡ maxNumbers
 
 -- a group and rows that are there, within the limits
@@ -78,4 +78,4 @@ pub record Bounded (s : Sheet) (g a n : ℕ) : Type 0 where
   pub rows : s .rows .count ≤ maxRecords
   pub last : s .start + s .rows .count < end64
   pub few : s .edges .count ≤ maxNumbers
-  pub form : offsetsForm (s .rows .count) (s .edges .count) (take (2 * s .rows .count + 1) (s .edges .offsets)) ≡ true
+  pub form : offsetsForm kinds (s .rows .count) (s .edges .count) (take (2 * s .rows .count + 1) (s .edges .offsets)) ≡ true

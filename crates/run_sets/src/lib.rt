@@ -18,7 +18,7 @@ ghost use mathlib.Core.Bool.{true};
 ghost use mathlib.Core.List.{[]};
 ghost use Prim.Native.Nat.{_+_, _*_, _≤_, _<_};
 ghost use lib.ListN.{length, take};
-ghost use Rattle.columns.specs.Limits.{end64};
+ghost use Rattle.columns.specs.Limits.{kinds as runKinds, end64};
 ghost use Rattle.columns.specs.EdgeSet.{offsetsForm, cut};
 ghost use Rattle.columns_rules.specs.records.Recorded.{depthOf};
 ghost use Rattle.cleaning.specs.Writing.{unresolvedColumns};
@@ -121,7 +121,7 @@ fn build_rows(
     w: &mut [u64; 4096],
 ) -> Encoded
     requires { ⌜ (size ≤ 255) × ((a + n ≤ total) × ((total ≤ 1024) × (start + total < end64))) ⌝ }
-    requires { ⌜ (count ≤ 4096) × ((offsetsForm total count (take (2 * total + 1) (now offsets)) ≡ true) × (edgesBefore start (cut (take (2 * total + 1) (now offsets)) (take count (now targets))) a n ≡ [])) ⌝ }
+    requires { ⌜ (count ≤ 4096) × ((offsetsForm runKinds total count (take (2 * total + 1) (now offsets)) ≡ true) × (edgesBefore start (cut (take (2 * total + 1) (now offsets)) (take count (now targets))) a n ≡ [])) ⌝ }
     requires { ⌜ RecordsThere (now children) (now kinds) (now flags) p m ⌝ }
     requires { ⌜ LongColumns (now bytes) (now offsets) (now targets) (now chains) (now seqs) ⌝ }
     requires { ⌜ LongSlices (now fo) (now fd) (now ro) (now rd) (now io) (now id) ⌝ }
@@ -202,7 +202,7 @@ pub fn lent_sets<'a>(
     requires { ⌜ (RecordsThere (now children) (now kinds) (now flags) p m) × (recordColumns (now children) (now kinds) (now flags) p m ≡ unresolvedColumns (sectionUnresolved (sheetIn s) g)) ⌝ }
     requires { ⌜ Lends s (now bytes) size start total (now offsets) (now targets) count (now chains) (now seqs) groups ⌝ }
     requires { ⌜ LongSlices (now fo) (now fd) (now ro) (now rd) (now io) (now id) ⌝ }
-    ensures { λ r. ⌜ SetsBy (judged (sectionGraph (sheetIn s) g)) n (lentSets r (now (fo .exit)) (now (fd .exit)) (now (ro .exit)) (now (rd .exit)) (now (io .exit)) (now (id .exit))) ⌝ }
+    ensures { λ r. ⌜ SetsBy (judged (sectionGraph runKinds (sheetIn s) g)) n (lentSets r (now (fo .exit)) (now (fd .exit)) (now (ro .exit)) (now (rd .exit)) (now (io .exit)) (now (id .exit))) ⌝ }
 {
     let depth = depth_at(groups, g);
     let labelled = is_covered(groups, g);
@@ -246,7 +246,7 @@ pub fn group_sets(s: Sheet, u: Unresolved, g: usize, a: usize, n: usize) -> Grou
     requires { ⌜ (sheetOk s ≡ true) × ((ordered s ≡ true) × (g < s .groups .count)) ⌝ }
     requires { ⌜ (a ≡ sectionStart (sheetIn s) g) × (n ≡ sectionRows (sheetIn s) g) ⌝ }
     requires { ⌜ (u .count ≤ 1024) × (listed (unresolvedAt u) (u .count) ≡ sectionUnresolved (sheetIn s) g) ⌝ }
-    ensures { λ r. ⌜ SetsBy (judged (sectionGraph (sheetIn s) g)) n r ⌝ }
+    ensures { λ r. ⌜ SetsBy (judged (sectionGraph runKinds (sheetIn s) g)) n r ⌝ }
 {
     sheet_long(s);
     unresolved_long(u);

@@ -11,7 +11,7 @@ ghost use mathlib.Core.List.{[]};
 ghost use Prim.Native.Nat.{_+_, _-_, _*_, _≤_, _<_};
 ghost use lib.ListN.{length, take, drop};
 ghost use Rattle.lists.specs.Lists.{starts, part};
-ghost use Rattle.columns.specs.Limits.{end64};
+ghost use Rattle.columns.specs.Limits.{kinds as runKinds, end64};
 ghost use Rattle.columns.specs.EdgeSet.{offsetsForm, cut};
 ghost use Rattle.columns_rules.specs.records.Recorded.{depthOf, labelsGiven};
 ghost use Rattle.columns_encode.specs.Encoded.{Rooms};
@@ -117,7 +117,7 @@ fn build_given(
     w: &mut [u64; 4096],
 ) -> Encoded
     requires { ⌜ (a + n ≤ total) × ((total ≤ 1024) × (start + total < end64)) ⌝ }
-    requires { ⌜ (length (now targets) ≤ 4096) × ((offsetsForm total (length (now targets)) (now offsets) ≡ true) × (edgesBefore start (cut (now offsets) (now targets)) a n ≡ [])) ⌝ }
+    requires { ⌜ (length (now targets) ≤ 4096) × ((offsetsForm runKinds total (length (now targets)) (now offsets) ≡ true) × (edgesBefore start (cut (now offsets) (now targets)) a n ≡ [])) ⌝ }
     requires { ⌜ Few (length (now children)) (length (now kinds)) (length (now flags)) (length (now chains)) (length (now seqs)) ⌝ }
     requires { ⌜ Rooms (length (now fo)) (length (now fd)) (length (now ro)) (length (now rd)) (length (now io)) (length (now id)) ⌝ }
     requires { ⌜ (2 * n + 1 ≤ length (now base)) × (take (2 * n + 1) (now base) ≡ starts 0 (part (2 * a) (2 * n) (cut (now offsets) (now targets)))) ⌝ }
@@ -191,7 +191,7 @@ pub fn build_part(
     w: &mut [u64; 4096],
 ) -> Encoded
     requires { ⌜ (a + n ≤ total) × ((total ≤ 1024) × (start + total < end64)) ⌝ }
-    requires { ⌜ (length (now targets) ≤ 4096) × ((offsetsForm total (length (now targets)) (now offsets) ≡ true) × (edgesBefore start (cut (now offsets) (now targets)) a n ≡ [])) ⌝ }
+    requires { ⌜ (length (now targets) ≤ 4096) × ((offsetsForm runKinds total (length (now targets)) (now offsets) ≡ true) × (edgesBefore start (cut (now offsets) (now targets)) a n ≡ [])) ⌝ }
     requires { ⌜ Few (length (now children)) (length (now kinds)) (length (now flags)) (length (now chains)) (length (now seqs)) ⌝ }
     requires { ⌜ Rooms (length (now fo)) (length (now fd)) (length (now ro)) (length (now rd)) (length (now io)) (length (now id)) ⌝ }
     ensures { λ r. ⌜ Answers (judged (partGraph (now (subject .entry)) start total (cut (now (offsets .entry)) (now (targets .entry))) (record { children = now (children .entry); kindsGiven = now (kinds .entry); flags = now (flags .entry) }) (depthOf depth) (labelsGiven labelled (now (chains .entry)) (now (seqs .entry))) a n)) r (now (fo .entry)) (now (fd .entry)) (now (ro .entry)) (now (rd .entry)) (now (io .entry)) (now (id .entry)) (now (fo .exit)) (now (fd .exit)) (now (ro .exit)) (now (rd .exit)) (now (io .exit)) (now (id .exit)) ⌝ }

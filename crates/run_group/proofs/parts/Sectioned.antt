@@ -5,6 +5,8 @@ use Prim.Native.Nat.{ℕ, suc, _+_, _≤_}
 use native.Mathlib.Numerals.{add-one}
 use native.Mathlib.Omega.{arith}
 use lib.ListN.{take}
+use Rattle.columns.specs.Limits.{kinds}
+use Rattle.columns.proofs.Served.{kinds-served}
 use Rattle.cleaning.specs.Sections.{Tidy, place, between, sectionStart, sectionRows, sectionFirst, sectionEnd, sectionUnresolved}
 use Rattle.cleaning.proofs.Places.{place-rises}
 use Rattle.cleaning.proofs.SheetRows.{section-end, section-within}
@@ -40,5 +42,5 @@ module _ (s : Sheet) (g : ℕ) where
     pub section-ends : sectionStart (sheetIn s) g + sectionRows (sheetIn s) g ≤ s .rows .count
     unfolding sheetIn
     section-ends =
-        let t : Tidy (sheetIn s) = tidy-sheet s l k o in
-        omega (arith, section-end (sheetIn s) t g, section-within (sheetIn s) t g, tags-length s l k)
+        let t : Tidy kinds (sheetIn s) = tidy-sheet s l k o in
+        omega (arith, section-end kinds kinds-served (sheetIn s) t g, section-within kinds kinds-served (sheetIn s) t g, tags-length s l k)

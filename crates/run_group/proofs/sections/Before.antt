@@ -6,6 +6,8 @@ use Prim.Native.Nat.{ℕ, suc, _+_, _<_}
 use native.Mathlib.Omega.{arith}
 use lib.ListN.{getD}
 use borrow.Author.Tests.{lt-leb}
+use Rattle.columns.specs.Limits.{kinds}
+use Rattle.columns.proofs.Served.{kinds-served}
 use Rattle.lists.specs.Lists.{Each, flat, filter, upFrom}
 use Rattle.lists.proofs.Each.{each-imp}
 use Rattle.lists.proofs.Filters.{filter-none, each-below}
@@ -33,9 +35,9 @@ flat-none f [] h = refl
 flat-none f (x ∷ xs) h = rw (h .0, flat-none f xs (h .1))
 
 -- the rows before row a give no edge into the rows from row a on
-pub none-before : (start : ℕ) (lists : List (List ℕ)) (a n : ℕ) → EachFrom (SlotBelow start) 0 lists → edgesBefore start lists a n ≡ []
+pub none-before : (start : ℕ) (lists : List (List ℕ)) (a n : ℕ) → EachFrom (SlotBelow kinds start) 0 lists → edgesBefore start lists a n ≡ []
 unfolding edgesOfRow
 none-before start lists a n h =
     flat-none (edgesOfRow (start + a) (start + a + n) start lists) (upFrom 0 a)
     (each-below (λ i. edgesOfRow (start + a) (start + a + n) start lists i ≡ []) a
-    (λ i l. into-none (start + a) (start + a + n) (start + i) 0 (start + i) _ (omega arith) (λ j. part-below start i j lists h)))
+    (λ i l. into-none (start + a) (start + a + n) (start + i) 0 (start + i) _ (omega arith) (λ j. part-below kinds kinds-served start i j lists h)))

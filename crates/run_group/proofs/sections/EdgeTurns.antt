@@ -7,6 +7,7 @@ use native.Mathlib.Numerals.{add-one}
 use native.Mathlib.Omega.{arith}
 use lib.ListN.{length, getD, set, length-append, length-map}
 use lib.Seq.{slice, slice-cons, drop-cons}
+use Rattle.columns.specs.Limits.{kinds}
 use Rattle.lists.specs.Lists.{filter, flat, upFrom, part}
 use Rattle.lists.proofs.Flat.{flat-append}
 use Rattle.lists.proofs.Slices.{sets-append, slice-none}
@@ -77,7 +78,7 @@ two-of l k h =
     let y = drop-cons l (suc k) [] (omega arith) in
     rw (z, y, add-one)
 
-module _ (total : ℕ) (offsets targets : List ℕ) (ok : offsetsForm total (length targets) offsets ≡ true) where
+module _ (total : ℕ) (offsets targets : List ℕ) (ok : offsetsForm kinds total (length targets) offsets ≡ true) where
   table : Table (2 * total) (length targets) offsets
   table = table-of total (length targets) offsets ok
 

@@ -8,6 +8,7 @@ use native.Mathlib.Numerals.{add-one}
 use native.Mathlib.Omega.{arith}
 use lib.ListN.{length, getD, set, drop, drop-of-length-le, length-take, length-drop, length-set}
 use lib.Seq.{sets, drop-cons, getD-take, getD-drop}
+use Rattle.columns.specs.Limits.{kinds}
 use Rattle.lists.specs.Lists.{part}
 use Rattle.columns.specs.EdgeSet.{offsetsForm}
 use Rattle.columns_rules.proofs.SlotTables.{Table, table-of}
@@ -17,7 +18,7 @@ abbrev pub less : ℕ → ℕ → ℕ → List ℕ → List ℕ
 less base from n offsets = map (λ o. o - base) (part from (suc n) offsets)
 
 pub record Moving (rows count from n : ℕ) (offsets : List ℕ) (base k : ℕ) (out out₀ : List ℕ) : Type 0 where
-  pub form : offsetsForm rows count offsets ≡ true
+  pub form : offsetsForm kinds rows count offsets ≡ true
   pub inside : from + n ≤ 2 * rows
   pub first : base ≡ getD offsets from 0
   pub under : k ≤ n + 1
@@ -26,7 +27,7 @@ pub record Moving (rows count from n : ℕ) (offsets : List ℕ) (base k : ℕ) 
   pub ends : sets out₀ 0 (less base from n offsets) ≡ sets out k (map (λ o. o - base) (drop k (part from (suc n) offsets)))
 
 module _ (rows count from n : ℕ) (offsets : List ℕ) where
-  pub base-in : offsetsForm rows count offsets ≡ true → from + n ≤ 2 * rows → from < length offsets
+  pub base-in : offsetsForm kinds rows count offsets ≡ true → from + n ≤ 2 * rows → from < length offsets
   base-in ok i = omega (arith, table-of rows count offsets ok .long)
 
   climbs : Table (2 * rows) count offsets → (d : ℕ) → from + d ≤ 2 * rows → getD offsets from 0 ≤ getD offsets (from + d) 0
@@ -38,7 +39,7 @@ module _ (rows count from n : ℕ) (offsets : List ℕ) where
       rw y (omega arith)
 
   module _ (base : ℕ) where
-    pub moving-begins : (out : List ℕ) → offsetsForm rows count offsets ≡ true → from + n ≤ 2 * rows → base ≡ getD offsets from 0 → n < length out
+    pub moving-begins : (out : List ℕ) → offsetsForm kinds rows count offsets ≡ true → from + n ≤ 2 * rows → base ≡ getD offsets from 0 → n < length out
         → Moving rows count from n offsets base 0 out out
     moving-begins out ok i e r = record { form = ok; inside = i; first = e; under = omega arith; room = r; same = refl; ends = refl }
 

@@ -8,7 +8,7 @@ ghost use Prim.Native.Nat.{_+_, _-_, _*_, _≤_, _<_};
 ghost use lib.ListN.{length, getD};
 ghost use lib.Seq.{slice};
 ghost use Rattle.lists.specs.Lists.{flat, upFrom};
-ghost use Rattle.columns.specs.Limits.{end64};
+ghost use Rattle.columns.specs.Limits.{kinds, end64};
 ghost use Rattle.columns.specs.EdgeSet.{offsetsForm, cut};
 ghost use Rattle.run_group.specs.sections.Laid.{slotEdges, edgesOfRow, edgesBefore, Laid};
 
@@ -63,7 +63,7 @@ fn row_edges(
 ) -> usize
     requires { ⌜ (i < total) × ((total ≤ 1024) × (start + total < end64)) ⌝ }
     requires { ⌜ (at ≤ getD (now offsets) (2 * i) 0) × (length (now targets) ≤ 4096) ⌝ }
-    requires { ⌜ offsetsForm total (length (now targets)) (now offsets) ≡ true ⌝ }
+    requires { ⌜ offsetsForm kinds total (length (now targets)) (now offsets) ≡ true ⌝ }
     ensures { λ r. ⌜ r ≤ getD (now (offsets .entry)) (2 * i + 2) 0 ⌝ }
     ensures { λ r. ⌜ Laid (edgesOfRow first (first + n) start (cut (now (offsets .entry)) (now (targets .entry))) i) at (now (cs .entry)) (now (ps .entry)) (now (ks .entry)) [] r (now (cs .exit)) (now (ps .exit)) (now (ks .exit)) ⌝ }
 {
@@ -92,7 +92,7 @@ fn rows_edges(
 ) -> usize
     requires { ⌜ (from ≤ to) × ((to ≤ total) × ((total ≤ 1024) × (start + total < end64))) ⌝ }
     requires { ⌜ (at ≤ getD (now offsets) (2 * from) 0) × (length (now targets) ≤ 4096) ⌝ }
-    requires { ⌜ offsetsForm total (length (now targets)) (now offsets) ≡ true ⌝ }
+    requires { ⌜ offsetsForm kinds total (length (now targets)) (now offsets) ≡ true ⌝ }
     ensures { λ r. ⌜ r ≤ getD (now (offsets .entry)) (2 * to) 0 ⌝ }
     ensures { λ r. ⌜ Laid (flat (edgesOfRow first (first + n) start (cut (now (offsets .entry)) (now (targets .entry)))) (upFrom from (to - from))) at (now (cs .entry)) (now (ps .entry)) (now (ks .entry)) [] r (now (cs .exit)) (now (ps .exit)) (now (ks .exit)) ⌝ }
 {
@@ -120,7 +120,7 @@ pub fn edges_into(
 ) -> usize
     requires { ⌜ (a + n ≤ total) × ((total ≤ 1024) × (start + total < end64)) ⌝ }
     requires { ⌜ length (now targets) ≤ 4096 ⌝ }
-    requires { ⌜ offsetsForm total (length (now targets)) (now offsets) ≡ true ⌝ }
+    requires { ⌜ offsetsForm kinds total (length (now targets)) (now offsets) ≡ true ⌝ }
     requires { ⌜ edgesBefore start (cut (now offsets) (now targets)) a n ≡ [] ⌝ }
     ensures { λ r. ⌜ r ≤ 4096 ⌝ }
     ensures { λ r. ⌜ Laid (flat (edgesOfRow (start + a) (start + a + n) start (cut (now (offsets .entry)) (now (targets .entry)))) (upFrom 0 a ++ upFrom (a + n) (total - (a + n)))) 0 (now (cs .entry)) (now (ps .entry)) (now (ks .entry)) [] r (now (cs .exit)) (now (ps .exit)) (now (ks .exit)) ⌝ }

@@ -13,7 +13,7 @@ use borrow.Author.Tests.{le-ltb}
 use Rattle.lists.specs.Lists.{flat, joined, starts, part, upFrom, any}
 use Rattle.lists.proofs.Tests.{tested}
 use Rattle.lists.proofs.Flat.{length-starts}
-use Rattle.columns.specs.Limits.{maxNumbers}
+use Rattle.columns.specs.Limits.{kinds, maxNumbers}
 use Rattle.columns.specs.Refusal.{unless, firstOf, short, limits}
 use Rattle.columns.specs.Reading.{labelLengths, idleLabels}
 use Rattle.columns.specs.Building.{greater, recordCount, buildRules, builtOf, graphLengths, graphRecords, buildBeside}
@@ -32,9 +32,9 @@ use Rattle.cleaning.proofs.Parts.{length-part}
 use Rattle.run_group.specs.sections.Laid.{edgesOfRow, Laid}
 use Rattle.run_sets.specs.section.Parted.{partGraph, Few, judged}
 
-module _ (total a n : ℕ) (offsets targets : List ℕ) (ok : offsetsForm total (length targets) offsets ≡ true) (h : a + n ≤ total) where
+module _ (total a n : ℕ) (offsets targets : List ℕ) (ok : offsetsForm kinds total (length targets) offsets ≡ true) (h : a + n ≤ total) where
   all-lists : (joined (cut offsets targets) ≡ targets) × (starts 0 (cut offsets targets) ≡ offsets)
-  all-lists = let e = form-climbs total (length targets) offsets ok in (joined-cut targets offsets e, starts-cut targets offsets e)
+  all-lists = let e = form-climbs kinds total (length targets) offsets ok in (joined-cut targets offsets e, starts-cut targets offsets e)
 
   within : 2 * a + 2 * n ≤ length (cut offsets targets)
   within = omega (arith, length-cut (2 * total) 0 offsets targets (table-of total (length targets) offsets ok .long))
@@ -120,8 +120,8 @@ module _ (subject : List ℕ) (first n : ℕ) (offs ts cs ks fs : List ℕ) (dep
         columns-few (length offs) (length ts) (length ic) (length ip) (length ik) labelled chains seqs b c d e f (w .chains-few) (w .seqs-few),
         slices-long fo fd ro rd io id g,
       )
-      (ap (λ o. unless o (builtOf (graphOf subject first n offs ts cs ks fs depth labelled chains seqs ic ip ik 0 n)))
-      (last-rule (buildRules (graphOf subject first n offs ts cs ks fs depth labelled chains seqs ic ip ik 0 n))))
+      (ap (λ o. unless o (builtOf kinds (graphOf subject first n offs ts cs ks fs depth labelled chains seqs ic ip ik 0 n)))
+      (last-rule (buildRules kinds (graphOf subject first n offs ts cs ks fs depth labelled chains seqs ic ip ik 0 n))))
 
 -- ── what is lent of some rows ────────────────────────────────────────────────────────────────
 
@@ -141,7 +141,7 @@ abbrev othersInto : ℕ → ℕ → List (List ℕ) → ℕ → ℕ → List Edg
 othersInto start total lists a n = flat (edgesOfRow (start + a) (start + a + n) start lists) (upFrom 0 a ++ upFrom (a + n) (total - (a + n)))
 
 module _ (start total : ℕ) (offsets targets : List ℕ) (a n : ℕ) (h : a + n ≤ total) (few : total ≤ 1024) (small : length targets ≤ 4096)
-    (ok : offsetsForm total (length targets) offsets ≡ true) where
+    (ok : offsetsForm kinds total (length targets) offsets ≡ true) where
   pub low-in : 2 * a < length offsets
   low-in = omega (arith, table-of total (length targets) offsets ok .long)
 
@@ -209,7 +209,7 @@ module _ (start total : ℕ) (offsets targets : List ℕ) (a n : ℕ) (h : a + n
 
 -- ── offsets in a column of their own ─────────────────────────────────────────────────────────
 
-pub offsets-given : (total a n : ℕ) (offsets targets was offs : List ℕ) → offsetsForm total (length targets) offsets ≡ true → a + n ≤ total → total ≤ 1024 → length offs ≡ 2049
+pub offsets-given : (total a n : ℕ) (offsets targets was offs : List ℕ) → offsetsForm kinds total (length targets) offsets ≡ true → a + n ≤ total → total ≤ 1024 → length offs ≡ 2049
     → offs ≡ sets was 0 (map (λ o. o - getD offsets (2 * a) 0) (part (2 * a) (suc (2 * n)) offsets))
     → take (2 * n + 1) offs ≡ starts 0 (part (2 * a) (2 * n) (cut offsets targets))
 offsets-given total a n offsets targets was offs ok h few l e =

@@ -37,4 +37,4 @@ pub record Few (children kindsGiven flags chains seqs : ℕ) : Type 0 where
 
 -- building, where its limits are kept
 unfoldable pub judged : Graph → Verdict Built
-judged g = unless (buildRules g) (builtOf g)
+judged g = unless (buildRules kinds g) (builtOf kinds g)

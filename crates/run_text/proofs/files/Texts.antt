@@ -7,7 +7,7 @@ use lib.IntN.{ℤ}
 use lib.ListN.{length, take}
 use lib.Seq.{length-take-le}
 use Rattle.lists.specs.Text.{text}
-use Rattle.columns.specs.Limits.{maxRecords, maxNumbers, offsetsRoom}
+use Rattle.columns.specs.Limits.{kinds, maxRecords, maxNumbers, offsetsRoom}
 use Rattle.cleaning.specs.Lines.{decimal, signed, line, setLines}
 use Rattle.run_state.specs.declared.output.Set.{Set}
 use Rattle.run_state.specs.declared.output.Sets.{Sets}
@@ -54,14 +54,14 @@ module _ {A : Type 0} (n : ℕ) (xs : List A) {size : ℕ} (h : length xs ≡ si
   pub deltas-count : n ≤ size → n ≡ length (take n xs)
   deltas-count g = sym (length-take-le n xs (omega arith))
 
-module _ (rows : ℕ) (xs : List ℕ) (h : length xs ≡ offsetsRoom) (g : rows ≤ maxRecords) where
+module _ (rows : ℕ) (xs : List ℕ) (h : length xs ≡ offsetsRoom kinds) (g : rows ≤ maxRecords) where
   pub offsets-there : 2 * rows + 1 ≤ length xs
   offsets-there = omega arith
 
   pub offsets-count : 2 * rows + 1 ≡ length (take (2 * rows + 1) xs)
   offsets-count = deltas-count (2 * rows + 1) xs h (omega arith)
 
-module _ (rows : ℕ) (s : Set) (h : length (s .offsets) ≡ offsetsRoom) (g : length (s .deltas) ≡ maxNumbers) (few : rows ≤ maxRecords) (counted : s .count ≤ maxNumbers) where
+module _ (rows : ℕ) (s : Set) (h : length (s .offsets) ≡ offsetsRoom kinds) (g : length (s .deltas) ≡ maxNumbers) (few : rows ≤ maxRecords) (counted : s .count ≤ maxNumbers) where
   same-size : (name : ℕ) → setSize name (length (take (2 * rows + 1) (s .offsets))) (length (take (s .count) (s .deltas))) ≡ setSize name (2 * rows + 1) (s .count)
   same-size name = rw (length-take-le (2 * rows + 1) (s .offsets) (omega arith), length-take-le (s .count) (s .deltas) (omega arith))
 

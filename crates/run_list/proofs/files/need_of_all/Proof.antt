@@ -1,6 +1,7 @@
 -- `run_list::files::need_of_all` meets its contract.
 use mathlib.Core.Path.{_≡_}
 use Prim.Native.Nat.{_+_, _-_, _*_, _≤_}
+use Rattle.columns.specs.Limits.{kinds}
 use Rattle.cleaning.specs.Sections.{sectionRules}
 use Rattle.run_state.specs.View.{sheetIn}
 use Rattle.run_records.proofs.Going.{rulesFrom}
@@ -13,7 +14,7 @@ use Rattle.run_list.proofs.files.need_of_all.Tie as tie
 
 abbrev Inv-loop : tie.InvT-loop
 Inv-loop s n bytes₀ g₀ bytes g =
-    (n ≡ s .groups .count) × (n ≤ 16) × (g ≤ n) × (bytes ≤ g * 387296) × (sectionRules (sheetIn s) ≡ rulesFrom (sheetIn s) g n)
+    (n ≡ s .groups .count) × (n ≤ 16) × (g ≤ n) × (bytes ≤ g * 387296) × (sectionRules kinds (sheetIn s) ≡ rulesFrom (sheetIn s) g n)
     × (filesNeed (sectionFiles (sheetIn s)) ≡ bytes + needFrom (sheetIn s) g n)
 
 abbrev μ-loop : tie.MeasureT-loop
