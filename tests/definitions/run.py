@@ -18,16 +18,17 @@ COMMENT = "Archives with known answers, computed by the definitions. There is no
 HEAD = """use mathlib.Core.Path.{_≡_, refl}
 use mathlib.Core.List.{List, [], _∷_}
 use Prim.Native.Nat.{ℕ}
+use Rattle.columns.specs.Limits.{kinds}
 use Rattle.cleaning.specs.Listing.{listing, cleanedBytes}
 
 input : List ℕ
 input = %s
 
-listed : listing input ≡ %s
+listed : listing kinds input ≡ %s
 unfolding listing input
 listed = refl
 
-written : cleanedBytes input ≡ %s
+written : cleanedBytes kinds input ≡ %s
 unfolding cleanedBytes input
 written = refl
 """

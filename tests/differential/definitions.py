@@ -27,6 +27,7 @@ use mathlib.Core.List.{List, [], _∷_}
 use mathlib.Core.Option.{Option, none, some}
 use Prim.Native.Nat.{ℕ}
 use lib.IntN.{ℤ, pos, negsuc}
+use Rattle.columns.specs.Limits.{kinds}
 use Rattle.columns.specs.Refusal.{Verdict, refused, accepted}
 use Rattle.columns.specs.declared.refusal.Refusal.the-variants.{%s}
 use Rattle.columns.specs.EdgeSet.{EdgeSet}
@@ -103,20 +104,20 @@ def graph(subject, first, rows, offsets, targets, children, kinds, flags, depth,
 
 def asked(name, p):
     if name == "build":
-        return f"build {graph(*p)} []"
+        return f"build kinds {graph(*p)} []"
     if name == "read":
         columns = record(forward=edge_set(*p[3:6]), reverse=edge_set(*p[6:9]), inbound=edge_set(*p[9:12]), labels=optional(p[12], labels(*p[13:15])))
-        return f"readGranule {p[0]} {p[1]} {p[2]} {columns} []"
+        return f"readGranule kinds {p[0]} {p[1]} {p[2]} {columns} []"
     if name == "parents":
-        return f"parents {p[0]} {p[1]} {p[2]} {edge_set(*p[3:6])} {p[6]} {p[7]} []"
+        return f"parents kinds {p[0]} {p[1]} {p[2]} {edge_set(*p[3:6])} {p[6]} {p[7]} []"
     if name == "children":
-        return f"children {p[0]} {p[1]} {p[2]} {edge_set(*p[3:6])} {edge_set(*p[6:9])} {p[9]} {p[10]} []"
+        return f"children kinds {p[0]} {p[1]} {p[2]} {edge_set(*p[3:6])} {edge_set(*p[6:9])} {p[9]} {p[10]} []"
     if name == "label":
         return f"label {p[0]} {p[1]} {labels(p[2], p[3])} {p[4]}"
     if name == "roots":
         return f"rootEntries {p[0]} {p[1]} {column(p[2])} []"
     if name == "walk":
-        return f"walk {p[0]} {p[1]} {p[2]} {edge_set(*p[3:6])} {p[6]} {p[7]} {p[8]} []"
+        return f"walk kinds {p[0]} {p[1]} {p[2]} {edge_set(*p[3:6])} {p[6]} {p[7]} {p[8]} []"
     if name == "cover":
         return f"buildCover {labels(p[0], p[1])} {link_columns(*p[2:6])} []"
     if name == "stored":

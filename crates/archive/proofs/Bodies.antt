@@ -11,7 +11,6 @@ use borrow.Author.Tests.{leb-true, eqb-true}
 use Rattle.lists.specs.Lists.{Each, flat}
 use Rattle.lists.specs.Order.{rising, notFalling}
 use Rattle.lists.proofs.Tests.{both}
-use Rattle.columns.specs.Limits.{kinds}
 use Rattle.archive.specs.Bytes.{bytesOf, signedOf}
 use Rattle.archive.specs.Reader.{byte, number, bytes, table, numbers, recordOf, optionally, counted}
 use Rattle.archive.specs.Parse
@@ -63,10 +62,10 @@ head-back =
 
 -- ── 2 edges ──────────────────────────────────────────────────────────────────────────────────
 
-set-back : (rows : ℕ) → Back (edgeSet rows) (Said setBytes (SetFits rows))
+set-back : (K : ℕ) → (rows : ℕ) → Back (edgeSet K rows) (Said setBytes (SetFits K rows))
 unfolding edgeSet setBytes
-set-back rows =
-    then-back (number 4) _ (number-back 4) (λ n. then-back (numbers 8 (kinds * rows + 1)) _ (numbers-back 8 (kinds * rows + 1)) (λ offsets.
+set-back K rows =
+    then-back (number 4) _ (number-back 4) (λ n. then-back (numbers 8 (K * rows + 1)) _ (numbers-back 8 (K * rows + 1)) (λ offsets.
     then-back (numbers 8 n) _ (numbers-back 8 n) (λ ds. end-back (λ l p. true) _ (λ l p t kd ko kn.
     let u = unsigned-all-back ds (kd .1) in
     record {
@@ -78,15 +77,15 @@ set-back rows =
 abbrev pub bytesOfSets : Sets → List ℕ
 bytesOfSets s = setBytes (s .forward) ++ (setBytes (s .reverse) ++ setBytes (s .inbound))
 
-pub record SetsFit (rows : ℕ) (s : Sets) : Type 0 where
-  pub forward : SetFits rows (s .forward)
-  pub reverse : SetFits rows (s .reverse)
-  pub inbound : SetFits rows (s .inbound)
+pub record SetsFit (K : ℕ) (rows : ℕ) (s : Sets) : Type 0 where
+  pub forward : SetFits K rows (s .forward)
+  pub reverse : SetFits K rows (s .reverse)
+  pub inbound : SetFits K rows (s .inbound)
 
-pub sets-back : (rows : ℕ) → Back (Parse.sets rows) (Said bytesOfSets (SetsFit rows))
+pub sets-back : (K : ℕ) → (rows : ℕ) → Back (Parse.sets K rows) (Said bytesOfSets (SetsFit K rows))
 unfolding Parse.sets
-sets-back rows =
-    then-back (edgeSet rows) _ (set-back rows) (λ f. then-back (edgeSet rows) _ (set-back rows) (λ r. then-back (edgeSet rows) _ (set-back rows) (λ i.
+sets-back K rows =
+    then-back (edgeSet K rows) _ (set-back K rows) (λ f. then-back (edgeSet K rows) _ (set-back K rows) (λ r. then-back (edgeSet K rows) _ (set-back K rows) (λ i.
     end-back (λ l p. true) _ (λ l p t ki kr kf. record { bytes = rw append-nil; fits = record { forward = kf; reverse = kr; inbound = ki } }))))
 
 -- ── 3 rows ───────────────────────────────────────────────────────────────────────────────────

@@ -12,7 +12,6 @@ use borrow.Author.Tests.{lt-leb}
 use Rattle.lists.specs.Lists.{Each, flat, all}
 use Rattle.lists.specs.Order.{rising, notFalling}
 use Rattle.lists.proofs.Each.{each-imp, each-all}
-use Rattle.columns.specs.Limits.{kinds}
 use Rattle.columns.specs.EdgeSet.{EdgeSet}
 use Rattle.columns.specs.Building.{Depth}
 use Rattle.cover.specs.Chains.{Range}
@@ -54,23 +53,23 @@ unfolding depthBytes bytesOf
 depth-length none = refl
 depth-length (some d) = refl
 
-head-short : (f : File) → FileFits f → Short (headBytes f)
+head-short : (K : ℕ) → (f : File) → FileFits K f → Short (headBytes f)
 unfolding headBytes
-head-short f k = simp (length-append, length-bytesOf, depth-length) (omega (arith, k .subject))
+head-short K f k = simp (length-append, length-bytesOf, depth-length) (omega (arith, k .subject))
 
 -- ── 2 edges ──────────────────────────────────────────────────────────────────────────────────
 
-set-reads : {post : List ℕ} (rows : ℕ) (s : EdgeSet) → SetFits rows s → Reads post (edgeSet rows) (setBytes s) s
+set-reads : (K : ℕ) → {post : List ℕ} (rows : ℕ) (s : EdgeSet) → SetFits K rows s → Reads post (edgeSet K rows) (setBytes s) s
 unfolding edgeSet setBytes
-set-reads rows s f =
-    then-reads (number 4) _ (number-reads 4 (s .count) (f .count)) (then-reads (numbers 8 (kinds * rows + 1)) _ (numbers-read 8 (kinds * rows + 1) (s .offsets) (f .slots) (f .offsets))
+set-reads K rows s f =
+    then-reads (number 4) _ (number-reads 4 (s .count) (f .count)) (then-reads (numbers 8 (K * rows + 1)) _ (numbers-read 8 (K * rows + 1) (s .offsets) (f .slots) (f .offsets))
     (end-reads (numbers 8 (s .count)) _ (numbers-read 8 (s .count) (map unsignedOf (s .deltas)) (length-map (s .deltas) unsignedOf ∙ sym (f .counted)) (unsigned-all (s .deltas) (f .deltas)))
     (λ l p k. rw (signed-all (s .deltas) (f .deltas)))))
 
-pub sets-read : (n : ℕ) (a b c : EdgeSet) → SetFits n a → SetFits n b → SetFits n c → Reads [] (Parse.sets n) (setsBytes a b c) (record { forward = a; reverse = b; inbound = c })
+pub sets-read : (K : ℕ) → (n : ℕ) (a b c : EdgeSet) → SetFits K n a → SetFits K n b → SetFits K n c → Reads [] (Parse.sets K n) (setsBytes a b c) (record { forward = a; reverse = b; inbound = c })
 unfolding Parse.sets
-sets-read n a b c f r i =
-    then-reads (edgeSet n) _ (set-reads n a f) (then-reads (edgeSet n) _ (set-reads n b r) (end-reads (edgeSet n) _ (set-reads n c i) (λ l p h. refl)))
+sets-read K n a b c f r i =
+    then-reads (edgeSet K n) _ (set-reads K n a f) (then-reads (edgeSet K n) _ (set-reads K n b r) (end-reads (edgeSet K n) _ (set-reads K n c i) (λ l p h. refl)))
 
 -- ── 3 rows ───────────────────────────────────────────────────────────────────────────────────
 
@@ -172,12 +171,12 @@ cover-record-reads rows (some c) k g = found-reads 6 (Parse.cover rows) (k .shor
 -- ── files ────────────────────────────────────────────────────────────────────────────────────
 
 -- a file is read where no cover of another stands behind it
-file-reads : {post : List ℕ} (f : File) → FileFits f → eqb (getD post 5 0) 6 ≡ false → Reads post Parse.file (fileBytes f) f
+file-reads : (K : ℕ) → {post : List ℕ} (f : File) → FileFits K f → eqb (getD post 5 0) 6 ≡ false → Reads post (Parse.file K) (fileBytes f) f
 unfolding Parse.file fileBytes headBytes edgesBytes
-file-reads f k g =
+file-reads K f k g =
     let n = length (f .rows) in
-    then-reads (recordOf 1 Parse.head) _ (record-reads 1 Parse.head (head-short f k) (head-reads (headOf f) (k .first) (k .rowCount) (k .depth)))
-    (then-reads (recordOf 2 (Parse.sets n)) _ (record-reads 2 (Parse.sets n) (k .edgesShort) (sets-read n (f .forward) (f .reverse) (f .inbound) (k .forward) (k .reverse) (k .inbound)))
+    then-reads (recordOf 1 Parse.head) _ (record-reads 1 Parse.head (head-short K f k) (head-reads (headOf f) (k .first) (k .rowCount) (k .depth)))
+    (then-reads (recordOf 2 (Parse.sets K n)) _ (record-reads 2 (Parse.sets K n) (k .edgesShort) (sets-read K n (f .forward) (f .reverse) (f .inbound) (k .forward) (k .reverse) (k .inbound)))
     (then-reads (recordOf 3 (Parse.rows n)) _ (record-reads 3 (Parse.rows n) (k .rowsShort) (rows-read (f .rows) (k .tags)))
     (then-reads (recordOf 4 Parse.unresolved) _ (record-reads 4 Parse.unresolved (k .unresolvedShort) (unresolved-read (f .unresolved) (k .unresolved) (k .unresolvedCount) (k .unresolvedOrder)))
     (then-reads (recordOf 5 Parse.roots) _ (record-reads 5 Parse.roots (k .rootsShort) (roots-read (f .roots) (k .roots) (k .rootCount) (k .rootOrder)))
@@ -193,16 +192,16 @@ unfolding encode fileBytes
 no-cover-first [] = refl
 no-cover-first (f ∷ fs) = rw (append-assoc, record-kind 1)
 
-files-read : (fs : List File) (n : ℕ) (pre : List ℕ) → length fs ≤ n → Each FileFits fs → files n (pre ++ encode fs) (length pre) ≡ got fs (length pre + length (encode fs))
+files-read : (K : ℕ) → (fs : List File) (n : ℕ) (pre : List ℕ) → length fs ≤ n → Each (FileFits K) fs → files K n (pre ++ encode fs) (length pre) ≡ got fs (length pre + length (encode fs))
 unfolding encode files _>>=_
-files-read [] zero pre h k = stops-at-end [] broken pre
-files-read [] (suc n) pre h k = stops-at-end [] _ pre
-files-read (f ∷ fs) zero pre h k = absurd (omega arith)
-files-read (f ∷ fs) (suc n) pre h k =
+files-read K [] zero pre h k = stops-at-end [] broken pre
+files-read K [] (suc n) pre h k = stops-at-end [] _ pre
+files-read K (f ∷ fs) zero pre h k = absurd (omega arith)
+files-read K (f ∷ fs) (suc n) pre h k =
     let q = file-long f in
     let c : length pre < length (pre ++ (fileBytes f ++ encode fs)) = simp length-append (omega arith) in
-    let i = rw (append-assoc pre (fileBytes f) (encode fs), length-append pre (fileBytes f)) at (files-read fs n (pre ++ fileBytes f) (omega arith) (k .1)) in
-    rw (lt-leb (length (pre ++ (fileBytes f ++ encode fs))) (length pre) c, file-reads f (k .0) (no-cover-first fs) .read pre, i, length-append (fileBytes f) (encode fs), add-assoc)
+    let i = rw (append-assoc pre (fileBytes f) (encode fs), length-append pre (fileBytes f)) at (files-read K fs n (pre ++ fileBytes f) (omega arith) (k .1)) in
+    rw (lt-leb (length (pre ++ (fileBytes f ++ encode fs))) (length pre) c, file-reads K f (k .0) (no-cover-first fs) .read pre, i, length-append (fileBytes f) (encode fs), add-assoc)
 
 files-no-more-than-bytes : (fs : List File) → length fs ≤ length (encode fs)
 unfolding encode
@@ -210,6 +209,6 @@ files-no-more-than-bytes [] = omega arith
 files-no-more-than-bytes (f ∷ fs) = let h = files-no-more-than-bytes fs in let q = file-long f in simp length-append (omega arith)
 
 -- parsing the bytes of files that fit their fields gives those files
-pub parse-encode : (fs : List File) → Each FileFits fs → parse (encode fs) ≡ got fs (length (encode fs))
+pub parse-encode : (K : ℕ) → (fs : List File) → Each (FileFits K) fs → parse K (encode fs) ≡ got fs (length (encode fs))
 unfolding parse
-parse-encode fs k = files-read fs (length (encode fs)) [] (files-no-more-than-bytes fs) k ∙ rw (zero-add (length (encode fs)))
+parse-encode K fs k = files-read K fs (length (encode fs)) [] (files-no-more-than-bytes fs) k ∙ rw (zero-add (length (encode fs)))

@@ -9,7 +9,6 @@ use mir.Syntax.{w64}
 use mir.Val.{SFits}
 use Rattle.lists.specs.Lists.{Each, flat}
 use Rattle.lists.specs.Order.{rising, notFalling}
-use Rattle.columns.specs.Limits.{kinds}
 use Rattle.columns.specs.EdgeSet.{EdgeSet}
 use Rattle.columns.specs.Building.{Depth}
 use Rattle.cover.specs.Chains.{Range}
@@ -27,8 +26,8 @@ abbrev pub DepthFits : Option Depth → Type 0
 DepthFits none = Unit {0}
 DepthFits (some d) = (d .least < 256 ^ 8) × (d .greatest < 256 ^ 8)
 
-pub record SetFits (rows : ℕ) (s : EdgeSet) : Type 0 where
-  pub slots : length (s .offsets) ≡ kinds * rows + 1
+pub record SetFits (K : ℕ) (rows : ℕ) (s : EdgeSet) : Type 0 where
+  pub slots : length (s .offsets) ≡ K * rows + 1
   pub counted : s .count ≡ length (s .deltas)
   pub count : s .count < 256 ^ 4
   pub offsets : Wide 8 (s .offsets)
@@ -67,16 +66,16 @@ abbrev pub CoverFitsIn : ℕ → Option CoverColumns → Type 0
 CoverFitsIn rows none = Unit {0}
 CoverFitsIn rows (some c) = CoverFits rows c
 
-pub record FileFits (f : File) : Type 0 where
+pub record FileFits (K : ℕ) (f : File) : Type 0 where
   pub first : f .first < 256 ^ 8
   pub rowCount : length (f .rows) < 256 ^ 4
   pub group : f .group < 256
   pub subject : length (f .subject) < 256
   pub subjectBytes : Wide 1 (f .subject)
   pub depth : DepthFits (f .depth)
-  pub forward : SetFits (length (f .rows)) (f .forward)
-  pub reverse : SetFits (length (f .rows)) (f .reverse)
-  pub inbound : SetFits (length (f .rows)) (f .inbound)
+  pub forward : SetFits K (length (f .rows)) (f .forward)
+  pub reverse : SetFits K (length (f .rows)) (f .reverse)
+  pub inbound : SetFits K (length (f .rows)) (f .inbound)
   pub tags : Each (λ r. r .tag < 256 ^ 8) (f .rows)
   pub unresolvedCount : length (f .unresolved) < 256 ^ 4
   pub unresolved : Each UnresolvedFits (f .unresolved)

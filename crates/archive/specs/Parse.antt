@@ -7,7 +7,6 @@ use lib.Dec.{leb, eqb}
 use lib.ListN.{length, getD}
 use Rattle.lists.specs.Lists.{all}
 use Rattle.lists.specs.Order.{rising, notFalling}
-use Rattle.columns.specs.Limits.{kinds}
 use Rattle.columns.specs.EdgeSet.{EdgeSet}
 use Rattle.columns.specs.Building.{Depth}
 use Rattle.cover.specs.Chains.{Range}
@@ -52,10 +51,10 @@ head = do
 -- ── 2 edges ──────────────────────────────────────────────────────────────────────────────────
 
 -- one set: its count, its offsets, its deltas
-unfoldable pub edgeSet : ℕ → Reader EdgeSet
-edgeSet rows = do
+unfoldable pub edgeSet : (K : ℕ) → ℕ → Reader EdgeSet
+edgeSet K rows = do
   n ← number 4
-  offsets ← numbers 8 (kinds * rows + 1)
+  offsets ← numbers 8 (K * rows + 1)
   deltas ← numbers 8 n
   return (record { count = n; offsets = offsets; deltas = map signedOf deltas })
 
@@ -64,11 +63,11 @@ pub record Sets : Type 0 where
   pub reverse : EdgeSet
   pub inbound : EdgeSet
 
-unfoldable pub sets : ℕ → Reader Sets
-sets rows = do
-  f ← edgeSet rows
-  r ← edgeSet rows
-  i ← edgeSet rows
+unfoldable pub sets : (K : ℕ) → ℕ → Reader Sets
+sets K rows = do
+  f ← edgeSet K rows
+  r ← edgeSet K rows
+  i ← edgeSet K rows
   return (record { forward = f; reverse = r; inbound = i })
 
 -- ── 3 rows ───────────────────────────────────────────────────────────────────────────────────
@@ -128,10 +127,10 @@ cover n = do
 -- ── files ────────────────────────────────────────────────────────────────────────────────────
 
 -- the records of a file, in order
-unfoldable pub file : Reader File
-file = do
+unfoldable pub file : (K : ℕ) → Reader File
+file K = do
   h ← recordOf 1 head
-  s ← recordOf 2 (sets (h .rows))
+  s ← recordOf 2 (sets K (h .rows))
   rs ← recordOf 3 (rows (h .rows))
   us ← recordOf 4 unresolved
   ts ← recordOf 5 roots
@@ -151,13 +150,13 @@ file = do
   })
 
 -- files to the end of the bytes, at most n
-unfoldable pub files : ℕ → Reader (List File)
-files zero = unlessEnd [] fail
-files (suc n) = unlessEnd [] do
-  f ← file
-  fs ← files n
+unfoldable pub files : (K : ℕ) → ℕ → Reader (List File)
+files K zero = unlessEnd [] fail
+files K (suc n) = unlessEnd [] do
+  f ← file K
+  fs ← files K n
   return (f ∷ fs)
 
 -- the files of an archive. No file is of less than one byte, so the number of bytes is enough
-unfoldable pub parse : List ℕ → Parsed (List File)
-parse l = files (length l) l 0
+unfoldable pub parse : (K : ℕ) → List ℕ → Parsed (List File)
+parse K l = files K (length l) l 0

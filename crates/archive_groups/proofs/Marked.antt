@@ -14,7 +14,7 @@ use Rattle.lists.specs.Lists.{mem, add, once, upFrom}
 use Rattle.lists.proofs.Flat.{length-upFrom, upFrom-snoc}
 use Rattle.lists.proofs.Once.{mem-append, add-there, add-new, fold-grows}
 use Rattle.lists.proofs.Slices.{slice-none}
-use Rattle.columns.specs.Limits.{maxGroups}
+use Rattle.columns.specs.Limits.{kinds, maxGroups}
 use Rattle.archive.specs.File.{File}
 use Rattle.archive.specs.Reader.{Parsed, broken, got, andThen, _>>=_}
 use Rattle.archive.specs.Parse.{file, files, parse}
@@ -101,14 +101,14 @@ run-over k x h =
 -- the files that are left are read, and the numbers met with theirs are those of the whole
 pub record Still (l : List ℕ) (k : ℕ) (s : List ℕ) (rest : Parsed (List File)) : Type 0 where
   pub read : isRead rest ≡ true
-  pub same : once (upFrom 0 k ++ groupsOf (parse l)) ≡ foldl add s (groupsOf rest)
+  pub same : once (upFrom 0 k ++ groupsOf (parse kinds l)) ≡ foldl add s (groupsOf rest)
 
-pub starts : (l : List ℕ) (k : ℕ) (z : List ℕ) → isRead (parse l) ≡ true → Still l k (upFrom 0 k ++ take 0 z) (files (length l - 0) l 0)
+pub starts : (l : List ℕ) (k : ℕ) (z : List ℕ) → isRead (parse kinds l) ≡ true → Still l k (upFrom 0 k ++ take 0 z) (files kinds (length l - 0) l 0)
 unfolding parse
 starts l k z h =
     let e : length l - 0 ≡ length l = omega arith in
     let a : upFrom 0 k ++ [] ≡ upFrom 0 k = append-nil (upFrom 0 k) in
-    record { read = rw e h; same = rw (e, a) (from-run k (groupsOf (files (length l) l 0))) }
+    record { read = rw e h; same = rw (e, a) (from-run k (groupsOf (files kinds (length l) l 0))) }
 
 rest-read : (f : File) (r : Parsed (List File)) → isRead (andThen r (λ fs q. got (f ∷ fs) q)) ≡ true → isRead r ≡ true
 unfolding isRead
@@ -121,14 +121,14 @@ unfolding isRead filesOf
 rest-groups f broken s e = absurd (false≢true e)
 rest-groups f (got fs q) s e = refl
 
-module _ (l : List ℕ) (k m p : ℕ) (s : List ℕ) (st : Still l k s (files (length l - m) l p)) where
-  few-left : length l ≤ p → length s ≤ 16 → false ≡ groupsOver k (filesOf (parse l))
+module _ (l : List ℕ) (k m p : ℕ) (s : List ℕ) (st : Still l k s (files kinds (length l - m) l p)) where
+  few-left : length l ≤ p → length s ≤ 16 → false ≡ groupsOver k (filesOf (parse kinds l))
   unfolding groupsOver filesOf
   few-left h j =
       let e = st .same ∙ ap (λ x. foldl add s (groupsOf x)) (files-end (length l - m) l p h) in
-      sym (le-ltb maxGroups (length (once (upFrom 0 k ++ groupsOf (parse l)))) (omega (arith, ap length e)))
+      sym (le-ltb maxGroups (length (once (upFrom 0 k ++ groupsOf (parse kinds l)))) (omega (arith, ap length e)))
 
-  module _ (h : p < length l) (g : m ≤ p) (x : FileRead) (d : fileOf l x ≡ file l p) where
+  module _ (h : p < length l) (g : m ≤ p) (x : FileRead) (d : fileOf l x ≡ file kinds l p) where
     z : length l - m ≡ suc (length l - (m + 1))
     z = omega arith
 
@@ -136,28 +136,28 @@ module _ (l : List ℕ) (k m p : ℕ) (s : List ℕ) (st : Still l k s (files (l
     unfolding files _>>=_ isRead
     never f = rw (z, lt-leb (length l) p h, ← d, f) at (st .read)
 
-    pub no-file : x ≡ NoFile → false ≡ groupsOver k (filesOf (parse l))
+    pub no-file : x ≡ NoFile → false ≡ groupsOver k (filesOf (parse kinds l))
     no-file f = absurd (false≢true (never f))
 
     module _ {f : FileAt} (y : x ≡ FileIs f) where
-      opened : files (length l - m) l p ≡ andThen (files (length l - (m + 1)) l (f .tail .end)) (λ fs q. got (fileIn l f ∷ fs) q)
+      opened : files kinds (length l - m) l p ≡ andThen (files kinds (length l - (m + 1)) l (f .tail .end)) (λ fs q. got (fileIn l f ∷ fs) q)
       unfolding files _>>=_
       opened = rw (z, lt-leb (length l) p h, ← d, y)
 
-      pub next : {t : List ℕ} {n : ℕ} → t ≡ add s n → n ≡ f .front .head .group → Still l k t (files (length l - (m + 1)) l (f .tail .end))
+      pub next : {t : List ℕ} {n : ℕ} → t ≡ add s n → n ≡ f .front .head .group → Still l k t (files kinds (length l - (m + 1)) l (f .tail .end))
       unfolding fileIn fileFrom frontIn headIn
       next {t} {n} a b =
-          let rest = files (length l - (m + 1)) l (f .tail .end) in
+          let rest = files kinds (length l - (m + 1)) l (f .tail .end) in
           let r : isRead rest ≡ true = rest-read (fileIn l f) rest (ap isRead (sym opened) ∙ st .read) in
           record {
             read = r;
             same = st .same ∙ ap (λ x. foldl add s (groupsOf x)) opened ∙ rest-groups (fileIn l f) rest s r ∙ ap (λ u. foldl add u (groupsOf rest)) (ap (add s) (sym b) ∙ sym a);
           }
 
-too-many : (l : List ℕ) (k n : ℕ) (list : List ℕ) (rest : Parsed (List File)) → Still l k (upFrom 0 k ++ take n list) rest → n ≤ length list → 16 < k + n → true ≡ groupsOver k (filesOf (parse l))
+too-many : (l : List ℕ) (k n : ℕ) (list : List ℕ) (rest : Parsed (List File)) → Still l k (upFrom 0 k ++ take n list) rest → n ≤ length list → 16 < k + n → true ≡ groupsOver k (filesOf (parse kinds l))
 unfolding groupsOver
 too-many l k n list rest st j h =
-    sym (lt-ltb maxGroups (length (once (upFrom 0 k ++ groupsOf (parse l))))
+    sym (lt-ltb maxGroups (length (once (upFrom 0 k ++ groupsOf (parse kinds l))))
     (omega (
       arith,
       ap length (st .same),
@@ -167,14 +167,14 @@ too-many l k n list rest st j h =
       length-take-le n list j,
     )))
 
-module _ (l : List ℕ) (k n m p : ℕ) (list : List ℕ) (few : k + n ≤ 16) (len : length list ≡ 17) (st : Still l k (upFrom 0 k ++ take n list) (files (length l - m) l p)) where
-  pub none-over : length l ≤ p → false ≡ groupsOver k (filesOf (parse l))
+module _ (l : List ℕ) (k n m p : ℕ) (list : List ℕ) (few : k + n ≤ 16) (len : length list ≡ 17) (st : Still l k (upFrom 0 k ++ take n list) (files kinds (length l - m) l p)) where
+  pub none-over : length l ≤ p → false ≡ groupsOver k (filesOf (parse kinds l))
   none-over h = few-left l k m p (upFrom 0 k ++ take n list) st h (omega (arith, length-append (upFrom 0 k) (take n list), length-upFrom 0 k, length-take-le n list (omega arith)))
 
-  pub over-now : {r g : ℕ} (list′ : List ℕ) (x : FileRead) {f : FileAt} → p < length l → m ≤ p → fileOf l x ≡ file l p → x ≡ FileIs f
-      → upFrom 0 k ++ take r list′ ≡ add (upFrom 0 k ++ take n list) g → g ≡ f .front .head .group → r ≤ n + 1 → length list′ ≡ 17 → 16 < k + r → true ≡ groupsOver k (filesOf (parse l))
+  pub over-now : {r g : ℕ} (list′ : List ℕ) (x : FileRead) {f : FileAt} → p < length l → m ≤ p → fileOf l x ≡ file kinds l p → x ≡ FileIs f
+      → upFrom 0 k ++ take r list′ ≡ add (upFrom 0 k ++ take n list) g → g ≡ f .front .head .group → r ≤ n + 1 → length list′ ≡ 17 → 16 < k + r → true ≡ groupsOver k (filesOf (parse kinds l))
   over-now {r} list′ x {f} h j d y a b c e o =
-      too-many l k r list′ (files (length l - (m + 1)) l (f .tail .end)) (next l k m p (upFrom 0 k ++ take n list) st h j x d y a b) (omega arith) o
+      too-many l k r list′ (files kinds (length l - (m + 1)) l (f .tail .end)) (next l k m p (upFrom 0 k ++ take n list) st h j x d y a b) (omega arith) o
 
 -- ── the loop moves on ────────────────────────────────────────────────────────────────────────
 

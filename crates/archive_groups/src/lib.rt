@@ -7,6 +7,7 @@ ghost use mathlib.Core.Bool.{true};
 ghost use mathlib.Core.List.{_++_};
 ghost use Prim.Native.Nat.{_+_, _≤_};
 ghost use lib.ListN.{length, take};
+ghost use Rattle.columns.specs.Limits.{kinds};
 ghost use Rattle.lists.specs.Lists.{mem, add, upFrom};
 ghost use Rattle.archive.specs.Parse.{parse};
 ghost use Rattle.archive_groups.specs.Groups.{filesOf, isRead, groupsOver};
@@ -58,8 +59,8 @@ fn group_of(f: FileAt) -> u8
 
 // The run holds the groups 0 up to k; the archive's bytes are known not to be broken.
 pub fn groups_over(bytes: &[u8], k: usize) -> bool
-    requires { ⌜ isRead (parse (now bytes)) ≡ true ⌝ }
-    ensures { λ r. ⌜ r ≡ groupsOver k (filesOf (parse (now (bytes .entry)))) ⌝ }
+    requires { ⌜ isRead (parse kinds (now bytes)) ≡ true ⌝ }
+    ensures { λ r. ⌜ r ≡ groupsOver k (filesOf (parse kinds (now (bytes .entry)))) ⌝ }
 {
     if 16 < k {
         return true;

@@ -7,6 +7,7 @@ use Prim.Native.Nat.{ℕ, zero, suc, _≤_, _<_, _+_, _-_}
 use native.Mathlib.Omega.{arith}
 use lib.ListN.{length, length-map}
 use borrow.Author.Tests.{le-leb, lt-leb}
+use Rattle.columns.specs.Limits.{kinds}
 use Rattle.lists.specs.Lists.{sum}
 use Rattle.columns.specs.declared.refusal.Refusal.the-variants.{RecordBroken}
 use Rattle.archive.specs.Reader.{Parsed, broken, got, andThen, _>>=_}
@@ -87,9 +88,9 @@ unfolding plus
 plus-none (Refused r) = refl
 plus-none (Sums u) = same-sums _ _ _ _ _ _ _ _ _ _ _ _ _ _ _ _ _ _ (omega arith) (omega arith) (omega arith) (omega arith) (omega arith) (omega arith) (omega arith) (omega arith) (omega arith)
 
-pub sums-start : (l : List ℕ) → totalsOf (parse l) ≡ plus none-yet (totalsOf (files (length l - 0) l 0))
+pub sums-start : (l : List ℕ) → totalsOf (parse kinds l) ≡ plus none-yet (totalsOf (files kinds (length l - 0) l 0))
 unfolding parse
-sums-start l = let z : length l - 0 ≡ length l = omega arith in rw z (plus-none (totalsOf (files (length l) l 0)))
+sums-start l = let z : length l - 0 ≡ length l = omega arith in rw z (plus-none (totalsOf (files kinds (length l) l 0)))
 
 plus-sums : (t : Totals) → plus t (Sums (totals [])) ≡ Sums t
 unfolding plus totals sum
@@ -110,17 +111,17 @@ one-file l t f u (got fs q) =
     let i = links-counted l f u in
     same-sums _ _ _ _ _ _ _ _ _ _ _ _ _ _ _ _ _ _ (omega arith) (omega arith) (omega arith) (omega arith) (omega arith) (omega arith) (omega arith) (omega arith) (omega arith)
 
-pub files-end : (n : ℕ) (l : List ℕ) (p : ℕ) → length l ≤ p → files n l p ≡ got [] p
+pub files-end : (n : ℕ) (l : List ℕ) (p : ℕ) → length l ≤ p → files kinds n l p ≡ got [] p
 unfolding files _>>=_
 files-end zero l p h = rw (le-leb (length l) p h)
 files-end (suc n) l p h = rw (le-leb (length l) p h)
 
-module _ {s : Summed} (l : List ℕ) (t : Totals) (p : ℕ) (e : s ≡ plus t (totalsOf (files (length l - t .files) l p))) where
+module _ {s : Summed} (l : List ℕ) (t : Totals) (p : ℕ) (e : s ≡ plus t (totalsOf (files kinds (length l - t .files) l p))) where
   pub sums-done : length l ≤ p → Sums t ≡ s
   unfolding totalsOf
   sums-done h = rw (e, files-end (length l - t .files) l p h) (sym (plus-sums t))
 
-  module _ (h : p < length l) (g : t .files ≤ p) (x : FileRead) (d : fileOf l x ≡ file l p) where
+  module _ (h : p < length l) (g : t .files ≤ p) (x : FileRead) (d : fileOf l x ≡ file kinds l p) where
     z : length l - t .files ≡ suc (length l - (t .files + 1))
     z = omega arith
 
@@ -128,14 +129,14 @@ module _ {s : Summed} (l : List ℕ) (t : Totals) (p : ℕ) (e : s ≡ plus t (t
     unfolding files plus totalsOf _>>=_
     sums-broken f = rw (e, z, lt-leb (length l) p h, ← d, f)
 
-    pub sums-next : {f : FileAt} {u : Totals} → x ≡ FileIs f → AfterFile l p x → u ≡ withFile t f → s ≡ plus u (totalsOf (files (length l - u .files) l (f .tail .end)))
+    pub sums-next : {f : FileAt} {u : Totals} → x ≡ FileIs f → AfterFile l p x → u ≡ withFile t f → s ≡ plus u (totalsOf (files kinds (length l - u .files) l (f .tail .end)))
     unfolding files _>>=_ withFile
     sums-next {f} k a w =
         let c = rw k at a in
         rw (w) (go c)
       where
-        go : AfterFile l p (FileIs f) → s ≡ plus (withFile t f) (totalsOf (files (length l - withFile t f .files) l (f .tail .end)))
-        go c = rw (e, z, lt-leb (length l) p h, ← d, k) (one-file l t f (c .2 .5) (files (length l - (t .files + 1)) l (f .tail .end)))
+        go : AfterFile l p (FileIs f) → s ≡ plus (withFile t f) (totalsOf (files kinds (length l - withFile t f .files) l (f .tail .end)))
+        go c = rw (e, z, lt-leb (length l) p h, ← d, k) (one-file l t f (c .2 .5) (files kinds (length l - (t .files + 1)) l (f .tail .end)))
 
 module _ (l : List ℕ) (p : ℕ) (x : FileRead) {f : FileAt} (a : AfterFile l p x) (e : x ≡ FileIs f) where
   pub file-past : p < f .tail .end

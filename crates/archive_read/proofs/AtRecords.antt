@@ -8,6 +8,7 @@ use native.Mathlib.Omega.{arith}
 use lib.ListN.{length, getD, drop, length-drop}
 use lib.Seq.{length-take-le}
 use borrow.Author.Tests.{eq-eqb, ne-eqb, not-true, not-false}
+use Rattle.columns.specs.Limits.{kinds}
 use Rattle.archive.specs.Bytes.{several}
 use Rattle.archive.specs.Reader.{Parsed, broken, got, andThen, _>>=_, whole, body, recordOf, optionally}
 use Rattle.archive.specs.Parse
@@ -150,7 +151,7 @@ module _ (l : List ℕ) (p : ℕ) (x : Body) (d : bodyOf l x ≡ body 1 l p) whe
       unfolding front recordOf headIn _>>=_
       no-front3 m = rw (← d, e, ← t, ← f, g, ← k, m)
 
-      module _ {a2 : Part} {b2 : List ℕ} (w : EdgesRead) (m : z ≡ BodyAt a2) (u : b2 ≡ partIn l a2) (v : edgesOf b2 (h .rows) w ≡ whole (Parse.sets (h .rows)) b2) where
+      module _ {a2 : Part} {b2 : List ℕ} (w : EdgesRead) (m : z ≡ BodyAt a2) (u : b2 ≡ partIn l a2) (v : edgesOf b2 (h .rows) w ≡ whole (Parse.sets kinds (h .rows)) b2) where
         pub no-front4 : w ≡ NoEdges → broken ≡ front l p
         unfolding front recordOf headIn _>>=_
         no-front4 o = rw (← d, e, ← t, ← f, g, ← k, m, ← u, ← v, o)
@@ -272,20 +273,20 @@ andThen-assoc : {A B C : Type 0} (o : Parsed A) (f : A → ℕ → Parsed B) (g 
 andThen-assoc broken f g = refl
 andThen-assoc (got x q) f g = refl
 
-pub file-parts : (l : List ℕ) (p : ℕ) → andThen (front l p) (λ f q. andThen (rest (f .head .rows) l q) (λ r q. got (fileFrom f r) q)) ≡ file l p
+pub file-parts : (l : List ℕ) (p : ℕ) → andThen (front l p) (λ f q. andThen (rest (f .head .rows) l q) (λ r q. got (fileFrom f r) q)) ≡ file kinds l p
 unfolding file front rest middle tail fileFrom _>>=_
 file-parts l p = simp andThen-assoc
 
 module _ (l : List ℕ) (p : ℕ) (x : FrontRead) (d : frontOf l x ≡ front l p) where
-  pub no-file1 : x ≡ NoFront → broken ≡ file l p
+  pub no-file1 : x ≡ NoFront → broken ≡ file kinds l p
   no-file1 e = rw (← file-parts l p, ← d, e)
 
   module _ {f : FrontAt} (y : RestRead) (e : x ≡ FrontIs f) (g : restOf l (f .head .rows) y ≡ rest (f .head .rows) l (f .sets .end)) where
-    pub no-file2 : y ≡ NoRest → broken ≡ file l p
+    pub no-file2 : y ≡ NoRest → broken ≡ file kinds l p
     unfolding frontIn headIn
     no-file2 k = rw (← file-parts l p, ← d, e, ← g, k)
 
-    pub is-file : {m : MiddleAt} {t : TailAt} → y ≡ RestIs m t → got (fileIn l (record { front = f; middle = m; tail = t })) (t .end) ≡ file l p
+    pub is-file : {m : MiddleAt} {t : TailAt} → y ≡ RestIs m t → got (fileIn l (record { front = f; middle = m; tail = t })) (t .end) ≡ file kinds l p
     unfolding frontIn headIn fileIn
     is-file k = rw (← file-parts l p, ← d, e, ← g, k)
 

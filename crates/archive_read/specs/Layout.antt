@@ -4,6 +4,7 @@ use mathlib.Core.List.{List}
 use mathlib.Core.Option.{Option, none, some}
 use Prim.Native.Nat.{ℕ, _+_, _*_, _≤_, _<_}
 use lib.ListN.{length, drop}
+use Rattle.columns.specs.Limits.{kinds}
 use Rattle.archive.specs.Bytes.{several}
 use Rattle.archive.specs.Reader.{Parsed, broken, got, Reader, _>>=_, return, recordOf, optionally}
 use Rattle.archive.specs.File.{Row, Unresolved, Root, CoverColumns, File}
@@ -97,7 +98,7 @@ pub record Front : Type 0 where
 unfoldable pub front : Reader Front
 front = do
   h ← recordOf 1 Parse.head
-  s ← recordOf 2 (Parse.sets (h .rows))
+  s ← recordOf 2 (Parse.sets kinds (h .rows))
   return (record { head = h; sets = s })
 
 unfoldable pub frontIn : List ℕ → FrontAt → Front

@@ -5,6 +5,7 @@ ghost use mathlib.Core.List.{map};
 ghost use Prim.Native.Nat.{_+_, _*_, _≤_, _<_, _^_};
 ghost use lib.Dec.{leb};
 ghost use lib.ListN.{length, getD, drop};
+ghost use Rattle.columns.specs.Limits.{kinds};
 ghost use Rattle.lists.specs.Lists.{all};
 ghost use Rattle.lists.specs.Order.{rising, notFalling};
 ghost use Rattle.archive.specs.Bytes.{several};
@@ -117,7 +118,7 @@ pub fn head_body(b: &[u8]) -> HeadRead
 // One set from place `p` on.
 fn set_at(b: &[u8], rows: usize, p: usize) -> SetRead
     requires { ⌜ (rows < 2 ^ 32) × (p ≤ length (now b)) ⌝ }
-    ensures { λ r. ⌜ setOf (now (b .entry)) rows p r ≡ edgeSet rows (now (b .entry)) p ⌝ }
+    ensures { λ r. ⌜ setOf (now (b .entry)) rows p r ≡ edgeSet kinds rows (now (b .entry)) p ⌝ }
     ensures { λ r. ⌜ SetInside (now (b .entry)) rows p r ⌝ }
 {
     if b.len() - p < 4 {
@@ -132,7 +133,7 @@ fn set_at(b: &[u8], rows: usize, p: usize) -> SetRead
 }
 
 pub fn edges_body(b: &[u8], rows: u32) -> EdgesRead
-    ensures { λ r. ⌜ edgesOf (now (b .entry)) rows r ≡ whole (sets rows) (now (b .entry)) ⌝ }
+    ensures { λ r. ⌜ edgesOf (now (b .entry)) rows r ≡ whole (sets kinds rows) (now (b .entry)) ⌝ }
     ensures { λ r. ⌜ EdgesInside (now (b .entry)) rows r ⌝ }
 {
     let n = rows as usize;

@@ -5,6 +5,7 @@ use crate::records::file_at;
 use columns::refusal::Refusal;
 ghost use mathlib.Core.Path.{_≡_};
 ghost use Prim.Native.Nat.{_<_, _^_};
+ghost use Rattle.columns.specs.Limits.{kinds};
 ghost use Rattle.archive.specs.Parse.{parse};
 ghost use Rattle.archive_read.specs.Layout.{Counts};
 ghost use Rattle.archive_read.specs.Sums.{totalsOf, withFile, Below};
@@ -53,7 +54,7 @@ fn with_file(t: Totals, f: FileAt, p: usize) -> Totals
 
 // The sums over an archive's files, or 23.
 pub fn sum_up(bytes: &[u8]) -> Summed
-    ensures { λ r. ⌜ r ≡ totalsOf (parse (now (bytes .entry))) ⌝ }
+    ensures { λ r. ⌜ r ≡ totalsOf (parse kinds (now (bytes .entry))) ⌝ }
 {
     let mut t = Totals {
         files: 0,

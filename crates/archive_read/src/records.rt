@@ -16,6 +16,7 @@ use arrays::index;
 ghost use mathlib.Core.Path.{_≡_};
 ghost use Prim.Native.Nat.{_+_, _≤_};
 ghost use lib.ListN.{length, getD};
+ghost use Rattle.columns.specs.Limits.{kinds};
 ghost use Rattle.archive.specs.Reader.{body, optionally};
 ghost use Rattle.archive.specs.Parse.{cover, file};
 ghost use Rattle.archive_read.specs.Layout.{partIn, bodyOf, Inside, optionalOf, AfterOptional, front, frontOf, AfterFront, middle, middleOf, AfterMiddle, tail, tailOf, tailWith, AfterTail, rest, restOf, AfterRest, fileOf, AfterFile};
@@ -291,7 +292,7 @@ fn read_rest(bytes: &[u8], p: usize, n: u32) -> RestRead
 
 // The file whose first record starts at `p`; or 23.
 pub fn file_at(bytes: &[u8], p: usize) -> FileRead
-    ensures { λ r. ⌜ fileOf (now (bytes .entry)) r ≡ file (now (bytes .entry)) p ⌝ }
+    ensures { λ r. ⌜ fileOf (now (bytes .entry)) r ≡ file kinds (now (bytes .entry)) p ⌝ }
     ensures { λ r. ⌜ AfterFile (now (bytes .entry)) p r ⌝ }
 {
     let x = read_front(bytes, p);

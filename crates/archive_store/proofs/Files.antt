@@ -6,6 +6,7 @@ use Prim.Native.Nat.{ℕ, _≤_, _<_, _+_}
 use native.Mathlib.Omega.{arith}
 use lib.ListN.{length, take, drop, length-append}
 use lib.Seq.{sets, sets-eq, drop-at, take-append-seam, length-take-le}
+use Rattle.columns.specs.Limits.{kinds}
 use Rattle.lists.specs.Lists.{flat, part, Each}
 use Rattle.columns.specs.EdgeSet.{EdgeSet}
 use Rattle.archive.specs.File.{Row, Unresolved, Root, CoverColumns, File}
@@ -69,10 +70,10 @@ stands-there l b at h =
     ∙ take-append-seam b (drop (at + length b) l)
 
 -- what was written reads as the same files
-pub read-back : (fs : List File) → Each FileFits fs → (l : List ℕ) (at : ℕ) → at + length (encode fs) ≤ length l
-    → parse (part at (length (encode fs)) (sets l at (encode fs))) ≡ got fs (length (encode fs))
-read-back fs h l at k = rw (stands-there l (encode fs) at k) (parse-encode fs h)
+pub read-back : (fs : List File) → Each (FileFits kinds) fs → (l : List ℕ) (at : ℕ) → at + length (encode fs) ≤ length l
+    → parse kinds (part at (length (encode fs)) (sets l at (encode fs))) ≡ got fs (length (encode fs))
+read-back fs h l at k = rw (stands-there l (encode fs) at k) (parse-encode kinds fs h)
 
 -- files that were read are written as the same bytes
-pub written-back : (bytes : List ℕ) (fs : List File) (q : ℕ) → Each (λ b. b < 256) bytes → parse bytes ≡ got fs q → (l : List ℕ) (at : ℕ) → sets l at (encode fs) ≡ sets l at bytes
-written-back bytes fs q h e l at = ap (sets l at) (encode-parse bytes fs q h e .0)
+pub written-back : (bytes : List ℕ) (fs : List File) (q : ℕ) → Each (λ b. b < 256) bytes → parse kinds bytes ≡ got fs q → (l : List ℕ) (at : ℕ) → sets l at (encode fs) ≡ sets l at bytes
+written-back bytes fs q h e l at = ap (sets l at) (encode-parse kinds bytes fs q h e .0)

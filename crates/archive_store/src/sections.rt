@@ -11,7 +11,7 @@ ghost use Prim.Native.Nat.{_+_, _-_, _*_, _≤_, _<_, _^_};
 ghost use lib.ListN.{length, getD};
 ghost use lib.Seq.{slice, sets};
 ghost use Rattle.lists.specs.Lists.{filter, joined, starts};
-ghost use Rattle.columns.specs.Limits.{end64};
+ghost use Rattle.columns.specs.Limits.{kinds, end64};
 ghost use Rattle.columns.specs.EdgeSet.{fromTo, cut, deltasFrom, setOf};
 ghost use Rattle.columns.specs.Building.{inFile, rowsWithin, deltasWithin};
 ghost use Rattle.archive.specs.Encode.{columnBytes, setBytes};
@@ -58,8 +58,8 @@ fn store_starts(
 ) -> usize
     requires { ⌜ (fromTo 0 (length (now targets)) (now offsets) ≡ true) × (2 * (from + n) < length (now offsets)) ⌝ }
     requires { ⌜ at + 8 * (2 * n + 1) ≤ length (now out) ⌝ }
-    ensures { λ _. ⌜ now (out .exit) ≡ sets (now (out .entry)) at (columnBytes 8 (starts 0 (rowsWithin low high from n (now (offsets .entry)) (now (targets .entry))))) ⌝ }
-    ensures { λ r. ⌜ r ≡ length (joined (rowsWithin low high from n (now (offsets .entry)) (now (targets .entry)))) ⌝ }
+    ensures { λ _. ⌜ now (out .exit) ≡ sets (now (out .entry)) at (columnBytes 8 (starts 0 (rowsWithin kinds low high from n (now (offsets .entry)) (now (targets .entry))))) ⌝ }
+    ensures { λ r. ⌜ r ≡ length (joined (rowsWithin kinds low high from n (now (offsets .entry)) (now (targets .entry)))) ⌝ }
 {
     let mut sum = 0;
     let mut q = 0;
@@ -127,9 +127,9 @@ fn store_deltas(
 ) -> usize
     requires { ⌜ (fromTo 0 (length (now targets)) (now offsets) ≡ true) × (2 * (from + n) < length (now offsets)) ⌝ }
     requires { ⌜ first + n ≤ end64 ⌝ }
-    requires { ⌜ at + length (deltaBytes (joined (deltasFrom first 0 (rowsWithin low high from n (now offsets) (now targets))))) ≤ length (now out) ⌝ }
-    ensures { λ _. ⌜ now (out .exit) ≡ sets (now (out .entry)) at (deltaBytes (joined (deltasFrom first 0 (rowsWithin low high from n (now (offsets .entry)) (now (targets .entry)))))) ⌝ }
-    ensures { λ r. ⌜ r ≡ at + length (deltaBytes (joined (deltasFrom first 0 (rowsWithin low high from n (now (offsets .entry)) (now (targets .entry)))))) ⌝ }
+    requires { ⌜ at + length (deltaBytes (joined (deltasFrom kinds first 0 (rowsWithin kinds low high from n (now offsets) (now targets))))) ≤ length (now out) ⌝ }
+    ensures { λ _. ⌜ now (out .exit) ≡ sets (now (out .entry)) at (deltaBytes (joined (deltasFrom kinds first 0 (rowsWithin kinds low high from n (now (offsets .entry)) (now (targets .entry)))))) ⌝ }
+    ensures { λ r. ⌜ r ≡ at + length (deltaBytes (joined (deltasFrom kinds first 0 (rowsWithin kinds low high from n (now (offsets .entry)) (now (targets .entry)))))) ⌝ }
 {
     let mut q = 0;
     let mut p = at;
@@ -156,9 +156,9 @@ pub fn store_lists(
 ) -> usize
     requires { ⌜ (fromTo 0 (length (now targets)) (now offsets) ≡ true) × (2 * (from + n) < length (now offsets)) ⌝ }
     requires { ⌜ (length (now targets) < 2 ^ 32) × (first + n ≤ end64) ⌝ }
-    requires { ⌜ at + setSize (2 * n + 1) (length (joined (rowsWithin low high from n (now offsets) (now targets)))) ≤ length (now out) ⌝ }
-    ensures { λ _. ⌜ now (out .exit) ≡ sets (now (out .entry)) at (setBytes (setOf first (rowsWithin low high from n (now (offsets .entry)) (now (targets .entry))))) ⌝ }
-    ensures { λ r. ⌜ r ≡ at + setSize (2 * n + 1) (length (joined (rowsWithin low high from n (now (offsets .entry)) (now (targets .entry))))) ⌝ }
+    requires { ⌜ at + setSize (2 * n + 1) (length (joined (rowsWithin kinds low high from n (now offsets) (now targets)))) ≤ length (now out) ⌝ }
+    ensures { λ _. ⌜ now (out .exit) ≡ sets (now (out .entry)) at (setBytes (setOf kinds first (rowsWithin kinds low high from n (now (offsets .entry)) (now (targets .entry))))) ⌝ }
+    ensures { λ r. ⌜ r ≡ at + setSize (2 * n + 1) (length (joined (rowsWithin kinds low high from n (now (offsets .entry)) (now (targets .entry))))) ⌝ }
 {
     let m = store_starts(out, at + 4, n, offsets, targets, from, low, high);
     store_u32(out, at, m as u64);

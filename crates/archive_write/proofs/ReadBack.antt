@@ -11,6 +11,7 @@ use lib.Seq.{sets, sets-eq, length-take-le}
 use mir.Syntax.{w64}
 use mir.Val.{SFits}
 use borrow.Author.Tests.{eqb-true}
+use Rattle.columns.specs.Limits.{kinds}
 use Rattle.lists.specs.Lists.{Each, flat}
 use Rattle.archive_bytes.specs.Bytes.{Wide}
 use Rattle.archive.specs.Reader.{Reader, got, recordOf}
@@ -61,13 +62,13 @@ head-back out at h s e a b c =
 -- ── 2 edges ──────────────────────────────────────────────────────────────────────────────────
 
 set-fits : (rows : ℕ) (offsets : List ℕ) (deltas : List ℤ) → length offsets ≡ 2 * rows + 1 → length deltas < 2 ^ 32 → Wide 8 offsets → Each (λ d. SFits w64 d) deltas
-    → SetFits rows (setFrom offsets deltas)
+    → SetFits kinds rows (setFrom offsets deltas)
 set-fits rows offsets deltas h k a b = record { slots = h; counted = refl; count = omega arith; offsets = a; deltas = b }
 
 module _ (out : List ℕ) (at : ℕ) (fo ro io : List ℕ) (fd rd id : List ℤ)
     (e : edgesRules (length fo) (length fd) (length ro) (length rd) (length io) (length id) (length out) at ≡ none) where
   pub edges-back : Wide 8 fo → Wide 8 ro → Wide 8 io → Each (λ d. SFits w64 d) fd → Each (λ d. SFits w64 d) rd → Each (λ d. SFits w64 d) id
-      → recordOf 2 (Parse.sets (rowsOf (length fo))) (sets out at (recordBytes 2 (setsBytes (setFrom fo fd) (setFrom ro rd) (setFrom io id)))) at
+      → recordOf 2 (Parse.sets kinds (rowsOf (length fo))) (sets out at (recordBytes 2 (setsBytes (setFrom fo fd) (setFrom ro rd) (setFrom io id)))) at
       ≡ got (record { forward = setFrom fo fd; reverse = setFrom ro rd; inbound = setFrom io id }) (at + length (recordBytes 2 (setsBytes (setFrom fo fd) (setFrom ro rd) (setFrom io id))))
   edges-back a b c f g h =
       let w = sets-whole (length fo) (length ro) (length io) (is-ok _ _ _ _ _ _ _ e) in
@@ -77,8 +78,8 @@ module _ (out : List ℕ) (at : ℕ) (fo ro io : List ℕ) (fd rd id : List ℤ)
       let p = w .forward in
       let q = w .reverse in
       let r = w .inbound in
-      there 2 (Parse.sets (rowsOf (length fo))) (omega arith)
-      (sets-read (rowsOf (length fo)) (setFrom fo fd) (setFrom ro rd) (setFrom io id) (set-fits _ fo fd (omega arith) (omega arith) a f)
+      there 2 (Parse.sets kinds (rowsOf (length fo))) (omega arith)
+      (sets-read kinds (rowsOf (length fo)) (setFrom fo fd) (setFrom ro rd) (setFrom io id) (set-fits _ fo fd (omega arith) (omega arith) a f)
       (set-fits _ ro rd (omega arith) (omega arith) b g) (set-fits _ io id (omega arith) (omega arith) c h)) out at (omega arith)
 
 -- ── what is made of columns fits ─────────────────────────────────────────────────────────────

@@ -7,6 +7,7 @@ use native.Mathlib.Omega.{arith}
 use native.Mathlib.Nat.{add-zero}
 use lib.ListN.{length, getD, length-append}
 use lib.Seq.{append-snoc, getD-append-seam}
+use Rattle.columns.specs.Limits.{Served}
 use Rattle.lists.specs.Lists.{flat, sum, upFrom, Each}
 use Rattle.lists.proofs.Flat.{flat-ext, map-flat, flat-map}
 use Rattle.cover.specs.Chains.{Link}
@@ -22,16 +23,16 @@ use Rattle.cleaning.proofs.Outputs.{output-holds, eventOf, events-back,
 use Rattle.cleaning.proofs.Unerased.{unerased, summary-unerased}
 
 -- the output files of a summary, taken
-abbrev pub again : Summary → Taken
-again S = record { sources = map sourceOf (outputs S) }
+abbrev pub again : (K : ℕ) → Summary → Taken
+again K S = record { sources = map (sourceOf K) (outputs K S) }
 
 -- the source of the output file of a group
-abbrev pub sourceAt : Summary → ℕ → Source
-sourceAt S g = sourceOf (outputOf S g)
+abbrev pub sourceAt : (K : ℕ) → Summary → ℕ → Source
+sourceAt K S g = sourceOf K (outputOf K S g)
 
-pub sources-again : (S : Summary) → again S .sources ≡ map (sourceAt S) (groupNumbers S)
+pub sources-again : (K : ℕ) (served : Served K) → (S : Summary) → again K S .sources ≡ map (sourceAt K S) (groupNumbers S)
 unfolding outputs
-sources-again S = map-map sourceOf (outputOf S) (groupNumbers S)
+sources-again K served S = map-map (sourceOf K) (outputOf K S) (groupNumbers S)
 
 -- ── groups ───────────────────────────────────────────────────────────────────────────────────
 
@@ -60,53 +61,53 @@ kept-links : (links : Option (List Link)) (rs : List Numbered) → linksIn (kept
 kept-links none rs = refl
 kept-links (some ls) rs = refl
 
-module _ (S : Summary) (good : Good S) where
-  group-back : (g : ℕ) → g < length (S .groups) → (sourceAt S g .group ≡ g) × (groupOf (sourceAt S g) ≡ groupAt S g)
+module _ (K : ℕ) (served : Served K) (S : Summary) (good : Good K S) where
+  group-back : (g : ℕ) → g < length (S .groups) → (sourceAt K S g .group ≡ g) × (groupOf (sourceAt K S g) ≡ groupAt S g)
   group-back g l =
-      let h = output-holds S good g l in
+      let h = output-holds K served S good g l in
       (h .number, λ i. record { depth = h .depth i; links = (ap linksIn (h .cover) ∙ kept-links ((groupAt S g) .links) (rowsIn S g)) i })
 
-  pub groups-again : groupsOf (again S .sources) ≡ S .groups
+  pub groups-again : groupsOf (again K S .sources) ≡ S .groups
   unfolding groupsOf
   groups-again =
-      ap (foldl addSource []) (sources-again S)
-      ∙ add-groups (sourceAt S) (S .groups) [] (S .groups) refl
-      (each-below (λ g. (sourceAt S g .group ≡ g) × (groupOf (sourceAt S g) ≡ groupAt S g)) (length (S .groups)) group-back)
+      ap (foldl addSource []) (sources-again K served S)
+      ∙ add-groups (sourceAt K S) (S .groups) [] (S .groups) refl
+      (each-below (λ g. (sourceAt K S g .group ≡ g) × (groupOf (sourceAt K S g) ≡ groupAt S g)) (length (S .groups)) group-back)
 
   -- ── events ───────────────────────────────────────────────────────────────────────────────────
 
   events-of : (t : Taken) (g : ℕ) → g < length (S .groups)
-      → eventsFrom t (sourceAt S g) 0 (sourceAt S g .rows) ≡ map (λ r. eventOf (r .row)) (rowsIn S g)
+      → eventsFrom K t (sourceAt K S g) 0 (sourceAt K S g .rows) ≡ map (λ r. eventOf (r .row)) (rowsIn S g)
   events-of t g l =
-      events-back S t (sourceAt S g) g (rowsIn S g) (output-holds S good g l)
-      (rw (rows-first S good g l) (rows-counted S good g l)) (rows-good S good g)
+      events-back K served S t (sourceAt K S g) g (rowsIn S g) (output-holds K served S good g l)
+      (rw (rows-first K served S good g l) (rows-counted K served S good g l)) (rows-good K served S good g)
 
-  pub events-again : eventsOf (again S) ≡ map eventOf (S .rows)
+  pub events-again : eventsOf K (again K S) ≡ map eventOf (S .rows)
   unfolding numbered
   events-again =
-      ap (flat (λ s. eventsFrom (again S) s 0 (s .rows))) (sources-again S)
-      ∙ flat-map (λ s. eventsFrom (again S) s 0 (s .rows)) (sourceAt S) (groupNumbers S)
-      ∙ flat-ext (λ g. eventsFrom (again S) (sourceAt S g) 0 (sourceAt S g .rows)) (λ g. map (λ r. eventOf (r .row)) (rowsIn S g)) (groupNumbers S)
-      (each-below _ (length (S .groups)) (events-of (again S)))
+      ap (flat (λ s. eventsFrom K (again K S) s 0 (s .rows))) (sources-again K served S)
+      ∙ flat-map (λ s. eventsFrom K (again K S) s 0 (s .rows)) (sourceAt K S) (groupNumbers S)
+      ∙ flat-ext (λ g. eventsFrom K (again K S) (sourceAt K S g) 0 (sourceAt K S g .rows)) (λ g. map (λ r. eventOf (r .row)) (rowsIn S g)) (groupNumbers S)
+      (each-below _ (length (S .groups)) (events-of (again K S)))
       ∙ sym (map-flat (λ r. eventOf (r .row)) (rowsIn S) (groupNumbers S))
-      ∙ ap (map (λ r. eventOf (r .row))) (all-rows S good)
+      ∙ ap (map (λ r. eventOf (r .row))) (all-rows K served S good)
       ∙ map-numbered eventOf (S .start) (S .rows)
 
   -- ── the archive ──────────────────────────────────────────────────────────────────────────────
 
   start-again : (n : ℕ) → n ≡ length (S .groups)
-      → (startOf (map (sourceAt S) (upFrom 0 n)) ≡ S .start) × (subjectOf (map (sourceAt S) (upFrom 0 n)) ≡ S .subject)
+      → (startOf (map (sourceAt K S) (upFrom 0 n)) ≡ S .start) × (subjectOf (map (sourceAt K S) (upFrom 0 n)) ≡ S .subject)
   unfolding upFrom sum sourceOf outputOf
   start-again zero e = absurd (omega (arith, good .some))
-  start-again (suc n) e = (rows-first S good 0 (omega arith) ∙ add-zero (S .start), refl)
+  start-again (suc n) e = (rows-first K served S good 0 (omega arith) ∙ add-zero (S .start), refl)
 
-  pub archive-again : archiveOf (again S) ≡ unerased S
+  pub archive-again : archiveOf K (again K S) ≡ unerased S
   unfolding archiveOf
   archive-again =
       let q = start-again (length (S .groups)) refl in
-      let start : startOf (again S .sources) ≡ S .start = ap startOf (sources-again S) ∙ q .0 in
-      let subject : subjectOf (again S .sources) ≡ S .subject = ap subjectOf (sources-again S) ∙ q .1 in
+      let start : startOf (again K S .sources) ≡ S .start = ap startOf (sources-again K served S) ∙ q .0 in
+      let subject : subjectOf (again K S .sources) ≡ S .subject = ap subjectOf (sources-again K served S) ∙ q .1 in
       λ i. record { start = start i; subject = subject i; groups = groups-again i; events = events-again i }
 
-  pub summary-again : summary (archiveOf (again S)) ≡ S
-  summary-again = ap summary archive-again ∙ summary-unerased S good
+  pub summary-again : summary K (archiveOf K (again K S)) ≡ S
+  summary-again = ap (summary K) archive-again ∙ summary-unerased K served S good

@@ -7,7 +7,7 @@ use mathlib.Core.List.{List, [], _∷_, map}
 use mathlib.Core.Option.{none}
 use Prim.Native.Nat.{ℕ, zero, suc, _+_, _-_, _*_, _≤_, _<_}
 use native.Mathlib.Omega.{arith}
-use native.Mathlib.Nat.{add-zero, zero-add}
+use native.Mathlib.Nat.{add-zero, zero-add, mul-le-mul-right, le-trans}
 use lib.ListN.{length, take, drop, take-append-drop, length-append, length-map, length-take}
 use lib.Seq.{take-add}
 use borrow.Author.Tests.{eqb-true}
@@ -16,7 +16,7 @@ use Rattle.lists.proofs.Tests.{tested}
 use Rattle.lists.proofs.Cut.{length-blocks}
 use Rattle.lists.proofs.Flat.{length-flat, length-joined, length-starts, joined-append}
 use Rattle.lists.proofs.Sums.{sum-map}
-use Rattle.columns.specs.Limits.{kinds, end64, maxRecords, maxGroups, maxNumbers, maxSubject}
+use Rattle.columns.specs.Limits.{kinds, Served, end64, maxRecords, maxGroups, maxNumbers, maxSubject}
 use Rattle.columns.specs.EdgeSet.{setOf}
 use Rattle.columns.specs.Reading.{Label}
 use Rattle.columns.specs.Building.{Built, slotRules, within}
@@ -27,7 +27,7 @@ use Rattle.archive.specs.Encode.{headBytes, edgesBytes, rowBytes, unresolvedByt
 use Rattle.archive.proofs.Lengths.{length-record, length-head, length-set, length-sets, length-counted, length-links, length-cover, wide-row, wide-unresolved, wide-root}
 use Rattle.cleaning.specs.Sheet.{Sheet, rowCount}
 use Rattle.cleaning.specs.Writing.{labelColumns}
-use Rattle.cleaning.specs.Sections.{Tidy, factsOf, place, between, sectionStart, sectionRows, sectionFirst, sectionEnd, sheetEnd, sectionTags, sectionLists, sectionLabels, sectionRoots, sectionLinks, childLists, sectionChildren, coverWhere, unerasedRow, sectionFileOf, sectionFile, sectionBytes, roomFor, maxArchiveSize}
+use Rattle.cleaning.specs.Sections.{Tidy, factsOf, place, between, sectionStart, sectionRows, sectionFirst, sectionEnd, sheetEnd, sectionTags, sectionLists, sectionLabels, sectionRoots, sectionLinks, childLists, sectionChildren, coverWhere, unerasedRow, sectionFileOf, sectionFile, sectionBytes, rowSize, roomFor, maxArchiveSize}
 use Rattle.cleaning.proofs.OutputFigures.{ranges-few, length-deltas}
 use Rattle.cleaning.proofs.Places.{place-within, place-rises}
 use Rattle.cleaning.proofs.SheetRows.{section-end}
@@ -35,8 +35,8 @@ use Rattle.cleaning.proofs.SheetLabels.{labels-uncovered, labels-count}
 use Rattle.cleaning.proofs.Within.{length-within}
 use Rattle.cleaning.proofs.SectionSets.{lists-within, lists-length, children-length, children-counted, children-few, section-built}
 
--- the room in bytes
-pub archive-room : maxArchiveSize ≡ 196448
+-- the room in bytes, for a run's own number of kinds
+pub archive-room : maxArchiveSize kinds ≡ 196448
 archive-room = refl
 
 -- ── figures that grow ────────────────────────────────────────────────────────────────────────
@@ -130,24 +130,28 @@ cover-few true ls links =
     )
 
 -- the set of some lists has an offset for each and one more, and a delta for each entry
-module _ (first : ℕ) (lists : List (List ℕ)) where
-  set-offsets : length (setOf first lists .offsets) ≡ suc (length lists)
+module _ (K : ℕ) (served : Served K) (first : ℕ) (lists : List (List ℕ)) where
+  set-offsets : length (setOf K first lists .offsets) ≡ suc (length lists)
   unfolding setOf
   set-offsets = length-starts 0 lists
 
-  set-deltas : length (setOf first lists .deltas) ≡ length (joined lists)
-  set-deltas = length-deltas first lists ∙ sym (length-joined lists)
+  set-deltas : length (setOf K first lists .deltas) ≡ length (joined lists)
+  set-deltas = length-deltas K served first lists ∙ sym (length-joined lists)
+
+-- what rows add, out of the slots that they have
+rows-room : (K n : ℕ) → n * rowSize K ≡ 24 * (K * n) + 17 * n
+rows-room K n = omega arith
 
 -- ── room for groups ──────────────────────────────────────────────────────────────────────────
 
 -- room for the groups before group g
-roomTo : Sheet → ℕ → ℕ
-roomTo s g =
+roomTo : (K : ℕ) → Sheet → ℕ → ℕ
+roomTo K s g =
     let rows = sectionStart s g in
-    roomFor g rows (place (sectionFirst s g) (map (λ u. u .child) (s .unresolved))) (place rows (map (λ r. r .row) (s .roots))) rows
-    (place g (map (λ l. l .group) (s .links))) (entriesTo (s .lists) (kinds * rows) + entriesTo (childLists s) (kinds * rows))
+    roomFor K g rows (place (sectionFirst s g) (map (λ u. u .child) (s .unresolved))) (place rows (map (λ r. r .row) (s .roots))) rows
+    (place g (map (λ l. l .group) (s .links))) (entriesTo (s .lists) (K * rows) + entriesTo (childLists K s) (K * rows))
 
-module _ (s : Sheet) (t : Tidy s) where
+module _ (K : ℕ) (served : Served K) (s : Sheet) (t : Tidy K s) where
   module _ (g : ℕ) where
     tags-few : length (map unerasedRow (sectionTags s g)) ≤ sectionRows s g
     unfolding part
@@ -155,77 +159,83 @@ module _ (s : Sheet) (t : Tidy s) where
 
     labels-few : length (sectionLabels s g) ≤ sectionRows s g
     labels-few = elim (tested ((factsOf s g) .covered)) [
-      | inl c ↦ omega (arith, labels-count s t g c)
-      | inr c ↦ rw (labels-uncovered s t g c) (omega arith)
+      | inl c ↦ omega (arith, labels-count K served s t g c)
+      | inr c ↦ rw (labels-uncovered K served s t g c) (omega arith)
     ]
 
     roots-step : place (sectionStart s g) (map (λ q. q .row) (s .roots)) + length (sectionRoots s g) ≤ place (sectionStart s (suc g)) (map (λ q. q .row) (s .roots))
-    roots-step = rw length-map (between-step (λ q. q .row) (s .roots) (sectionStart s g) (sectionStart s (suc g)) (omega (arith, section-end s t g)))
+    roots-step = rw length-map (between-step (λ q. q .row) (s .roots) (sectionStart s g) (sectionStart s (suc g)) (omega (arith, section-end K served s t g)))
 
     links-step : place g (map (λ l. l .group) (s .links)) + length (sectionLinks s g) ≤ place (suc g) (map (λ l. l .group) (s .links))
     links-step = rw length-map (between-step (λ l. l .group) (s .links) g (suc g) (omega arith))
 
     -- the entries of the lists of a group's rows
     entries-section : (ls : List (List ℕ))
-        → entriesTo ls (kinds * sectionStart s g) + length (joined (part (kinds * sectionStart s g) (kinds * sectionRows s g) ls)) ≡ entriesTo ls (kinds * sectionStart s (suc g))
+        → entriesTo ls (K * sectionStart s g) + length (joined (part (K * sectionStart s g) (K * sectionRows s g) ls)) ≡ entriesTo ls (K * sectionStart s (suc g))
     entries-section ls =
-        entries-step ls (kinds * sectionStart s g) (kinds * sectionRows s g)
-        ∙ ap (entriesTo ls) {x = kinds * sectionStart s g + kinds * sectionRows s g} {y = kinds * sectionStart s (suc g)} (omega (arith, section-end s t g))
+        entries-step ls (K * sectionStart s g) (K * sectionRows s g)
+        ∙ ap (entriesTo ls) {x = K * sectionStart s g + K * sectionRows s g} {y = K * sectionStart s (suc g)} (omega (arith, ap (λ x. K * x) (section-end K served s t g)))
 
-  module _ (e : slotRules (s .start) 0 (s .lists) ≡ none) (r : s .start + rowCount s < end64) (subject : length (s .subject) ≤ maxSubject) where
+  module _ (e : slotRules K (s .start) 0 (s .lists) ≡ none) (r : s .start + rowCount s < end64) (subject : length (s .subject) ≤ maxSubject) where
     -- a group's file is no longer than what its group adds
-    file-step : (g : ℕ) → roomTo s g + length (fileBytes (sectionFile s g)) ≤ roomTo s (suc g)
+    file-step : (g : ℕ) → roomTo K s g + length (fileBytes (sectionFile K s g)) ≤ roomTo K s (suc g)
     unfolding roomTo sectionFile
     file-step g =
         let first = sectionFirst s g in
-        let forward = within 0 (sheetEnd s) (sectionLists s g) in
-        let reverse = within 0 (sectionEnd s g) (sectionChildren s g) in
-        let inbound = within (sectionEnd s g) (sheetEnd s) (sectionChildren s g) in
-        let built : Built = record { forward = setOf first forward; reverse = setOf first reverse; inbound = setOf first inbound } in
-        rw (section-built s t g e r)
+        let forward = within 0 (sheetEnd s) (sectionLists K s g) in
+        let reverse = within 0 (sectionEnd s g) (sectionChildren K s g) in
+        let inbound = within (sectionEnd s g) (sheetEnd s) (sectionChildren K s g) in
+        let built : Built = record { forward = setOf K first forward; reverse = setOf K first reverse; inbound = setOf K first inbound } in
+        rw (section-built K served s t g e r)
         (omega (
           arith,
           length-file (sectionFileOf s g built),
-          set-offsets first forward,
-          set-offsets first reverse,
-          set-offsets first inbound,
-          set-deltas first forward,
-          set-deltas first reverse,
-          set-deltas first inbound,
-          length-within 0 (sheetEnd s) (sectionLists s g),
-          length-within 0 (sectionEnd s g) (sectionChildren s g),
-          length-within (sectionEnd s g) (sheetEnd s) (sectionChildren s g),
-          section-end s t g,
-          lists-length s t g,
-          children-length s t g,
-          ap (λ ls. length (joined ls)) (lists-within s t g e r),
-          children-counted s t g e r,
+          set-offsets K served first forward,
+          set-offsets K served first reverse,
+          set-offsets K served first inbound,
+          set-deltas K served first forward,
+          set-deltas K served first reverse,
+          set-deltas K served first inbound,
+          length-within K served 0 (sheetEnd s) (sectionLists K s g),
+          length-within K served 0 (sectionEnd s g) (sectionChildren K s g),
+          length-within K served (sectionEnd s g) (sheetEnd s) (sectionChildren K s g),
+          section-end K served s t g,
+          ap (λ x. x * rowSize K) (section-end K served s t g),
+          rows-room K (sectionRows s g),
+          lists-length K served s t g,
+          children-length K served s t g,
+          ap (λ ls. length (joined ls)) (lists-within K served s t g e r),
+          children-counted K served s t g e r,
           entries-section g (s .lists),
-          entries-section g (childLists s),
+          entries-section g (childLists K s),
           tags-few g,
           labels-few g,
           cover-few ((factsOf s g) .covered) (sectionLabels s g) (sectionLinks s g),
-          between-step (λ u. u .child) (s .unresolved) (sectionFirst s g) (sectionEnd s g) (omega (arith, section-end s t g)),
+          between-step (λ u. u .child) (s .unresolved) (sectionFirst s g) (sectionEnd s g) (omega (arith, section-end K served s t g)),
           roots-step g,
           links-step g,
         ))
 
     -- the files of all groups are no longer than room for all
-    files-few : (n : ℕ) → length (encode (map (sectionFile s) (upFrom 0 n))) ≤ roomTo s n
+    files-few : (n : ℕ) → length (encode (map (sectionFile K s) (upFrom 0 n))) ≤ roomTo K s n
     unfolding encode
     files-few n =
-        let bytes : ℕ → ℕ = λ g. length (fileBytes (sectionFile s g)) in
+        let bytes : ℕ → ℕ = λ g. length (fileBytes (sectionFile K s g)) in
         omega (
           arith,
-          length-flat fileBytes (map (sectionFile s) (upFrom 0 n)),
-          sum-map (λ f. length (fileBytes f)) (sectionFile s) (upFrom 0 n),
-          steps-sum (roomTo s) bytes file-step 0 n,
-          ap (roomTo s) (zero-add n),
+          length-flat fileBytes (map (sectionFile K s) (upFrom 0 n)),
+          sum-map (λ f. length (fileBytes f)) (sectionFile K s) (upFrom 0 n),
+          steps-sum (roomTo K s) bytes file-step 0 n,
+          ap (roomTo K s) (zero-add n),
         )
+
+    before-few : (n : ℕ) → sectionStart s n ≤ rowCount s
+    unfolding sectionStart
+    before-few n = omega (arith, place-within n (s .rowGroups), eqb-true (length (s .rowGroups)) (rowCount s) (t .eachGroup))
 
     -- within the limits no archive is longer than its room
     pub archive-few : length (s .groups) ≤ maxGroups → rowCount s ≤ maxRecords → length (joined (s .lists)) ≤ maxNumbers → length (s .unresolved) ≤ maxRecords
-        → length (s .roots) ≤ maxRecords → length (s .links) ≤ maxRecords → length (sectionBytes s) ≤ maxArchiveSize
+        → length (s .roots) ≤ maxRecords → length (s .links) ≤ maxRecords → length (sectionBytes K s) ≤ maxArchiveSize K
     unfolding sectionBytes roomTo sectionStart
     archive-few groups rows entries unresolved roots links =
         let n = length (s .groups) in
@@ -234,11 +244,12 @@ module _ (s : Sheet) (t : Tidy s) where
           arith,
           files-few n,
           place-within n (s .rowGroups),
+          mul-le-mul-right (rowSize K) (le-trans (before-few n) rows),
           eqb-true (length (s .rowGroups)) (rowCount s) (t .eachGroup),
           place-few (λ u. u .child) (s .unresolved) (sectionFirst s n),
           place-few (λ q. q .row) (s .roots) before,
           place-few (λ l. l .group) (s .links) n,
-          entries-few (s .lists) (kinds * before),
-          entries-few (childLists s) (kinds * before),
-          children-few s t,
+          entries-few (s .lists) (K * before),
+          entries-few (childLists K s) (K * before),
+          children-few K served s t,
         )

@@ -9,6 +9,7 @@ use native.Mathlib.Nat.{not-suc-le-zero, le-of-suc-le-suc, add-zero, zero-add, a
 use borrow.Author.Tests.{eqb-true, eqb-false, ne-eqb, leb-true}
 use lib.Dec.{leb, eqb}
 use lib.ListN.{length}
+use Rattle.columns.specs.Limits.{Served}
 use Rattle.lists.specs.Lists.{flat, filter, sum, upFrom, Each}
 use Rattle.lists.specs.Order.{levelAbove, notFalling}
 use Rattle.lists.proofs.Tests.{tested, both}
@@ -118,23 +119,23 @@ counted-at f n g (suc k) (suc j) h l =
     rw (e, d) at q
 
 -- what holds of a row of group g
-pub record GoodRow (S : Summary) (g : ℕ) (r : Numbered) : Type 0 where
+pub record GoodRow (K : ℕ) (S : Summary) (g : ℕ) (r : Numbered) : Type 0 where
   pub group : r .row .body .group ≡ g
-  pub lists : GoodLists (r .number) (r .row .parents)
+  pub lists : GoodLists K (r .number) (r .row .parents)
   pub body : GoodBody (S .groups) (r .row .body)
 
-module _ (S : Summary) (good : Good S) where
-  good-rows : Each (λ r. GoodLists (r .number) (r .row .parents) × GoodBody (S .groups) (r .row .body)) (numbered S)
+module _ (K : ℕ) (served : Served K) (S : Summary) (good : Good K S) where
+  good-rows : Each (λ r. GoodLists K (r .number) (r .row .parents) × GoodBody (S .groups) (r .row .body)) (numbered S)
   unfolding numbered
   good-rows =
-      each-both (λ r. GoodLists (r .number) (r .row .parents)) (λ r. GoodBody (S .groups) (r .row .body)) (numbered S)
-      (lists-numbered (S .start) (S .rows) (good .lists)) (each-numbered (λ r. GoodBody (S .groups) (r .body)) (S .start) (S .rows) (good .bodies))
+      each-both (λ r. GoodLists K (r .number) (r .row .parents)) (λ r. GoodBody (S .groups) (r .row .body)) (numbered S)
+      (lists-numbered K served (S .start) (S .rows) (good .lists)) (each-numbered (λ r. GoodBody (S .groups) (r .body)) (S .start) (S .rows) (good .bodies))
 
   pub all-rows : flat (rowsIn S) (upFrom 0 (length (S .groups))) ≡ numbered S
   unfolding rowsIn numbered notFalling
   all-rows =
       blocks-all (length (S .groups)) 0 (numbered S) (level-numbered 0 (S .start) (S .rows) (good .order))
-      (each-imp (λ r. GoodLists (r .number) (r .row .parents) × GoodBody (S .groups) (r .row .body)) (λ r. groupOf r < 0 + length (S .groups)) (numbered S)
+      (each-imp (λ r. GoodLists K (r .number) (r .row .parents) × GoodBody (S .groups) (r .row .body)) (λ r. groupOf r < 0 + length (S .groups)) (numbered S)
       (λ r h. omega (arith, h .1 .group)) good-rows)
 
   pub rows-counted : (g : ℕ) → g < length (S .groups) → Counted (S .start + rowsBefore S g) (rowsIn S g)
@@ -169,18 +170,18 @@ module _ (S : Summary) (good : Good S) where
   pub before-within : (g : ℕ) → g ≤ length (S .groups) → rowsBefore S g ≤ length (S .rows)
   before-within g l = omega (arith, before-rises g (length (S .groups)) l, before-all)
 
-  pub rows-good : (g : ℕ) → Each (GoodRow S g) (rowsIn S g)
+  pub rows-good : (g : ℕ) → Each (GoodRow K S g) (rowsIn S g)
   unfolding rowsIn
   rows-good g =
-      each-imp (λ r. (groupIs g r ≡ true) × (GoodLists (r .number) (r .row .parents) × GoodBody (S .groups) (r .row .body))) (GoodRow S g) (rowsIn S g)
+      each-imp (λ r. (groupIs g r ≡ true) × (GoodLists K (r .number) (r .row .parents) × GoodBody (S .groups) (r .row .body))) (GoodRow K S g) (rowsIn S g)
       (λ r h. record { group = eqb-true (groupOf r) g (h .0); lists = h .1 .0; body = h .1 .1 })
-      (each-both (λ r. groupIs g r ≡ true) (λ r. GoodLists (r .number) (r .row .parents) × GoodBody (S .groups) (r .row .body)) (rowsIn S g)
+      (each-both (λ r. groupIs g r ≡ true) (λ r. GoodLists K (r .number) (r .row .parents) × GoodBody (S .groups) (r .row .body)) (rowsIn S g)
       (filter-passes (groupIs g) (numbered S)) (each-filter (groupIs g) _ (numbered S) good-rows))
 
   -- with its number in the group's block
   pub rows-within : (g : ℕ) → g < length (S .groups)
-      → Each (λ r. GoodRow S g r × ((S .start + rowsBefore S g ≤ r .number) × (r .number < S .start + rowsBefore S (suc g)))) (rowsIn S g)
+      → Each (λ r. GoodRow K S g r × ((S .start + rowsBefore S g ≤ r .number) × (r .number < S .start + rowsBefore S (suc g)))) (rowsIn S g)
   rows-within g l =
       rw (before-next g, ← add-assoc (S .start) (rowsBefore S g) (length (rowsIn S g)))
-      (each-both (GoodRow S g) (λ r. (S .start + rowsBefore S g ≤ r .number) × (r .number < S .start + rowsBefore S g + length (rowsIn S g))) (rowsIn S g)
+      (each-both (GoodRow K S g) (λ r. (S .start + rowsBefore S g ≤ r .number) × (r .number < S .start + rowsBefore S g + length (rowsIn S g))) (rowsIn S g)
       (rows-good g) (counted-within (S .start + rowsBefore S g) (rowsIn S g) (rows-counted g l)))

@@ -13,7 +13,7 @@ use lib.ListN.{length, getD, getElem?, length-map, List·getD-map}
 use Rattle.lists.specs.Lists.{flat, filter, Each}
 use Rattle.lists.proofs.Tests.{tested}
 use Rattle.lists.proofs.Each.{each-flat, each-map, each-imp, each-both}
-use Rattle.columns.specs.Limits.{kinds}
+use Rattle.columns.specs.Limits.{Served, referenceKinds}
 use Rattle.columns.specs.Reading.{Label}
 use Rattle.cover.specs.Chains.{Link, sortLinks}
 use Rattle.archive.specs.File.{Row, Unresolved, Root}
@@ -48,17 +48,17 @@ good-root [] i h = tt
 good-root (r ∷ rs) i h = elim (tested (eqb (r .row) i)) [ inl e ↦ rw e (h .0) | inr e ↦ rw e (good-root rs i (h .1)) ]
 
 abbrev GoodReference : Reference → Type 0
-GoodReference u = (u .kind < kinds) × (u .handle < 2 ^ 32)
+GoodReference u = (u .kind < referenceKinds) × (u .handle < 2 ^ 32)
 
-good-references : (us : List Unresolved) (n : ℕ) → Each (λ u. (u .kind < kinds) × (u .handle < 2 ^ 32)) us → Each GoodReference (referencesIn us n)
+good-references : (us : List Unresolved) (n : ℕ) → Each (λ u. (u .kind < referenceKinds) × (u .handle < 2 ^ 32)) us → Each GoodReference (referencesIn us n)
 unfolding referencesIn
 good-references us n h =
     each-map GoodReference (λ u. record { kind = u .kind; handle = u .handle }) (filter (λ u. eqb (u .child) n) us)
-    (each-filter (λ u. eqb (u .child) n) (λ u. (u .kind < kinds) × (u .handle < 2 ^ 32)) us h)
+    (each-filter (λ u. eqb (u .child) n) (λ u. (u .kind < referenceKinds) × (u .handle < 2 ^ 32)) us h)
 
 -- ── bodies ───────────────────────────────────────────────────────────────────────────────────
 
-module _ (t : Taken) (gs : List Group) (s : Source) (c : Covered gs s) (h : Sound s) (f : Fitting s) where
+module _ (K : ℕ) (served : Served K) (t : Taken) (gs : List Group) (s : Source) (c : Covered gs s) (h : Sound K s) (f : Fitting s) where
   good-body : (i : ℕ) (row : Row) → i < length (s .rows) → row .tag < 2 ^ 64 → GoodBody (map groupSummary gs) (bodyOf s i row)
   unfolding bodyOf
   good-body i row l g = record {
@@ -68,22 +68,22 @@ module _ (t : Taken) (gs : List Group) (s : Source) (c : Covered gs s) (h : Soun
         (good-label ((getD gs (s .group) noGroup) .links) (s .cover) (length (s .rows)) i (c .1) (f .cover) l);
     root = good-root (s .roots) i (f .handles);
     unresolved = good-references (s .unresolved) (s .first + i)
-        (each-imp (λ u. RecordIn s u × (u .handle < 2 ^ 32)) (λ u. (u .kind < kinds) × (u .handle < 2 ^ 32)) (s .unresolved) (λ u b. (b .0 .2, b .1))
+        (each-imp (λ u. RecordIn s u × (u .handle < 2 ^ 32)) (λ u. (u .kind < referenceKinds) × (u .handle < 2 ^ 32)) (s .unresolved) (λ u b. (b .0 .2, b .1))
         (each-both (RecordIn s) (λ u. u .handle < 2 ^ 32) (s .unresolved) (h .unresolved) (f .references)));
   }
 
   bodies-from : (i : ℕ) (rows : List Row) → i + length rows ≡ length (s .rows) → Each (λ r. r .tag < 2 ^ 64) rows
-      → Each (λ e. GoodBody (map groupSummary gs) (e .body)) (eventsFrom t s i rows)
+      → Each (λ e. GoodBody (map groupSummary gs) (e .body)) (eventsFrom K t s i rows)
   unfolding eventsFrom
   bodies-from i [] e g = tt
   bodies-from i (row ∷ rows) e g = (good-body i row (omega arith) (g .0), bodies-from (suc i) rows (omega arith) (g .1))
 
-  bodies-in : Each (λ e. GoodBody (map groupSummary gs) (e .body)) (eventsIn t s)
+  bodies-in : Each (λ e. GoodBody (map groupSummary gs) (e .body)) (eventsIn K t s)
   bodies-in = bodies-from 0 (s .rows) (omega arith) (f .tags)
 
-pub good-bodies : (t : Taken) (gs : List Group) (ss : List Source) → Each (λ s. Covered gs s × (Sound s × Fitting s)) ss
-    → Each (λ e. GoodBody (map groupSummary gs) (e .body)) (flat (eventsIn t) ss)
-good-bodies t gs ss h =
-    each-flat (λ e. GoodBody (map groupSummary gs) (e .body)) (eventsIn t) ss
-    (each-imp (λ s. Covered gs s × (Sound s × Fitting s)) (λ s. Each (λ e. GoodBody (map groupSummary gs) (e .body)) (eventsIn t s)) ss
-    (λ s b. bodies-in t gs s (b .0) (b .1 .0) (b .1 .1)) h)
+pub good-bodies : (K : ℕ) (served : Served K) → (t : Taken) (gs : List Group) (ss : List Source) → Each (λ s. Covered gs s × (Sound K s × Fitting s)) ss
+    → Each (λ e. GoodBody (map groupSummary gs) (e .body)) (flat (eventsIn K t) ss)
+good-bodies K served t gs ss h =
+    each-flat (λ e. GoodBody (map groupSummary gs) (e .body)) (eventsIn K t) ss
+    (each-imp (λ s. Covered gs s × (Sound K s × Fitting s)) (λ s. Each (λ e. GoodBody (map groupSummary gs) (e .body)) (eventsIn K t s)) ss
+    (λ s b. bodies-in K served t gs s (b .0) (b .1 .0) (b .1 .1)) h)

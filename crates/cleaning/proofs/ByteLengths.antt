@@ -6,7 +6,7 @@ use native.Mathlib.Omega.{arith}
 use lib.ListN.{length, length-append}
 use Rattle.lists.specs.Lists.{flat}
 use Rattle.lists.proofs.Cut.{length-blocks}
-use Rattle.columns.specs.Limits.{kinds, maxRecords, maxNumbers}
+use Rattle.columns.specs.Limits.{Served, maxRecords, maxNumbers}
 use Rattle.columns.specs.EdgeSet.{EdgeSet}
 use Rattle.cover.specs.Cover.{LinkColumns}
 use Rattle.archive.specs.File.{Row, Unresolved, Root, CoverColumns, File}
@@ -29,12 +29,12 @@ short-roots rs l = omega (arith, length-counted rootBytes 16 wide-root rs)
 -- ── edges ────────────────────────────────────────────────────────────────────────────────────
 
 -- a set of few rows and few entries
-abbrev pub FewEdges : EdgeSet → Type 0
-FewEdges s = (length (s .offsets) ≤ kinds * maxRecords + 1) × (length (s .deltas) ≤ maxNumbers)
+abbrev pub FewEdges : (K : ℕ) → EdgeSet → Type 0
+FewEdges K s = (length (s .offsets) ≤ K * maxRecords + 1) × (length (s .deltas) ≤ maxNumbers)
 
-pub short-edges : (f : File) → FewEdges (f .forward) → FewEdges (f .reverse) → FewEdges (f .inbound) → Short (edgesBytes f)
+pub short-edges : (K : ℕ) (served : Served K) → (f : File) → FewEdges K (f .forward) → FewEdges K (f .reverse) → FewEdges K (f .inbound) → Short (edgesBytes f)
 unfolding edgesBytes
-short-edges f a b c =
+short-edges K served f a b c =
     simp length-append (omega (arith, length-set (f .forward), length-set (f .reverse), length-set (f .inbound)))
 
 -- ── covers ───────────────────────────────────────────────────────────────────────────────────

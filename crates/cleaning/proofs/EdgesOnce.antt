@@ -8,6 +8,7 @@ use native.Mathlib.Omega.{arith}
 use lib.Dec.{eqb}
 use lib.ListN.{length, getD}
 use borrow.Author.Tests.{eqb-true, eqb-false, ne-eqb, not-true}
+use Rattle.columns.specs.Limits.{Served}
 use Rattle.lists.specs.Lists.{flat, all, filter, mem, distinct, Each}
 use Rattle.lists.specs.Order.{sort}
 use Rattle.lists.proofs.Tests.{tested, both, all-of}
@@ -156,7 +157,7 @@ distinct-flat p (r ∷ rs) h = elim (tested (p r)) [
         (each-imp (λ s. r .number < s .number) (λ s. Each (λ x. r .number ≡ x → ⊥) (only (p s) (s .number))) rs
         (λ s b. elim (tested (p s)) [ inl e ↦ rw e ((λ c. omega arith), tt) | inr e ↦ rw e tt ]) (h .0))
 
-module _ (S : Summary) (good : Good S) (g first end : ℕ) where
+module _ (K : ℕ) (served : Served K) (S : Summary) (good : Good K S) (g first end : ℕ) where
   children-distinct : (n k : ℕ) → distinct (childrenOf n k (edgesOf S g first end)) ≡ true
   unfolding edgesOf numbered
   children-distinct n k =
@@ -167,18 +168,18 @@ module _ (S : Summary) (good : Good S) (g first end : ℕ) where
         children-flat n k f rs,
         flat-ext (λ r. childrenOf n k (f r)) (λ r. only (names r) (r .number)) rs
             (each-filter (λ r. not (groupIs g r)) (λ r. childrenOf n k (f r) ≡ only (names r) (r .number)) (numbered S)
-            (each-imp (λ r. GoodLists (r .number) (r .row .parents)) (λ r. childrenOf n k (f r) ≡ only (names r) (r .number)) (numbered S)
-            (λ r b. one-child n k first end (r .number) (r .row .parents) (b .once)) (lists-numbered (S .start) (S .rows) (good .lists)))),
+            (each-imp (λ r. GoodLists K (r .number) (r .row .parents)) (λ r. childrenOf n k (f r) ≡ only (names r) (r .number)) (numbered S)
+            (λ r b. one-child n k first end (r .number) (r .row .parents) (b .once)) (lists-numbered K served (S .start) (S .rows) (good .lists)))),
       )
       (distinct-flat names rs
       (risen-filter (λ r. not (groupIs g r)) (numbered S) (risen-counted (S .start) (numbered S) (numbered-counted (S .start) (S .rows)))))
 
-  pub edges-once : (low rows : ℕ) → all distinct (inboundLists low rows (inboundColumns (edgesOf S g first end))) ≡ true
+  pub edges-once : (low rows : ℕ) → all distinct (inboundLists K low rows (inboundColumns (edgesOf S g first end))) ≡ true
   unfolding inboundLists inboundColumns
   edges-once low rows =
       let es : List Edge = edgesOf S g first end in
       let f : ℕ → ℕ → List ℕ = λ n k. sort (childrenTo n k (map (λ e. e .child) es) (map (λ e. e .parent) es) (map (λ e. e .kind) es)) in
-      all-of distinct (inboundLists low rows (inboundColumns es))
-      (each-table f low rows (λ l. distinct l ≡ true)
+      all-of distinct (inboundLists K low rows (inboundColumns es))
+      (each-table K f low rows (λ l. distinct l ≡ true)
       (λ n k. distinct-sort (childrenTo n k (map (λ e. e .child) es) (map (λ e. e .parent) es) (map (λ e. e .kind) es))
       ∙ ap distinct (children-to n k es) ∙ children-distinct n k))

@@ -14,7 +14,7 @@ use Rattle.lists.specs.Order.{levelAbove, notFalling}
 use Rattle.lists.proofs.Tests.{tested}
 use Rattle.lists.proofs.Each.{each-all}
 use Rattle.lists.proofs.Flat.{length-flat}
-use Rattle.columns.specs.Limits.{end64}
+use Rattle.columns.specs.Limits.{Served, end64}
 use Rattle.archive.specs.File.{Row, Unresolved}
 use Rattle.cleaning.specs.Source.{Source, endOf}
 use Rattle.cleaning.specs.Archive.{Taken, Event, Reference, referencesIn, bodyOf, eventsFrom, startOf}
@@ -24,22 +24,22 @@ use Rattle.cleaning.proofs.Taken.{FollowsLast, Followed}
 use Rattle.cleaning.proofs.Events.{eventsIn, length-eventsIn}
 use Rattle.cleaning.proofs.Kept.{groupNumber}
 
-module _ (t : Taken) where
+module _ (K : ℕ) (served : Served K) (t : Taken) where
   -- ── how many events ──────────────────────────────────────────────────────────────────────────
 
-  pub length-events : (ss : List Source) → length (flat (eventsIn t) ss) ≡ sum (λ s. length (s .rows)) ss
-  length-events ss = rw (length-flat (eventsIn t) ss)
-      (sum-ext (λ s. length (eventsIn t s)) (λ s. length (s .rows)) ss (each-all (λ s. length (eventsIn t s) ≡ length (s .rows)) (length-eventsIn t) ss))
+  pub length-events : (ss : List Source) → length (flat (eventsIn K t) ss) ≡ sum (λ s. length (s .rows)) ss
+  length-events ss = rw (length-flat (eventsIn K t) ss)
+      (sum-ext (λ s. length (eventsIn K t s)) (λ s. length (s .rows)) ss (each-all (λ s. length (eventsIn K t s) ≡ length (s .rows)) (length-eventsIn K t) ss))
 
-  ends-after : (before : Source) (ss : List Source) → Followed (some before) ss → endOf before < end64 → endOf before + length (flat (eventsIn t) ss) < end64
+  ends-after : (before : Source) (ss : List Source) → Followed K (some before) ss → endOf before < end64 → endOf before + length (flat (eventsIn K t) ss) < end64
   ends-after before [] f l = omega arith
   ends-after before (s ∷ ss) f l =
-      omega (arith, ends-after s ss (f .2) (f .0 .numbers), f .1 .first, length-append (eventsIn t s) (flat (eventsIn t) ss), length-eventsIn t s)
+      omega (arith, ends-after s ss (f .2) (f .0 .numbers), f .1 .first, length-append (eventsIn K t s) (flat (eventsIn K t) ss), length-eventsIn K t s)
 
-  pub ends-before : (ss : List Source) → Followed none ss → startOf ss + length (flat (eventsIn t) ss) < end64
+  pub ends-before : (ss : List Source) → Followed K none ss → startOf ss + length (flat (eventsIn K t) ss) < end64
   ends-before [] f = omega arith
   ends-before (s ∷ ss) f =
-      omega (arith, ends-after s ss (f .2) (f .0 .numbers), length-append (eventsIn t s) (flat (eventsIn t) ss), length-eventsIn t s)
+      omega (arith, ends-after s ss (f .2) (f .0 .numbers), length-append (eventsIn K t s) (flat (eventsIn K t) ss), length-eventsIn K t s)
 
   -- ── groups do not fall ───────────────────────────────────────────────────────────────────────
 
@@ -50,20 +50,20 @@ module _ (t : Taken) where
   level-block g low [] fs h l a = level-lower low g (map groupNumber fs) l a
   level-block g low (e ∷ es) fs h l a = rw (h .0, le-leb low g l) (level-block g g es fs (h .1) (omega arith) a)
 
-  of-group : (s : Source) (i : ℕ) (rows : List Row) → Each (λ e. groupNumber e ≡ s .group) (eventsFrom t s i rows)
+  of-group : (s : Source) (i : ℕ) (rows : List Row) → Each (λ e. groupNumber e ≡ s .group) (eventsFrom K t s i rows)
   unfolding eventsFrom bodyOf
   of-group s i [] = tt
   of-group s i (row ∷ rows) = (refl, of-group s (suc i) rows)
 
-  groups-from : (low : ℕ) (before : Option Source) (ss : List Source) → ((s : Source) → FollowsLast before s → low ≤ s .group) → Followed before ss
-      → levelAbove low (map groupNumber (flat (eventsIn t) ss)) ≡ true
+  groups-from : (low : ℕ) (before : Option Source) (ss : List Source) → ((s : Source) → FollowsLast before s → low ≤ s .group) → Followed K before ss
+      → levelAbove low (map groupNumber (flat (eventsIn K t) ss)) ≡ true
   unfolding levelAbove
   groups-from low before [] b f = refl
   groups-from low before (s ∷ ss) b f =
-      level-block (s .group) low (eventsIn t s) (flat (eventsIn t) ss) (of-group s 0 (s .rows)) (b s (f .1))
+      level-block (s .group) low (eventsIn K t s) (flat (eventsIn K t) ss) (of-group s 0 (s .rows)) (b s (f .1))
       (groups-from (s .group) (some s) ss (λ r g. elim (g .group) [ inl e ↦ omega arith | inr e ↦ omega arith ]) (f .2))
 
-  pub groups-level : (ss : List Source) → Followed none ss → notFalling (map groupNumber (flat (eventsIn t) ss)) ≡ true
+  pub groups-level : (ss : List Source) → Followed K none ss → notFalling (map groupNumber (flat (eventsIn K t) ss)) ≡ true
   unfolding notFalling
   groups-level ss f = groups-from 0 none ss (λ s g. omega arith) f
 
@@ -114,18 +114,18 @@ length-references : (us : List Unresolved) (n : ℕ) → length (referencesIn us
 unfolding referencesIn
 length-references us n = length-map {B = Reference} (filter (λ u. eqb (u .child) n) us) (λ u. record { kind = u .kind; handle = u .handle })
 
-references-from : (t : Taken) (s : Source) (i : ℕ) (rows : List Row)
-    → sum (λ e. length (e .body .unresolved)) (eventsFrom t s i rows) ≡ sum (recordsOf (s .unresolved)) (upFrom (s .first + i) (length rows))
+references-from : (K : ℕ) (served : Served K) → (t : Taken) (s : Source) (i : ℕ) (rows : List Row)
+    → sum (λ e. length (e .body .unresolved)) (eventsFrom K t s i rows) ≡ sum (recordsOf (s .unresolved)) (upFrom (s .first + i) (length rows))
 unfolding sum upFrom eventsFrom bodyOf
-references-from t s i [] = refl
-references-from t s i (row ∷ rows) =
+references-from K served t s i [] = refl
+references-from K served t s i (row ∷ rows) =
     let n : s .first + suc i ≡ suc (s .first + i) = omega arith in
-    rw (length-references (s .unresolved) (s .first + i), references-from t s (suc i) rows, n)
+    rw (length-references (s .unresolved) (s .first + i), references-from K served t s (suc i) rows, n)
 
-pub few-references : (t : Taken) (ss : List Source) → sum (λ e. length (e .body .unresolved)) (flat (eventsIn t) ss) ≤ sum (λ s. length (s .unresolved)) ss
-few-references t ss =
-    rw (sum-flat (λ e. length (e .body .unresolved)) (eventsIn t) ss)
-    (sum-le (λ s. sum (λ e. length (e .body .unresolved)) (eventsIn t s)) (λ s. length (s .unresolved)) ss
-    (each-all (λ s. sum (λ e. length (e .body .unresolved)) (eventsIn t s) ≤ length (s .unresolved))
-    (λ s. rw (references-from t s 0 (s .rows))
+pub few-references : (K : ℕ) (served : Served K) → (t : Taken) (ss : List Source) → sum (λ e. length (e .body .unresolved)) (flat (eventsIn K t) ss) ≤ sum (λ s. length (s .unresolved)) ss
+few-references K served t ss =
+    rw (sum-flat (λ e. length (e .body .unresolved)) (eventsIn K t) ss)
+    (sum-le (λ s. sum (λ e. length (e .body .unresolved)) (eventsIn K t s)) (λ s. length (s .unresolved)) ss
+    (each-all (λ s. sum (λ e. length (e .body .unresolved)) (eventsIn K t s) ≤ length (s .unresolved))
+    (λ s. rw (references-from K served t s 0 (s .rows))
     (few-records (s .unresolved) (upFrom (s .first + 0) (length (s .rows))) (λ c. one-child c (s .first + 0) (length (s .rows))))) ss))

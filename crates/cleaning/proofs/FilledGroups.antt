@@ -9,6 +9,7 @@ use native.Mathlib.Nat.{not-suc-le-zero, add-zero, zero-add}
 use lib.Dec.{leb, ltb, eqb}
 use lib.ListN.{length, getD}
 use borrow.Author.Tests.{ltb-true, ltb-false, leb-true, eqb-true, eqb-false, ne-eqb, eq-eqb}
+use Rattle.columns.specs.Limits.{Served}
 use Rattle.lists.specs.Lists.{any, all, mem, upFrom, Each}
 use Rattle.lists.specs.Order.{levelAbove, notFalling}
 use Rattle.lists.proofs.Tests.{tested, both, all-each}
@@ -91,30 +92,30 @@ module _ (n : ℕ) where
 
 -- ── what is held ─────────────────────────────────────────────────────────────────────────────
 
-module _ (h : Held) (r : Rows h) (t : Tidy (h .sheet)) where
-  survives-held : (g : ℕ) → any (survivesIn g) ((archiveHeld h) .events) ≡ mem g (keep (h .erased) (h .sheet .rowGroups))
+module _ (K : ℕ) (served : Served K) (h : Held) (r : Rows K h) (t : Tidy K (h .sheet)) where
+  survives-held : (g : ℕ) → any (survivesIn g) ((archiveHeld K h) .events) ≡ mem g (keep (h .erased) (h .sheet .rowGroups))
   unfolding archiveHeld eventAt bodyAt survivesIn
   survives-held g =
-      any-map (survivesIn g) (eventAt h) (upFrom 0 (rowCount (h .sheet)))
-      ∙ ap (λ n. any (λ i. survivesIn g (eventAt h i)) (upFrom 0 n)) (r .tags)
-      ∙ any-kept g (λ i. survivesIn g (eventAt h i)) 0 (h .erased) (h .sheet .rowGroups) (r .groups)
+      any-map (survivesIn g) (eventAt K h) (upFrom 0 (rowCount (h .sheet)))
+      ∙ ap (λ n. any (λ i. survivesIn g (eventAt K h i)) (upFrom 0 n)) (r .tags)
+      ∙ any-kept g (λ i. survivesIn g (eventAt K h i)) 0 (h .erased) (h .sheet .rowGroups) (r .groups)
       (λ j l. ap (λ i. not (getD (h .erased) i false) && eqb (getD (h .sheet .rowGroups) i 0) g) (zero-add j))
 
   -- 27 in one pass
-  pub held-survive : groupsSurvive (archiveHeld h) ≡ reaches (length (h .sheet .groups)) 0 (keep (h .erased) (h .sheet .rowGroups))
+  pub held-survive : groupsSurvive (archiveHeld K h) ≡ reaches (length (h .sheet .groups)) 0 (keep (h .erased) (h .sheet .rowGroups))
   unfolding groupsSurvive archiveHeld groupsOfSheet notFalling
   held-survive =
       let n = length (h .sheet .groups) in
       let gs = keep (h .erased) (h .sheet .rowGroups) in
       let m = length (groupsOfSheet (h .sheet)) in
-      all-ext (λ g. any (survivesIn g) ((archiveHeld h) .events)) (λ g. mem g gs) (upFrom 0 m)
-      (each-all (λ g. any (survivesIn g) ((archiveHeld h) .events) ≡ mem g gs) survives-held (upFrom 0 m))
+      all-ext (λ g. any (survivesIn g) ((archiveHeld K h) .events)) (λ g. mem g gs) (upFrom 0 m)
+      (each-all (λ g. any (survivesIn g) ((archiveHeld K h) .events) ≡ mem g gs) survives-held (upFrom 0 m))
       ∙ ap (λ k. all (λ g. mem g gs) (upFrom 0 k)) (groups-length (h .sheet .links) 0 (h .sheet .groups))
       ∙ sym (reaches-all n n 0 0 gs (omega arith) (level-keep 0 (h .erased) (h .sheet .rowGroups) (t .groupOrder))
       (each-keep (λ x. x < n) (h .erased) (h .sheet .rowGroups)
       (each-imp (λ x. ltb x n ≡ true) (λ x. x < n) (h .sheet .rowGroups) (λ x l. ltb-true x n l) (all-each (λ x. ltb x n) (h .sheet .rowGroups) (t .groupsKnown)))))
 
   -- the sheet of the survivors of what is not refused
-  pub filled-survivors : (lists : List (List ℕ)) → groupsSurvive (archiveHeld h) ≡ true → Filled (survivorSheet h lists)
+  pub filled-survivors : (lists : List (List ℕ)) → groupsSurvive (archiveHeld K h) ≡ true → Filled (survivorSheet K h lists)
   unfolding survivorSheet
   filled-survivors lists e = sym held-survive ∙ e

@@ -12,7 +12,7 @@ use Rattle.lists.specs.Lists.{all, sum, once, last, Each}
 use Rattle.lists.proofs.Tests.{both, all-each}
 use Rattle.lists.proofs.Each.{each-imp}
 use Rattle.lists.proofs.Once.{or-is-false}
-use Rattle.columns.specs.Limits.{maxRecords, maxGroups, end32}
+use Rattle.columns.specs.Limits.{Served, maxRecords, maxGroups, end32}
 use Rattle.columns.specs.Reading.{Label, labelsOf}
 use Rattle.cover.specs.Chains.{linksRise}
 use Rattle.cover.specs.Cover.{LinkColumns, linksOf, evenColumns, sums, sumsFit, storedLinks, linksOk, rangeRules, linkRules}
@@ -92,23 +92,23 @@ same-links rows (some c) e f = stored-read (c .links) (links-ok c e) (f .links) 
 
 -- ── files ────────────────────────────────────────────────────────────────────────────────────
 
-fitting-source : (before : Option Source) (f : File) → fileRules before f ≡ none → FileFits f → Fitting (sourceOf f)
+fitting-source : (K : ℕ) (served : Served K) → (before : Option Source) (f : File) → fileRules K before f ≡ none → FileFits K f → Fitting (sourceOf K f)
 unfolding sourceOf
-fitting-source before f e h = record {
+fitting-source K served before f e h = record {
   subject = h .subjectBytes;
   depth = h .depth;
   tags = h .tags;
   handles = each-imp RootFits (λ r. r .handle < 2 ^ 64) (f .roots) (λ r x. x .1) (h .roots);
   references = each-imp UnresolvedFits (λ u. u .handle < 2 ^ 32) (f .unresolved) (λ u x. x .2) (h .unresolved);
-  cover = cover-fitting (length (f .rows)) (f .cover) (cover-rules before f e) (h .cover);
+  cover = cover-fitting (length (f .rows)) (f .cover) (cover-rules K served before f e) (h .cover);
 }
 
-pub fitting-taken : (before : Option Source) (fs : List File) → filesRules before fs ≡ none → Each FileFits fs → Each Fitting (map sourceOf fs)
+pub fitting-taken : (K : ℕ) (served : Served K) → (before : Option Source) (fs : List File) → filesRules K before fs ≡ none → Each (FileFits K) fs → Each Fitting (map (sourceOf K) fs)
 unfolding filesRules
-fitting-taken before [] e h = tt
-fitting-taken before (f ∷ fs) e h =
-    let r = each-none (fileRules before f ∷ filesRules (some (sourceOf f)) fs ∷ []) e in
-    (fitting-source before f (r .0) (h .0), fitting-taken (some (sourceOf f)) fs (r .1 .0) (h .1))
+fitting-taken K served before [] e h = tt
+fitting-taken K served before (f ∷ fs) e h =
+    let r = each-none (fileRules K before f ∷ filesRules K (some (sourceOf K f)) fs ∷ []) e in
+    (fitting-source K served before f (r .0) (h .0), fitting-taken K served (some (sourceOf K f)) fs (r .1 .0) (h .1))
 
 -- ── 42 ───────────────────────────────────────────────────────────────────────────────────────
 
@@ -119,19 +119,19 @@ pub record Limited (ss : List Source) : Type 0 where
   pub groups : length (once (map (λ s. s .group) ss)) ≤ maxGroups
 
 -- as many links as were stored
-links-taken : (before : Option Source) (fs : List File) → filesRules before fs ≡ none → Each FileFits fs
-    → Each (λ f. linkCount ((sourceOf f) .cover) ≡ storedLinkCount (f .cover)) fs
+links-taken : (K : ℕ) (served : Served K) → (before : Option Source) (fs : List File) → filesRules K before fs ≡ none → Each (FileFits K) fs
+    → Each (λ f. linkCount ((sourceOf K f) .cover) ≡ storedLinkCount (f .cover)) fs
 unfolding filesRules sourceOf
-links-taken before [] e h = tt
-links-taken before (f ∷ fs) e h =
-    let r = each-none (fileRules before f ∷ filesRules (some (sourceOf f)) fs ∷ []) e in
-    (same-links (length (f .rows)) (f .cover) (cover-rules before f (r .0)) (h .0 .cover), links-taken (some (sourceOf f)) fs (r .1 .0) (h .1))
+links-taken K served before [] e h = tt
+links-taken K served before (f ∷ fs) e h =
+    let r = each-none (fileRules K before f ∷ filesRules K (some (sourceOf K f)) fs ∷ []) e in
+    (same-links (length (f .rows)) (f .cover) (cover-rules K served before f (r .0)) (h .0 .cover), links-taken K served (some (sourceOf K f)) fs (r .1 .0) (h .1))
 
 -- of the sources of a run and the files that it takes
-pub limited-more : (ss : List Source) (fs : List File) → filesRules (last ss) fs ≡ none → Each FileFits fs → overRecords ss fs ≡ false
-    → Limited (ss ++ map sourceOf fs)
+pub limited-more : (K : ℕ) (served : Served K) → (ss : List Source) (fs : List File) → filesRules K (last ss) fs ≡ none → Each (FileFits K) fs → overRecords ss fs ≡ false
+    → Limited (ss ++ map (sourceOf K) fs)
 unfolding overRecords total groupCount sourceOf
-limited-more ss fs r h e =
+limited-more K served ss fs r h e =
     let rows = ltb maxRecords (sum (λ s. length (s .rows)) ss + sum (λ f. length (f .rows)) fs) in
     let roots = ltb maxRecords (sum (λ s. length (s .roots)) ss + sum (λ f. length (f .roots)) fs) in
     let unresolved = ltb maxRecords (sum (λ s. length (s .unresolved)) ss + sum (λ f. length (f .unresolved)) fs) in
@@ -147,25 +147,25 @@ limited-more ss fs r h e =
       events = omega (
         arith,
         ltb-false maxRecords (sum (λ s. length (s .rows)) ss + sum (λ f. length (f .rows)) fs) (t1 .0),
-        sum-append (λ s. length (s .rows)) ss (map sourceOf fs),
-        sum-map (λ s. length (s .rows)) sourceOf fs,
+        sum-append (λ s. length (s .rows)) ss (map (sourceOf K) fs),
+        sum-map (λ s. length (s .rows)) (sourceOf K) fs,
       );
       references = omega (
         arith,
         ltb-false maxRecords (sum (λ s. length (s .unresolved)) ss + sum (λ f. length (f .unresolved)) fs) (t2 .1),
-        sum-append (λ s. length (s .unresolved)) ss (map sourceOf fs),
-        sum-map (λ s. length (s .unresolved)) sourceOf fs,
+        sum-append (λ s. length (s .unresolved)) ss (map (sourceOf K) fs),
+        sum-map (λ s. length (s .unresolved)) (sourceOf K) fs,
       );
       links = omega (
         arith,
         ltb-false maxRecords (sum (λ s. linkCount (s .cover)) ss + sum (λ f. storedLinkCount (f .cover)) fs) (t4 .1),
-        sum-append (λ s. linkCount (s .cover)) ss (map sourceOf fs),
-        sum-map (λ s. linkCount (s .cover)) sourceOf fs,
-        sum-ext (λ f. linkCount ((sourceOf f) .cover)) (λ f. storedLinkCount (f .cover)) fs (links-taken (last ss) fs r h),
+        sum-append (λ s. linkCount (s .cover)) ss (map (sourceOf K) fs),
+        sum-map (λ s. linkCount (s .cover)) (sourceOf K) fs,
+        sum-ext (λ f. linkCount ((sourceOf K f) .cover)) (λ f. storedLinkCount (f .cover)) fs (links-taken K served (last ss) fs r h),
       );
-      groups = rw (map-append (λ s. s .group) ss (map sourceOf fs), map-map (λ s. s .group) sourceOf fs) (ltb-false maxGroups (groupCount ss fs) (t5 .1));
+      groups = rw (map-append (λ s. s .group) ss (map (sourceOf K) fs), map-map (λ s. s .group) (sourceOf K) fs) (ltb-false maxGroups (groupCount ss fs) (t5 .1));
     }
 
-pub limited-taken : (fs : List File) → filesRules none fs ≡ none → Each FileFits fs → overRecords [] fs ≡ false → Limited (map sourceOf fs)
+pub limited-taken : (K : ℕ) (served : Served K) → (fs : List File) → filesRules K none fs ≡ none → Each (FileFits K) fs → overRecords [] fs ≡ false → Limited (map (sourceOf K) fs)
 unfolding last
-limited-taken fs r h e = limited-more [] fs r h e
+limited-taken K served fs r h e = limited-more K served [] fs r h e

@@ -7,7 +7,7 @@ use Prim.Native.Nat.{ℕ}
 use lib.Dec.{ltb}
 use lib.ListN.{length}
 use Rattle.lists.specs.Lists.{joined, isEmpty}
-use Rattle.columns.specs.Limits.{maxNumbers}
+use Rattle.columns.specs.Limits.{Served, maxNumbers}
 use Rattle.columns.specs.Refusal.{refuse, firstOf}
 use Rattle.columns.specs.declared.refusal.Refusal.{Refusal}
 use Rattle.columns.specs.declared.refusal.Refusal.the-variants.{GroupOrder, OverNumbers, NoSurvivor}
@@ -23,26 +23,26 @@ use Rattle.cleaning.proofs.FilledGroups.{held-survive}
 use Rattle.cleaning.proofs.Neat.{Neat, neat-valid, neat-resolved}
 
 -- the new lists of all rows, slot by slot
-abbrev pub flatLists : Held → List ℕ → List (List ℕ)
-flatLists h flags = newLists (h .sheet .start) flags (h .sheet .lists)
+abbrev pub flatLists : (K : ℕ) → Held → List ℕ → List (List ℕ)
+flatLists K h flags = newLists K (h .sheet .start) flags (h .sheet .lists)
 
 -- 24, 43, 27
-abbrev pub flatRules : Held → List ℕ → Option Refusal
-flatRules h flags =
+abbrev pub flatRules : (K : ℕ) → Held → List ℕ → Option Refusal
+flatRules K h flags =
     firstOf (refuse GroupOrder (isEmpty (h .sheet .groups))
-    ∷ refuse OverNumbers (ltb maxNumbers (length (joined (flatLists h flags))))
+    ∷ refuse OverNumbers (ltb maxNumbers (length (joined (flatLists K h flags))))
     ∷ refuse NoSurvivor (not (reaches (length (h .sheet .groups)) 0 (keep (h .erased) (h .sheet .rowGroups))))
     ∷ [])
 
-module _ (h : Held) (n : Neat h) (flags : List ℕ) (e : map flagged flags ≡ h .erased) where
-  rules-flat : heldRules h (archiveHeld h) (tables (archiveHeld h)) ≡ flatRules h flags
+module _ (K : ℕ) (served : Served K) (h : Held) (n : Neat K h) (flags : List ℕ) (e : map flagged flags ≡ h .erased) where
+  rules-flat : heldRules h (archiveHeld K h) (tables K (archiveHeld K h)) ≡ flatRules K h flags
   unfolding heldRules
-  rules-flat = rw (← held-entries h (n .rows) flags e (neat-valid h n), held-survive h (n .rows) (n .tidy))
+  rules-flat = rw (← held-entries K served h (n .rows) flags e (neat-valid K served h n), held-survive K served h (n .rows) (n .tidy))
 
-  pub resolve-flat : resolveHeld h ≡ resolveInto h (survivorSheet h (flatLists h flags)) (flatRules h flags)
+  pub resolve-flat : resolveHeld K h ≡ resolveInto h (survivorSheet K h (flatLists K h flags)) (flatRules K h flags)
   unfolding resolveHeld
-  resolve-flat = rw (← held-lists h (n .rows) flags e (neat-valid h n), rules-flat)
+  resolve-flat = rw (← held-lists K served h (n .rows) flags e (neat-valid K served h n), rules-flat)
 
   -- the sheet that an accepted resolving makes can be written group by group
-  pub neat-flat : flatRules h flags ≡ none → Tidy (survivorSheet h (flatLists h flags)) × Filled (survivorSheet h (flatLists h flags))
-  neat-flat q = rw (held-lists h (n .rows) flags e (neat-valid h n)) (neat-resolved h n (rules-flat ∙ q))
+  pub neat-flat : flatRules K h flags ≡ none → Tidy K (survivorSheet K h (flatLists K h flags)) × Filled (survivorSheet K h (flatLists K h flags))
+  neat-flat q = rw (held-lists K served h (n .rows) flags e (neat-valid K served h n)) (neat-resolved K served h n (rules-flat ∙ q))

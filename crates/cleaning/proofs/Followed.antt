@@ -5,7 +5,7 @@ use mathlib.Core.List.{List, [], _∷_, _++_, map, append-nil, map-append}
 use mathlib.Core.Option.{Option, none, some}
 use Prim.Native.Nat.{ℕ, suc, _+_, _*_, _≤_, _<_}
 use native.Mathlib.Omega.{arith}
-use native.Mathlib.Nat.{add-zero}
+use native.Mathlib.Nat.{add-zero, mul-zero}
 use borrow.Author.Tests.{eq-eqb, ne-eqb}
 use lib.Dec.{eqb}
 use lib.ListN.{length, getElem?, length-append}
@@ -13,7 +13,7 @@ use lib.Seq.{drop-at, take-at}
 use Rattle.lists.specs.Lists.{flat, filter, part, Each}
 use Rattle.lists.proofs.Each.{each-imp, each-map, each-all, each-flat}
 use Rattle.lists.proofs.Flat.{flat-append}
-use Rattle.columns.specs.Limits.{kinds}
+use Rattle.columns.specs.Limits.{Served}
 use Rattle.columns.specs.Reading.{Label, labelsOf}
 use Rattle.cover.specs.Chains.{Link}
 use Rattle.archive.specs.File.{Unresolved, Root}
@@ -26,20 +26,20 @@ use Rattle.cleaning.proofs.Numbers.{Counted, counted-append, counted-wi
 -- ── lists ────────────────────────────────────────────────────────────────────────────────────
 
 -- a row with a list for each kind
-abbrev pub EachKind : Numbered → Type 0
-EachKind r = length (r .row .parents) ≡ kinds
+abbrev pub EachKind : (K : ℕ) → Numbered → Type 0
+EachKind K r = length (r .row .parents) ≡ K
 
-pub length-slots : (rs : List Numbered) → Each EachKind rs → length (slotsOfRows rs) ≡ kinds * length rs
+pub length-slots : (K : ℕ) (served : Served K) → (rs : List Numbered) → Each (EachKind K) rs → length (slotsOfRows rs) ≡ K * length rs
 unfolding slotsOfRows
-length-slots [] h = refl
-length-slots (r ∷ rs) h = omega (arith, length-append (r .row .parents) (slotsOfRows rs), h .0, length-slots rs (h .1))
+length-slots K served [] h = sym (mul-zero K)
+length-slots K served (r ∷ rs) h = omega (arith, length-append (r .row .parents) (slotsOfRows rs), h .0, length-slots K served rs (h .1))
 
-module _ (before : List Numbered) (r : Numbered) (rs : List Numbered) where
-  pub lists-at : Each EachKind before → EachKind r → part (kinds * length before) kinds (slotsOfRows (before ++ (r ∷ rs))) ≡ r .row .parents
+module _ (K : ℕ) (served : Served K) (before : List Numbered) (r : Numbered) (rs : List Numbered) where
+  pub lists-at : Each (EachKind K) before → EachKind K r → part (K * length before) K (slotsOfRows (before ++ (r ∷ rs))) ≡ r .row .parents
   unfolding part slotsOfRows
   lists-at h k =
-      rw (flat-append (λ r. r .row .parents) before (r ∷ rs), drop-at (slotsOfRows before) (slotsOfRows (r ∷ rs)) (kinds * length before) (length-slots before h))
-      (take-at (r .row .parents) (slotsOfRows rs) kinds k)
+      rw (flat-append (λ r. r .row .parents) before (r ∷ rs), drop-at (slotsOfRows before) (slotsOfRows (r ∷ rs)) (K * length before) (length-slots K served before h))
+      (take-at (r .row .parents) (slotsOfRows rs) K k)
 
 -- ── state roots ──────────────────────────────────────────────────────────────────────────────
 

@@ -9,6 +9,7 @@ use native.Mathlib.Omega.{arith}
 use lib.Dec.{ltb}
 use lib.ListN.{length, length-append}
 use borrow.Author.Tests.{ltb-true, ltb-false, leb-true, le-leb}
+use Rattle.columns.specs.Limits.{Served}
 use Rattle.lists.specs.Lists.{sum, Each}
 use Rattle.lists.proofs.Tests.{tested}
 use Rattle.lists.proofs.Each.{each-append, each-map, each-imp, each-all, each-mem, mem-each}
@@ -83,13 +84,13 @@ cover-links rows (some c) h = h .2
 abbrev Unsorted : Group → Type 0
 Unsorted g = GoodDepth (g .depth) × LinksIn32 (g .links)
 
-pub good-groups : (ss : List Source) → Each (λ s. Sound s × Fitting s) ss → Each GoodGroup (map groupSummary (groupsOf ss))
+pub good-groups : (K : ℕ) (served : Served K) → (ss : List Source) → Each (λ s. Sound K s × Fitting s) ss → Each GoodGroup (map groupSummary (groupsOf ss))
 unfolding groupsOf
-good-groups ss h =
+good-groups K served ss h =
     each-map GoodGroup groupSummary (groupsOf ss)
     (each-imp Unsorted (λ g. GoodGroup (groupSummary g)) (groupsOf ss) (λ g u. (u .0 .0, u .0 .1, sorted-good (g .links) (u .1)))
     (each-fold Unsorted (λ g h p q. (join-depth (g .depth) (h .depth) (p .0) (q .0), join-links (g .links) (h .links) (p .1) (q .1))) [] ss tt
-    (each-imp (λ s. Sound s × Fitting s) (λ s. Unsorted (groupOf s)) ss
+    (each-imp (λ s. Sound K s × Fitting s) (λ s. Unsorted (groupOf s)) ss
     (λ s b. ((b .0 .depth, b .1 .depth), cover-links (length (s .rows)) (s .cover) (b .1 .cover))) h)))
 
 -- ── how many links ───────────────────────────────────────────────────────────────────────────

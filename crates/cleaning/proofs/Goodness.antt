@@ -3,12 +3,12 @@ use mathlib.Core.Path.{_≡_, refl, sym}
 use mathlib.Core.Bool.{Bool, true, false, cond, false≢true}
 use mathlib.Core.List.{List, [], _∷_, map}
 use mathlib.Core.Option.{Option, none, some}
-use Prim.Native.Nat.{suc, _≤_, _<_}
+use Prim.Native.Nat.{ℕ, suc, _≤_, _<_}
 use native.Mathlib.Omega.{arith}
 use lib.ListN.{length, length-map}
 use Rattle.lists.specs.Lists.{isEmpty, Each}
 use Rattle.lists.proofs.Each.{each-both}
-use Rattle.columns.specs.Limits.{maxNumbers}
+use Rattle.columns.specs.Limits.{Served, maxNumbers}
 use Rattle.columns.specs.Building.{subjectOk}
 use Rattle.archive.specs.File.{File}
 use Rattle.cleaning.specs.Source.{Source, sourceOf}
@@ -31,14 +31,14 @@ use Rattle.cleaning.proofs.Bodies.{good-bodies}
 use Rattle.cleaning.proofs.Figures.{length-events, ends-before, groups-level, few-references}
 use Rattle.cleaning.proofs.NewLists.{lists-good, entries-within}
 
-each-sound : (before : Option Source) (ss : List Source) → Followed before ss → Each Sound ss
-each-sound before [] f = tt
-each-sound before (s ∷ ss) f = (f .0, each-sound (some s) ss (f .2))
+each-sound : (K : ℕ) (served : Served K) → (before : Option Source) (ss : List Source) → Followed K before ss → Each (Sound K) ss
+each-sound K served before [] f = tt
+each-sound K served before (s ∷ ss) f = (f .0, each-sound K served (some s) ss (f .2))
 
-subject-good : (ss : List Source) → isEmpty ss ≡ false → Each (λ s. Sound s × Fitting s) ss → (subjectOk (subjectOf ss) ≡ true) × Each (λ b. b < 256) (subjectOf ss)
+subject-good : (K : ℕ) (served : Served K) → (ss : List Source) → isEmpty ss ≡ false → Each (λ s. Sound K s × Fitting s) ss → (subjectOk (subjectOf ss) ≡ true) × Each (λ b. b < 256) (subjectOf ss)
 unfolding isEmpty
-subject-good [] e h = absurd (false≢true (sym e))
-subject-good (s ∷ ss) e h = (h .0 .0 .subject, h .0 .1 .subject)
+subject-good K served [] e h = absurd (false≢true (sym e))
+subject-good K served (s ∷ ss) e h = (h .0 .0 .subject, h .0 .1 .subject)
 
 some-group : (ss : List Source) (gs : List Group) → isEmpty ss ≡ false → Each (Covered gs) ss → 0 < length gs
 unfolding isEmpty
@@ -55,46 +55,46 @@ count-le (e ∷ es) = go (e .erased) (count-le es)
     go true h = omega arith
     go false h = omega arith
 
-row-count : (A : Archive) → length ((summary A) .rows) ≤ length (A .events)
+row-count : (K : ℕ) (served : Served K) → (A : Archive) → length ((summary K A) .rows) ≤ length (A .events)
 unfolding summary
-row-count A = omega (arith, length-map (survivors A) (keptBy A), length-survivors A, count-le (A .events))
+row-count K served A = omega (arith, length-map (survivors A) (keptBy K A), length-survivors A, count-le (A .events))
 
-abbrev archiveFrom : List Source → Archive
-archiveFrom ss = archiveOf (record { sources = ss })
+abbrev archiveFrom : (K : ℕ) → List Source → Archive
+archiveFrom K ss = archiveOf K (record { sources = ss })
 
-pub good-sources : (ss : List Source) → isEmpty ss ≡ false → Followed none ss → Each Fitting ss → Limited ss
-    → entries (tables (archiveFrom ss)) ≤ maxNumbers → groupsSurvive (archiveFrom ss) ≡ true → Good (summary (archiveFrom ss))
+pub good-sources : (K : ℕ) (served : Served K) → (ss : List Source) → isEmpty ss ≡ false → Followed K none ss → Each Fitting ss → Limited ss
+    → entries (tables K (archiveFrom K ss)) ≤ maxNumbers → groupsSurvive (archiveFrom K ss) ≡ true → Good K (summary K (archiveFrom K ss))
 unfolding summary archiveOf
-good-sources ss e f h l n g =
+good-sources K served ss e f h l n g =
     let t : Taken = record { sources = ss } in
-    let A : Archive = archiveOf t in
+    let A : Archive = archiveOf K t in
     let gs : List Group = groupsOf ss in
-    let v = valid-sources ss f in
-    let c = each-covered ss f in
-    let b : Each (λ s. Sound s × Fitting s) ss = each-both Sound Fitting ss (each-sound none ss f) h in
+    let v = valid-sources K served ss f in
+    let c = each-covered K served ss f in
+    let b : Each (λ s. Sound K s × Fitting s) ss = each-both (Sound K) Fitting ss (each-sound K served none ss f) h in
     record {
-      subject = subject-good ss e b .0;
-      subjectBytes = subject-good ss e b .1;
+      subject = subject-good K served ss e b .0;
+      subjectBytes = subject-good K served ss e b .1;
       some = omega (arith, length-map gs groupSummary, some-group ss gs e c);
-      groupCount = omega (arith, length-map gs groupSummary, groups-once ss f, l .groups);
-      rowCount = omega (arith, row-count A, length-events t ss, l .events);
-      numbers = omega (arith, row-count A, ends-before t ss f);
-      lists = lists-good A v;
-      entries = omega (arith, entries-within A v);
-      bodies = each-row A (GoodBody (map groupSummary gs)) (good-bodies t gs ss (each-both (Covered gs) (λ s. Sound s × Fitting s) ss c b));
-      order = rows-level A (groups-level t ss f);
-      every = λ i o. group-has-row A g i (omega (arith, length-map gs groupSummary));
-      groups = good-groups ss b;
+      groupCount = omega (arith, length-map gs groupSummary, groups-once K served ss f, l .groups);
+      rowCount = omega (arith, row-count K served A, length-events K served t ss, l .events);
+      numbers = omega (arith, row-count K served A, ends-before K served t ss f);
+      lists = lists-good K served A v;
+      entries = omega (arith, entries-within K served A v);
+      bodies = each-row K served A (GoodBody (map groupSummary gs)) (good-bodies K served t gs ss (each-both (Covered gs) (λ s. Sound K s × Fitting s) ss c b));
+      order = rows-level K served A (groups-level K served t ss f);
+      every = λ i o. group-has-row K served A g i (omega (arith, length-map gs groupSummary));
+      groups = good-groups K served ss b;
       links = omega (arith, few-links ss, l .links);
-      references = omega (arith, sum-rows A (λ b. length (b .unresolved)), few-references t ss, l .references);
+      references = omega (arith, sum-rows K served A (λ b. length (b .unresolved)), few-references K served t ss, l .references);
     }
 
-pub not-empty : (fs : List File) → isEmpty fs ≡ false → isEmpty (map sourceOf fs) ≡ false
+pub not-empty : (K : ℕ) (served : Served K) → (fs : List File) → isEmpty fs ≡ false → isEmpty (map (sourceOf K) fs) ≡ false
 unfolding isEmpty
-not-empty [] e = e
-not-empty (f ∷ fs) e = refl
+not-empty K served [] e = e
+not-empty K served (f ∷ fs) e = refl
 
-pub good : (fs : List File) → Cleanable fs → Good (summary (archiveOfFiles fs))
-good fs c =
-    good-sources (map sourceOf fs) (not-empty fs (c .files)) (taken-followed none fs (c .rules)) (fitting-taken none fs (c .rules) (c .fits))
-    (limited-taken fs (c .rules) (c .fits) (c .records)) (c .newLists) (c .survivors)
+pub good : (K : ℕ) (served : Served K) → (fs : List File) → Cleanable K fs → Good K (summary K (archiveOfFiles K fs))
+good K served fs c =
+    good-sources K served (map (sourceOf K) fs) (not-empty K served fs (c .files)) (taken-followed K served none fs (c .rules)) (fitting-taken K served none fs (c .rules) (c .fits))
+    (limited-taken K served fs (c .rules) (c .fits) (c .records)) (c .newLists) (c .survivors)

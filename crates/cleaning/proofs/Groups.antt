@@ -11,6 +11,7 @@ use native.Mathlib.Nat.{not-suc-le-zero, le-of-suc-le-suc}
 use lib.Dec.{eqb, ltb}
 use lib.ListN.{length, getD, length-append}
 use borrow.Author.Tests.{eqb-true, eqb-false, ne-eqb, ltb-true, ltb-false}
+use Rattle.columns.specs.Limits.{Served}
 use Rattle.lists.specs.Lists.{mem, add, once, Each}
 use Rattle.lists.proofs.Tests.{tested}
 use Rattle.lists.proofs.Each.{each-imp}
@@ -120,23 +121,23 @@ module _ (gs : List Group) (s : Source) (n : Next gs s) where
 
 -- ── the groups of all sources ────────────────────────────────────────────────────────────────
 
-covered-fold : (before : Option Source) (gs : List Group) (ss : List Source) → GroupsUpTo before gs → Followed before ss
+covered-fold : (K : ℕ) (served : Served K) → (before : Option Source) (gs : List Group) (ss : List Source) → GroupsUpTo before gs → Followed K before ss
     → (q : Source) → Covered gs q → Covered (foldl addSource gs ss) q
-covered-fold before gs [] g f q c = c
-covered-fold before gs (s ∷ ss) g f q c =
+covered-fold K served before gs [] g f q c = c
+covered-fold K served before gs (s ∷ ss) g f q c =
     let n = next before gs s g (f .1) in
-    covered-fold (some s) (addSource gs s) ss (grown gs s n) (f .2) q (covered-add gs s n q c)
+    covered-fold K served (some s) (addSource gs s) ss (grown gs s n) (f .2) q (covered-add gs s n q c)
 
-each-covered-from : (before : Option Source) (gs : List Group) (ss : List Source) → GroupsUpTo before gs → Followed before ss
+each-covered-from : (K : ℕ) (served : Served K) → (before : Option Source) (gs : List Group) (ss : List Source) → GroupsUpTo before gs → Followed K before ss
     → Each (Covered (foldl addSource gs ss)) ss
-each-covered-from before gs [] g f = tt
-each-covered-from before gs (s ∷ ss) g f =
+each-covered-from K served before gs [] g f = tt
+each-covered-from K served before gs (s ∷ ss) g f =
     let n = grown gs s (next before gs s g (f .1)) in
-    (covered-fold (some s) (addSource gs s) ss n (f .2) s (n .1), each-covered-from (some s) (addSource gs s) ss n (f .2))
+    (covered-fold K served (some s) (addSource gs s) ss n (f .2) s (n .1), each-covered-from K served (some s) (addSource gs s) ss n (f .2))
 
-pub each-covered : (ss : List Source) → Followed none ss → Each (Covered (groupsOf ss)) ss
+pub each-covered : (K : ℕ) (served : Served K) → (ss : List Source) → Followed K none ss → Each (Covered (groupsOf ss)) ss
 unfolding groupsOf
-each-covered ss f = each-covered-from none [] ss refl f
+each-covered K served ss f = each-covered-from K served none [] ss refl f
 
 -- ── how many ─────────────────────────────────────────────────────────────────────────────────
 
@@ -145,13 +146,13 @@ unfolding mem
 others-not-mem n [] h = refl
 others-not-mem n (x ∷ xs) h = rw (ne-eqb n x (h .0)) (others-not-mem n xs (h .1))
 
-fewer-groups : (before : Option Source) (gs : List Group) (ss : List Source) (ns : List ℕ) → GroupsUpTo before gs → Followed before ss
+fewer-groups : (K : ℕ) (served : Served K) → (before : Option Source) (gs : List Group) (ss : List Source) (ns : List ℕ) → GroupsUpTo before gs → Followed K before ss
     → length gs ≤ length ns → Each (λ n. n < length gs) ns → length (foldl addSource gs ss) ≤ length (foldl add ns (map (λ s. s .group) ss))
-fewer-groups before gs [] ns g f l h = l
-fewer-groups before gs (s ∷ ss) ns g f l h =
+fewer-groups K served before gs [] ns g f l h = l
+fewer-groups K served before gs (s ∷ ss) ns g f l h =
     let n = next before gs s g (f .1) in
     let m = grown gs s n in
-    fewer-groups (some s) (addSource gs s) ss (add ns (s .group)) m (f .2) (elim (old-or-new gs s n) [
+    fewer-groups K served (some s) (addSource gs s) ss (add ns (s .group)) m (f .2) (elim (old-or-new gs s n) [
       | inl o ↦ omega (arith, m .0, add-grows ns (s .group))
       | inr e ↦ rw (
         add-new ns (s .group)
@@ -162,6 +163,6 @@ fewer-groups before gs (s ∷ ss) ns g f l h =
     (each-add (λ n. n < length (addSource gs s)) ns (s .group)
     (each-imp (λ x. x < length gs) (λ x. x < length (addSource gs s)) ns (λ x b. omega (arith, m .0, n .last)) h) (omega (arith, m .0)))
 
-pub groups-once : (ss : List Source) → Followed none ss → length (groupsOf ss) ≤ length (once (map (λ s. s .group) ss))
+pub groups-once : (K : ℕ) (served : Served K) → (ss : List Source) → Followed K none ss → length (groupsOf ss) ≤ length (once (map (λ s. s .group) ss))
 unfolding groupsOf once
-groups-once ss f = fewer-groups none [] ss [] refl f (omega arith) tt
+groups-once K served ss f = fewer-groups K served none [] ss [] refl f (omega arith) tt

@@ -6,7 +6,7 @@ use mathlib.Core.Logic.{inl, inr}
 use mathlib.Core.Option.{none, some}
 use Prim.Native.Nat.{ℕ, zero, suc, _+_, _*_, _≤_, _<_}
 use native.Mathlib.Omega.{arith}
-use native.Mathlib.Nat.{not-suc-le-zero, le-of-suc-le-suc, zero-add, add-zero}
+use native.Mathlib.Nat.{not-suc-le-zero, le-of-suc-le-suc, zero-add, add-zero, mul-le-mul-left}
 use lib.Dec.{eqb}
 use lib.ListN.{length, getD, drop, length-drop, length-map, List·getD-append, List·getD-map}
 use lib.Seq.{getD-append-add, take-append-le, drop-append-le, drop-append-add}
@@ -17,7 +17,7 @@ use Rattle.lists.proofs.Filters.{filter-none, filter-append, each-below, map-pl
 use Rattle.lists.proofs.Flat.{map-ext, upFrom-append, getD-map-upFrom}
 use Rattle.lists.proofs.Once.{eqb-iff}
 use Rattle.lists.proofs.Tests.{tested}
-use Rattle.columns.specs.Limits.{kinds}
+use Rattle.columns.specs.Limits.{Served}
 use Rattle.archive.specs.File.{Row, Unresolved, Root}
 use Rattle.cleaning.specs.Source.{Source}
 use Rattle.cleaning.specs.Archive.{Taken, Event, labelIn, rootIn, referencesIn, bodyOf, isErased, eventsFrom, blank}
@@ -82,18 +82,18 @@ module _ {A : Type 0} (xs ys : List A) where
 abbrev noRow : Row
 noRow = record { erased = false; tag = 0 }
 
-eventIn : Source → ℕ → Row → Event
-eventIn s i row = record { erased = row .erased; body = bodyOf s i row; parents = part (kinds * i) kinds (s .forward) }
+eventIn : (K : ℕ) → Source → ℕ → Row → Event
+eventIn K s i row = record { erased = row .erased; body = bodyOf s i row; parents = part (K * i) K (s .forward) }
 
-getD-events : (t : Taken) (s : Source) (i : ℕ) (rows : List Row) (j : ℕ) → j < length rows → getD (eventsFrom t s i rows) j blank ≡ eventIn s (i + j) (getD rows j noRow)
+getD-events : (K : ℕ) → (t : Taken) (s : Source) (i : ℕ) (rows : List Row) (j : ℕ) → j < length rows → getD (eventsFrom K t s i rows) j blank ≡ eventIn K s (i + j) (getD rows j noRow)
 unfolding eventsFrom isErased eventIn
-getD-events t s i [] j l = absurd (not-suc-le-zero l)
-getD-events t s i (row ∷ rows) zero l = rw (add-zero i)
-getD-events t s i (row ∷ rows) (suc j) l =
+getD-events K t s i [] j l = absurd (not-suc-le-zero l)
+getD-events K t s i (row ∷ rows) zero l = rw (add-zero i)
+getD-events K t s i (row ∷ rows) (suc j) l =
     let e : suc i + j ≡ i + suc j = omega arith in
-    getD-events t s (suc i) rows j (le-of-suc-le-suc l) ∙ ap (λ m. eventIn s m (getD rows j noRow)) e
+    getD-events K t s (suc i) rows j (le-of-suc-le-suc l) ∙ ap (λ m. eventIn K s m (getD rows j noRow)) e
 
-module _ (h : Held) (s : Source) (q : Ready h s) (d : Sound s) where
+module _ (K : ℕ) (served : Served K) (h : Held) (s : Source) (q : Ready K h s) (d : Sound K s) where
   -- the rows that are held, and where the source's rows stand
   abbrev n : ℕ
   n = length (h .erased)
@@ -119,7 +119,7 @@ module _ (h : Held) (s : Source) (q : Ready h s) (d : Sound s) where
       (each-imp (RecordIn s) (λ u. u .child ≡ start + i → ⊥) (s .unresolved) (λ u b e. omega (arith, q .start, b .0)) (d .unresolved))
       ∙ ap (λ m. referencesIn (h .sheet .unresolved) (m + i)) (q .stays (omega arith))
 
-  event-stays : (i : ℕ) → i < n → eventAt (heldWith h s) i ≡ eventAt h i
+  event-stays : (i : ℕ) → i < n → eventAt K (heldWith h s) i ≡ eventAt K h i
   unfolding eventAt heldWith sheetWith bodyAt parentsAt
   event-stays i l = λ j. record {
     erased = List·getD-append (h .erased) (map (λ r. r .erased) (s .rows)) false i l j;
@@ -130,7 +130,7 @@ module _ (h : Held) (s : Source) (q : Ready h s) (d : Sound s) where
       root = root-stays i l j;
       unresolved = references-stay i l j;
     };
-    parents = part-left (h .sheet .lists) (s .forward) (kinds * i) kinds (omega (arith, q .rows .lists)) j;
+    parents = part-left (h .sheet .lists) (s .forward) (K * i) K (omega (arith, q .rows .lists, mul-le-mul-left K l)) j;
   }
 
   -- ── the source's rows follow them ────────────────────────────────────────────────────────────
@@ -161,7 +161,7 @@ module _ (h : Held) (s : Source) (q : Ready h s) (d : Sound s) where
       (λ u b e. omega (arith, q .stays (omega arith))) (q .rows .unresolved))
       ∙ ap (referencesIn (s .unresolved)) (omega (arith, q .start))
 
-  event-new : (i : ℕ) → i < length (s .rows) → eventAt (heldWith h s) (n + i) ≡ eventIn s i (getD (s .rows) i noRow)
+  event-new : (i : ℕ) → i < length (s .rows) → eventAt K (heldWith h s) (n + i) ≡ eventIn K s i (getD (s .rows) i noRow)
   unfolding eventAt heldWith sheetWith bodyAt parentsAt eventIn bodyOf
   event-new i l = λ j. record {
     erased = (getD-right (h .erased) (map (λ r. r .erased) (s .rows)) n i false refl ∙ List·getD-map (λ r. r .erased) (s .rows) i noRow) j;
@@ -172,23 +172,23 @@ module _ (h : Held) (s : Source) (q : Ready h s) (d : Sound s) where
       root = root-new i j;
       unresolved = references-new i j;
     };
-    parents = part-right (h .sheet .lists) (s .forward) (kinds * (n + i)) (kinds * i) kinds (omega (arith, q .rows .lists)) j;
+    parents = part-right (h .sheet .lists) (s .forward) (K * (n + i)) (K * i) K (omega (arith, q .rows .lists, mul-le-mul-left K l)) j;
   }
 
   -- ── all events ───────────────────────────────────────────────────────────────────────────────
 
   rows-more : rowCount ((heldWith h s) .sheet) ≡ n + length (s .rows)
   unfolding heldWith sheetWith
-  rows-more = length-more h s (h .sheet .tags) (λ r. r .tag) (q .rows .tags)
+  rows-more = length-more K served h s (h .sheet .tags) (λ r. r .tag) (q .rows .tags)
 
-  pub events-with : (t : Taken) → (archiveHeld (heldWith h s)) .events ≡ (archiveHeld h) .events ++ eventsIn t s
+  pub events-with : (t : Taken) → (archiveHeld K (heldWith h s)) .events ≡ (archiveHeld K h) .events ++ eventsIn K t s
   unfolding archiveHeld
   events-with t =
       let m = length (s .rows) in
-      let old : map (eventAt (heldWith h s)) (upFrom 0 n) ≡ map (eventAt h) (upFrom 0 n) = map-ext (eventAt (heldWith h s)) (eventAt h) (upFrom 0 n)
-      (each-below (λ i. eventAt (heldWith h s) i ≡ eventAt h i) n event-stays) in
-      let new : map (eventAt (heldWith h s)) (upFrom n (length (eventsIn t s))) ≡ eventsIn t s = map-places (eventAt (heldWith h s)) n (eventsIn t s) blank
-      (λ i l. let k : i < m = omega (arith, length-eventsIn t s) in
-      event-new i k ∙ sym (getD-events t s 0 (s .rows) i k ∙ ap (λ j. eventIn s j (getD (s .rows) i noRow)) (zero-add i))) in
-      rw (rows-more, q .rows .tags, upFrom-append 0 n m, zero-add n, map-append (eventAt (heldWith h s)) (upFrom 0 n) (upFrom n m), old)
-      (ap (λ es. map (eventAt h) (upFrom 0 n) ++ es) (ap (λ k. map (eventAt (heldWith h s)) (upFrom n k)) (sym (length-eventsIn t s)) ∙ new))
+      let old : map (eventAt K (heldWith h s)) (upFrom 0 n) ≡ map (eventAt K h) (upFrom 0 n) = map-ext (eventAt K (heldWith h s)) (eventAt K h) (upFrom 0 n)
+      (each-below (λ i. eventAt K (heldWith h s) i ≡ eventAt K h i) n event-stays) in
+      let new : map (eventAt K (heldWith h s)) (upFrom n (length (eventsIn K t s))) ≡ eventsIn K t s = map-places (eventAt K (heldWith h s)) n (eventsIn K t s) blank
+      (λ i l. let k : i < m = omega (arith, length-eventsIn K t s) in
+      event-new i k ∙ sym (getD-events K t s 0 (s .rows) i k ∙ ap (λ j. eventIn K s j (getD (s .rows) i noRow)) (zero-add i))) in
+      rw (rows-more, q .rows .tags, upFrom-append 0 n m, zero-add n, map-append (eventAt K (heldWith h s)) (upFrom 0 n) (upFrom n m), old)
+      (ap (λ es. map (eventAt K h) (upFrom 0 n) ++ es) (ap (λ k. map (eventAt K (heldWith h s)) (upFrom n k)) (sym (length-eventsIn K t s)) ∙ new))

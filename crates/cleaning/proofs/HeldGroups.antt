@@ -7,6 +7,7 @@ use Prim.Native.Nat.{ℕ, zero, suc, _+_, _≤_, _<_}
 use native.Mathlib.Omega.{arith}
 use native.Mathlib.Nat.{not-suc-le-zero, le-of-suc-le-suc}
 use lib.ListN.{length, getD}
+use Rattle.columns.specs.Limits.{Served}
 use Rattle.lists.specs.Lists.{Each}
 use Rattle.lists.proofs.Each.{each-imp}
 use Rattle.cover.specs.Chains.{Link}
@@ -73,8 +74,8 @@ module _ (s : Source) (ls : List GroupLink) where
       (groups-from m (1 + k) n fs (omega arith) (le-of-suc-le-suc l) (λ i. c (omega arith))
       (each-imp (λ l. l .group < k + suc (length fs)) (λ l. l .group < 1 + k + length fs) ls (λ l a. omega arith) b))
 
-pub groups-with : (h : Held) (s : Source) → Ready h s → groupsOfSheet ((heldWith h s) .sheet) ≡ addSource (groupsOfSheet (h .sheet)) s
+pub groups-with : (K : ℕ) (served : Served K) → (h : Held) (s : Source) → Ready K h s → groupsOfSheet ((heldWith h s) .sheet) ≡ addSource (groupsOfSheet (h .sheet)) s
 unfolding groupsOfSheet heldWith sheetWith addSource
-groups-with h s q =
+groups-with K served h s q =
     groups-from s (h .sheet .links) (s .group) 0 (s .group) (h .sheet .groups) (omega arith) (q .within) (q .covered)
     (each-imp (λ l. l .group < length (h .sheet .groups)) (λ l. l .group < 0 + length (h .sheet .groups)) (h .sheet .links) (λ l b. omega arith) (q .links))

@@ -10,6 +10,7 @@ use native.Mathlib.Nat.{zero-add, add-zero}
 use lib.Dec.{ltb}
 use lib.ListN.{length, getD, length-append, length-map}
 use borrow.Author.Tests.{ltb-true, ltb-false, le-leb}
+use Rattle.columns.specs.Limits.{Served}
 use Rattle.lists.specs.Lists.{sum, add, once, isEmpty, upFrom, last}
 use Rattle.lists.proofs.Flat.{sum-append, upFrom-snoc}
 use Rattle.lists.proofs.Once.{add-there, add-new, fold-once}
@@ -90,19 +91,19 @@ add-number n g l m = elim (tested (ltb g n)) [
       ∙ ap (λ k. upFrom 0 k ++ (g ∷ [])) b ∙ sym (upFrom-snoc 0 g ∙ ap (λ k. upFrom 0 g ++ (k ∷ [])) (zero-add g))
 ]
 
-counted-after : (before : Option Source) (h : Held) (ss : List Source) → HeldTo before h → Followed before ss
+counted-after : (K : ℕ) (served : Served K) → (before : Option Source) (h : Held) (ss : List Source) → HeldTo K before h → Followed K before ss
     → foldl add (upFrom 0 (length (h .sheet .groups))) (map (λ s. s .group) ss) ≡ upFrom 0 (length ((foldl heldWith h ss) .sheet .groups))
-counted-after before h [] e f = refl
-counted-after before h (s ∷ ss) e f =
-    let q = ready before h s e (f .1) in
-    let w = held-with h s q (f .0) in
+counted-after K served before h [] e f = refl
+counted-after K served before h (s ∷ ss) e f =
+    let q = ready K served before h s e (f .1) in
+    let w = held-with K served h s q (f .0) in
     ap (λ ns. foldl add ns (map (λ s. s .group) ss)) (add-number (length (h .sheet .groups)) (s .group) (q .within) (q .last) ∙ ap (upFrom 0) (sym (w .groups)))
-    ∙ counted-after (some s) (heldWith h s) ss w (f .2)
+    ∙ counted-after K served (some s) (heldWith h s) ss w (f .2)
 
-module _ (ss : List Source) (f : Followed none ss) where
+module _ (K : ℕ) (served : Served K) (ss : List Source) (f : Followed K none ss) where
   once-groups : once (map (λ s. s .group) ss) ≡ upFrom 0 (length ((heldOf ss) .sheet .groups))
   unfolding once heldOf nothing upFrom
-  once-groups = counted-after none nothing ss refl f
+  once-groups = counted-after K served none nothing ss refl f
 
   -- further numbers after those of the sources
   more-groups : (gs : List ℕ) → once (upFrom 0 (length ((heldOf ss) .sheet .groups)) ++ gs) ≡ once (map (λ s. s .group) ss ++ gs)
@@ -126,32 +127,32 @@ module _ (ss : List Source) (f : Followed none ss) where
 -- ── looking back ─────────────────────────────────────────────────────────────────────────────
 
 -- two sources of one group, subject and end, both with a cover or neither, are the same to look back at
-module _ (a b : Source) (g : a .group ≡ b .group) (s : a .subject ≡ b .subject) (e : endOf a ≡ endOf b) (c : isThere (a .cover) ≡ isThere (b .cover)) where
-  file-alike : (f : File) → fileRules (some a) f ≡ fileRules (some b) f
+module _ (K : ℕ) (served : Served K) (a b : Source) (g : a .group ≡ b .group) (s : a .subject ≡ b .subject) (e : endOf a ≡ endOf b) (c : isThere (a .cover) ≡ isThere (b .cover)) where
+  file-alike : (f : File) → fileRules K (some a) f ≡ fileRules K (some b) f
   unfolding fileRules
   file-alike f = rw (g, s, e, c)
 
-  pub files-alike : (fs : List File) → filesRules (some a) fs ≡ filesRules (some b) fs
+  pub files-alike : (fs : List File) → filesRules K (some a) fs ≡ filesRules K (some b) fs
   unfolding filesRules
   files-alike [] = refl
-  files-alike (f ∷ fs) = ap (λ r. firstOf (r ∷ filesRules (some (sourceOf f)) fs ∷ [])) (file-alike f)
+  files-alike (f ∷ fs) = ap (λ r. firstOf (r ∷ filesRules K (some (sourceOf K f)) fs ∷ [])) (file-alike f)
 
 pub there-cond : (b : Bool) (c : SourceCover) → isThere (cond b (some c) none) ≡ b
 there-cond true c = refl
 there-cond false c = refl
 
-looks-at : (before : Option Source) (h : Held) → HeldTo before h → (fs : List File) → filesRules (lookBack (h .sheet)) fs ≡ filesRules before fs
+looks-at : (K : ℕ) (served : Served K) → (before : Option Source) (h : Held) → HeldTo K before h → (fs : List File) → filesRules K (lookBack (h .sheet)) fs ≡ filesRules K before fs
 unfolding lookBack nothing isEmpty ending
-looks-at none h e fs = rw e
-looks-at (some r) h e fs =
+looks-at K served none h e fs = rw e
+looks-at K served (some r) h e fs =
     let k = length (h .sheet .groups) - 1 in
     let c = (getD (h .sheet .groups) k noFacts) .covered in
     let last : k ≡ r .group = omega (arith, e .groups) in
     rw (not-empty (h .sheet .groups) (omega (arith, e .groups)))
-    (files-alike (ending k (h .sheet .subject) (h .sheet .start + rowCount (h .sheet)) c) r last (e .subject)
+    (files-alike K served (ending k (h .sheet .subject) (h .sheet .start + rowCount (h .sheet)) c) r last (e .subject)
     (omega (arith, e .end, e .rows .tags))
     (there-cond c (record { labels = []; ranges = 0; links = [] }) ∙ ap (λ j. (getD (h .sheet .groups) j noFacts) .covered) last ∙ e .covered) fs)
 
-pub hold-rules : (ss : List Source) → Followed none ss → (fs : List File) → holdRules (heldOf ss) fs ≡ takeRules ss fs
+pub hold-rules : (K : ℕ) (served : Served K) → (ss : List Source) → Followed K none ss → (fs : List File) → holdRules K (heldOf ss) fs ≡ takeRules K ss fs
 unfolding holdRules takeRules
-hold-rules ss f fs = rw (records-over ss f fs, numbers-over ss f fs, looks-at (last ss) (heldOf ss) (held-to ss f) fs)
+hold-rules K served ss f fs = rw (records-over K served ss f fs, numbers-over K served ss f fs, looks-at K served (last ss) (heldOf ss) (held-to K served ss f) fs)

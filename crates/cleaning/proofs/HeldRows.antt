@@ -5,10 +5,11 @@ use mathlib.Core.Bool.{false, cond}
 use mathlib.Core.List.{List, [], _∷_, _++_, map, foldl}
 use mathlib.Core.Logic.{inl, inr}
 use mathlib.Core.Option.{Option, none, some}
-use Prim.Native.Nat.{ℕ, zero, suc, _+_, _≤_, _<_}
+use Prim.Native.Nat.{ℕ, zero, suc, _+_, _≤_, _<_, _*_}
 use native.Mathlib.Omega.{arith}
-use native.Mathlib.Nat.{not-suc-le-zero, le-of-suc-le-suc}
+use native.Mathlib.Nat.{not-suc-le-zero, le-of-suc-le-suc, mul-zero}
 use lib.ListN.{length, getD, length-append, length-map}
+use Rattle.columns.specs.Limits.{Served}
 use Rattle.lists.specs.Lists.{isEmpty, upFrom, last, Each}
 use Rattle.lists.proofs.Each.{each-append, each-imp, each-map, each-all}
 use Rattle.lists.proofs.Flat.{length-map-upFrom}
@@ -23,21 +24,21 @@ use Rattle.cleaning.proofs.SheetFacts.{Rows}
 -- ── what a source is taken after ─────────────────────────────────────────────────────────────
 
 -- what is held where `s` was taken last
-pub record HeldLast (s : Source) (h : Held) : Type 0 where
-  pub rows : Rows h
+pub record HeldLast (K : ℕ) (s : Source) (h : Held) : Type 0 where
+  pub rows : Rows K h
   pub end : h .sheet .start + length (h .erased) ≡ endOf s
   pub subject : h .sheet .subject ≡ s .subject
   pub groups : length (h .sheet .groups) ≡ suc (s .group)
   pub covered : (getD (h .sheet .groups) (s .group) noFacts) .covered ≡ isThere (s .cover)
   pub links : Each (λ l. l .group < length (h .sheet .groups)) (h .sheet .links)
 
-abbrev pub HeldTo : Option Source → Held → Type 0
-HeldTo none h = h ≡ nothing
-HeldTo (some s) h = HeldLast s h
+abbrev pub HeldTo : (K : ℕ) → Option Source → Held → Type 0
+HeldTo K none h = h ≡ nothing
+HeldTo K (some s) h = HeldLast K s h
 
 -- `s` can be taken next: its rows start where those that are held end, and its group is the last one or one more
-pub record Ready (h : Held) (s : Source) : Type 0 where
-  pub rows : Rows h
+pub record Ready (K : ℕ) (h : Held) (s : Source) : Type 0 where
+  pub rows : Rows K h
   pub start : (sheetWith (h .sheet) s) .start + length (h .erased) ≡ s .first
   pub stays : 0 < length (h .erased) → (sheetWith (h .sheet) s) .start ≡ h .sheet .start
   pub subject : (sheetWith (h .sheet) s) .subject ≡ s .subject
@@ -60,14 +61,14 @@ pub subject-stays : (h : Held) (s : Source) → 0 < length (h .sheet .groups) �
 unfolding sheetWith
 subject-stays h s l = rw (not-empty (h .sheet .groups) l)
 
-rows-nothing : Rows nothing
+rows-nothing : (K : ℕ) (served : Served K) → Rows K nothing
 unfolding nothing
-rows-nothing = record { groups = refl; tags = refl; labels = refl; lists = refl; roots = tt; unresolved = tt }
+rows-nothing K served = record { groups = refl; tags = refl; labels = refl; lists = sym (mul-zero K); roots = tt; unresolved = tt }
 
-pub ready : (before : Option Source) (h : Held) (s : Source) → HeldTo before h → FollowsLast before s → Ready h s
+pub ready : (K : ℕ) (served : Served K) → (before : Option Source) (h : Held) (s : Source) → HeldTo K before h → FollowsLast before s → Ready K h s
 unfolding nothing sheetWith isEmpty
-ready none h s e f = rw e (record {
-  rows = rows-nothing;
+ready K served none h s e f = rw e (record {
+  rows = rows-nothing K served;
   start = omega arith;
   stays = λ l. absurd (not-suc-le-zero l);
   subject = refl;
@@ -76,7 +77,7 @@ ready none h s e f = rw e (record {
   covered = λ l. absurd (not-suc-le-zero l);
   links = tt;
 })
-ready (some r) h s e f = let l : 0 < length (h .sheet .groups) = omega (arith, e .groups) in record {
+ready K served (some r) h s e f = let l : 0 < length (h .sheet .groups) = omega (arith, e .groups) in record {
   rows = e .rows;
   start = omega (arith, start-stays h s l, e .end, f .first);
   stays = λ n. start-stays h s l;
@@ -103,14 +104,14 @@ facts-grown (suc n) (x ∷ fs) f l m c =
     let q = facts-grown n fs f (le-of-suc-le-suc l) (le-of-suc-le-suc m) (λ k. c (omega arith)) in
     (ap suc (q .0), q .1)
 
-module _ (h : Held) (s : Source) where
+module _ (K : ℕ) (served : Served K) (h : Held) (s : Source) where
   -- how many rows there are then, by any list that has an element for each row
   pub length-more : {A : Type 0} (xs : List A) (f : Row → A) → length xs ≡ length (h .erased)
       → length (xs ++ map f (s .rows)) ≡ length (h .erased) + length (s .rows)
   length-more xs f e = omega (arith, length-append xs (map f (s .rows)), length-map (s .rows) f)
 
-  module _ (q : Ready h s) (d : Sound s) where
-    rows-with : Rows (heldWith h s)
+  module _ (q : Ready K h s) (d : Sound K s) where
+    rows-with : Rows K (heldWith h s)
     unfolding heldWith sheetWith shifted
     rows-with =
         let n = length (h .erased) in
@@ -127,7 +128,7 @@ module _ (h : Held) (s : Source) where
             length-map-upFrom (labelIn (s .cover)) 0 (length (s .rows)),
             q .rows .labels,
           );
-          lists = omega (arith, e, length-append (h .sheet .lists) (s .forward), q .rows .lists, d .slots);
+          lists = omega (arith, ap (λ x. K * x) e, length-append (h .sheet .lists) (s .forward), q .rows .lists, d .slots);
           roots = each-append (λ r. r .row < m) (h .sheet .roots) (map (λ r. record { row = length (h .sheet .tags) + r .row; handle = r .handle }) (s .roots))
               (each-imp (λ r. r .row < n) (λ r. r .row < m) (h .sheet .roots) (λ r l. omega (arith, e)) (q .rows .roots))
               (each-map (λ r. r .row < m) (λ r. record { row = length (h .sheet .tags) + r .row; handle = r .handle }) (s .roots)
@@ -139,7 +140,7 @@ module _ (h : Held) (s : Source) where
               (λ u l. (omega (arith, q .start, l .0), omega (arith, e, q .start, l .1))) (d .unresolved));
         }
 
-    pub held-with : HeldLast s (heldWith h s)
+    pub held-with : HeldLast K s (heldWith h s)
     unfolding heldWith sheetWith
     held-with =
         let g = facts-grown (s .group) (h .sheet .groups) (record { depth = s .depth; covered = isThere (s .cover) }) (q .within) (q .last) (q .covered) in
@@ -163,23 +164,23 @@ abbrev lastAfter : Option Source → List Source → Option Source
 lastAfter before [] = before
 lastAfter before (s ∷ ss) = lastAfter (some s) ss
 
-held-after : (before : Option Source) (h : Held) (ss : List Source) → HeldTo before h → Followed before ss → HeldTo (lastAfter before ss) (foldl heldWith h ss)
-held-after before h [] e f = e
-held-after before h (s ∷ ss) e f = held-after (some s) (heldWith h s) ss (held-with h s (ready before h s e (f .1)) (f .0)) (f .2)
+held-after : (K : ℕ) (served : Served K) → (before : Option Source) (h : Held) (ss : List Source) → HeldTo K before h → Followed K before ss → HeldTo K (lastAfter before ss) (foldl heldWith h ss)
+held-after K served before h [] e f = e
+held-after K served before h (s ∷ ss) e f = held-after K served (some s) (heldWith h s) ss (held-with K served h s (ready K served before h s e (f .1)) (f .0)) (f .2)
 
 last-after : (s : Source) (ss : List Source) → last (s ∷ ss) ≡ lastAfter (some s) ss
 unfolding last
 last-after s [] = refl
 last-after s (r ∷ rs) = last-after r rs
 
-pub held-to : (ss : List Source) → Followed none ss → HeldTo (last ss) (heldOf ss)
+pub held-to : (K : ℕ) (served : Served K) → (ss : List Source) → Followed K none ss → HeldTo K (last ss) (heldOf ss)
 unfolding heldOf last
-held-to [] f = refl
-held-to (s ∷ ss) f = rw (last-after s ss) (held-after none nothing (s ∷ ss) refl f)
+held-to K served [] f = refl
+held-to K served (s ∷ ss) f = rw (last-after s ss) (held-after K served none nothing (s ∷ ss) refl f)
 
-rows-to : (before : Option Source) (h : Held) → HeldTo before h → Rows h
-rows-to none h e = rw e rows-nothing
-rows-to (some s) h e = e .rows
+rows-to : (K : ℕ) (served : Served K) → (before : Option Source) (h : Held) → HeldTo K before h → Rows K h
+rows-to K served none h e = rw e (rows-nothing K served)
+rows-to K served (some s) h e = e .rows
 
-pub rows-held : (ss : List Source) → Followed none ss → Rows (heldOf ss)
-rows-held ss f = rows-to (last ss) (heldOf ss) (held-to ss f)
+pub rows-held : (K : ℕ) (served : Served K) → (ss : List Source) → Followed K none ss → Rows K (heldOf ss)
+rows-held K served ss f = rows-to K served (last ss) (heldOf ss) (held-to K served ss f)

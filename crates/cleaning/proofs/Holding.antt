@@ -6,6 +6,7 @@ use mathlib.Core.Option.{Option, none, some}
 use Prim.Native.Nat.{ℕ}
 use native.Mathlib.Omega.{arith}
 use lib.ListN.{length}
+use Rattle.columns.specs.Limits.{Served}
 use Rattle.lists.specs.Lists.{isEmpty, last}
 use Rattle.columns.specs.Refusal.{unless}
 use Rattle.columns.specs.declared.refusal.Refusal.{Refusal}
@@ -35,37 +36,37 @@ use Rattle.cleaning.proofs.HeldColumns.{tables-length}
 use Rattle.cleaning.proofs.SurvivorSheet.{summary-held}
 
 -- the sheet of the survivors of sources, out of their tables
-abbrev surviving : Taken → List (List (List ℕ)) → Sheet
-surviving t ts = survivorSheet (heldOf (t .sources)) (slotted (length ((archiveOf t) .events)) ts)
+abbrev surviving : (K : ℕ) → Taken → List (List (List ℕ)) → Sheet
+surviving K t ts = survivorSheet K (heldOf (t .sources)) (slotted (length ((archiveOf K t) .events)) ts)
 
 -- what a run holds in a state
-unfoldable pub hold : State → RunState
-hold (taking t) = RunState.taking (heldOf (t .sources))
-hold (resolved t ts) = RunState.resolved (heldOf (t .sources)) (surviving t ts)
-hold spoiled = RunState.spoiled
+unfoldable pub hold : (K : ℕ) → State → RunState
+hold K (taking t) = RunState.taking (heldOf (t .sources))
+hold K (resolved t ts) = RunState.resolved (heldOf (t .sources)) (surviving K t ts)
+hold K spoiled = RunState.spoiled
 
-abbrev pub holdOutcome : Outcome → RunOutcome
-holdOutcome o = runOutcome (hold (o .state)) (o .answer)
+abbrev pub holdOutcome : (K : ℕ) → Outcome → RunOutcome
+holdOutcome K o = runOutcome (hold K (o .state)) (o .answer)
 
 -- ── taking ───────────────────────────────────────────────────────────────────────────────────
 
-take-held : (t : Taken) (x : Parsed (List File)) → Followed none (t .sources)
-    → takeInto (heldOf (t .sources)) (holdMore (heldOf (t .sources)) x) ≡ holdOutcome (takeMore t (takenFrom (t .sources) x))
+take-held : (K : ℕ) (served : Served K) → (t : Taken) (x : Parsed (List File)) → Followed K none (t .sources)
+    → takeInto (heldOf (t .sources)) (holdMore K (heldOf (t .sources)) x) ≡ holdOutcome K (takeMore t (takenFrom K (t .sources) x))
 unfolding hold unless heldOf
-take-held t broken f = refl
-take-held t (got fs end) f = rw (hold-rules (t .sources) f fs) (go (takeRules (t .sources) fs))
+take-held K served t broken f = refl
+take-held K served t (got fs end) f = rw (hold-rules K served (t .sources) f fs) (go (takeRules K (t .sources) fs))
   where
-    go : (r : Option Refusal) → takeInto (heldOf (t .sources)) (unless r (foldl heldWith (heldOf (t .sources)) (map sourceOf fs)))
-        ≡ holdOutcome (takeMore t (unless r (map sourceOf fs)))
-    go none = ap (λ h. runOutcome (RunState.taking h) done) (sym (foldl-append heldWith nothing (t .sources) (map sourceOf fs)))
+    go : (r : Option Refusal) → takeInto (heldOf (t .sources)) (unless r (foldl heldWith (heldOf (t .sources)) (map (sourceOf K) fs)))
+        ≡ holdOutcome K (takeMore t (unless r (map (sourceOf K) fs)))
+    go none = ap (λ h. runOutcome (RunState.taking h) done) (sym (foldl-append heldWith nothing (t .sources) (map (sourceOf K) fs)))
     go (some r) = refl
 
 -- ── resolving ────────────────────────────────────────────────────────────────────────────────
 
-no-groups : (before : Option Source) (h : Held) → HeldTo before h → isEmpty (h .sheet .groups) ≡ not (isThere before)
+no-groups : (K : ℕ) (served : Served K) → (before : Option Source) (h : Held) → HeldTo K before h → isEmpty (h .sheet .groups) ≡ not (isThere before)
 unfolding nothing isEmpty
-no-groups none h e = rw e
-no-groups (some s) h e = not-empty (h .sheet .groups) (omega (arith, e .groups))
+no-groups K served none h e = rw e
+no-groups K served (some s) h e = not-empty (h .sheet .groups) (omega (arith, e .groups))
 
 no-last : (ss : List Source) → not (isThere (last ss)) ≡ isEmpty ss
 unfolding last isEmpty
@@ -73,53 +74,53 @@ no-last [] = refl
 no-last (s ∷ []) = refl
 no-last (s ∷ (r ∷ rs)) = no-last (r ∷ rs)
 
-module _ (t : Taken) (f : Followed none (t .sources)) where
+module _ (K : ℕ) (served : Served K) (t : Taken) (f : Followed K none (t .sources)) where
   rules-held : (A : Archive) (ts : List (List (List ℕ))) → heldRules (heldOf (t .sources)) A ts ≡ resolveRules t A ts
   unfolding heldRules resolveRules
-  rules-held A ts = rw (no-groups (last (t .sources)) (heldOf (t .sources)) (held-to (t .sources) f), no-last (t .sources))
+  rules-held A ts = rw (no-groups K served (last (t .sources)) (heldOf (t .sources)) (held-to K served (t .sources) f), no-last (t .sources))
 
-  resolve-held : resolveHeld (heldOf (t .sources)) ≡ holdOutcome (resolve t)
+  resolve-held : resolveHeld K (heldOf (t .sources)) ≡ holdOutcome K (resolve K t)
   unfolding resolveHeld resolve hold
-  resolve-held = rw (archive-held (t .sources) f, rules-held (archiveOf t) (tables (archiveOf t))) (go (resolveRules t (archiveOf t) (tables (archiveOf t))))
+  resolve-held = rw (archive-held K served (t .sources) f, rules-held (archiveOf K t) (tables K (archiveOf K t))) (go (resolveRules t (archiveOf K t) (tables K (archiveOf K t))))
     where
-      go : (r : Option Refusal) → resolveInto (heldOf (t .sources)) (surviving t (tables (archiveOf t))) r ≡ holdOutcome (resolveBy t (tables (archiveOf t)) r)
+      go : (r : Option Refusal) → resolveInto (heldOf (t .sources)) (surviving K t (tables K (archiveOf K t))) r ≡ holdOutcome K (resolveBy t (tables K (archiveOf K t)) r)
       go none = refl
       go (some r) = refl
 
   -- ── writing ──────────────────────────────────────────────────────────────────────────────────
 
-  surviving-tabled : summaryOf (surviving t (tables (archiveOf t))) ≡ tabled (archiveOf t) (tables (archiveOf t))
+  surviving-tabled : summaryOf K (surviving K t (tables K (archiveOf K t))) ≡ tabled (archiveOf K t) (tables K (archiveOf K t))
   surviving-tabled =
       let h = heldOf (t .sources) in
-      subst (λ A. summaryOf (survivorSheet h (slotted (length (A .events)) (tables A))) ≡ tabled A (tables A)) (archive-held (t .sources) f)
-      (summary-held h (tables (archiveHeld h)) (rows-held (t .sources) f) (tables-length (archiveHeld h)))
+      subst (λ A. summaryOf K (survivorSheet K h (slotted (length (A .events)) (tables K A))) ≡ tabled A (tables K A)) (archive-held K served (t .sources) f)
+      (summary-held K served h (tables K (archiveHeld K h)) (rows-held K served (t .sources) f) (tables-length K served (archiveHeld K h)))
 
 -- ── every call ───────────────────────────────────────────────────────────────────────────────
 
-followed-of : (t : Taken) (ss : List Source) → t .sources ≡ ss → Followed none ss → Followed none (t .sources)
-followed-of t ss e f = subst (Followed none) (sym e) f
+followed-of : (K : ℕ) (served : Served K) → (t : Taken) (ss : List Source) → t .sources ≡ ss → Followed K none ss → Followed K none (t .sources)
+followed-of K served t ss e f = subst (Followed K none) (sym e) f
 
-surviving-sheet : (t : Taken) (ts : List (List (List ℕ))) (ss : List Source) → t .sources ≡ ss → Followed none ss → ts ≡ tables (archiveOf t)
-    → summaryOf (surviving t ts) ≡ tabled (archiveOf t) ts
-surviving-sheet t ts ss e f k = ap (λ us. summaryOf (surviving t us)) k ∙ surviving-tabled t (followed-of t ss e f) ∙ ap (tabled (archiveOf t)) (sym k)
+surviving-sheet : (K : ℕ) (served : Served K) → (t : Taken) (ts : List (List (List ℕ))) (ss : List Source) → t .sources ≡ ss → Followed K none ss → ts ≡ tables K (archiveOf K t)
+    → summaryOf K (surviving K t ts) ≡ tabled (archiveOf K t) ts
+surviving-sheet K served t ts ss e f k = ap (λ us. summaryOf K (surviving K t us)) k ∙ surviving-tabled K served t (followed-of K served t ss e f) ∙ ap (tabled (archiveOf K t)) (sym k)
 
-pub run-step : (s : State) (c : Call) (ss : List Source) → Inv s ss → runStep (hold s) c ≡ holdOutcome (step s c)
+pub run-step : (K : ℕ) (served : Served K) → (s : State) (c : Call) (ss : List Source) → Inv K s ss → runStep K (hold K s) c ≡ holdOutcome K (step K s c)
 unfolding runStep step hold Inv
-run-step (taking t) (takes b) ss i = take-held t (parse b) (followed-of t ss (i .0) (i .1))
-run-step (taking t) resolves ss i = resolve-held t (followed-of t ss (i .0) (i .1))
-run-step (taking t) (writes room) ss i = refl
-run-step (taking t) (maps p) ss i = refl
-run-step (taking t) counts ss i = refl
-run-step (taking t) (lists room) ss i = refl
-run-step (resolved t ts) (takes b) ss i = refl
-run-step (resolved t ts) resolves ss i = refl
-run-step (resolved t ts) (writes room) ss i =
-    ap (λ S. runOutcome (RunState.resolved (heldOf (t .sources)) (surviving t ts)) (writeInto room (written S))) (surviving-sheet t ts ss (i .0) (i .1) (i .2))
-run-step (resolved t ts) (maps p) ss i =
-    ap (λ A. runOutcome (RunState.resolved (heldOf (t .sources)) (surviving t ts)) (told (mapped A p))) (archive-held (t .sources) (followed-of t ss (i .0) (i .1)))
-run-step (resolved t ts) counts ss i =
-    ap (λ A. runOutcome (RunState.resolved (heldOf (t .sources)) (surviving t ts)) (counted (reparented A))) (archive-held (t .sources) (followed-of t ss (i .0) (i .1)))
-run-step (resolved t ts) (lists room) ss i =
-    ap₂ (λ A S. runOutcome (RunState.resolved (heldOf (t .sources)) (surviving t ts)) (listInto (listed room A S)))
-    (archive-held (t .sources) (followed-of t ss (i .0) (i .1))) (surviving-sheet t ts ss (i .0) (i .1) (i .2))
-run-step spoiled c ss i = refl
+run-step K served (taking t) (takes b) ss i = take-held K served t (parse K b) (followed-of K served t ss (i .0) (i .1))
+run-step K served (taking t) resolves ss i = resolve-held K served t (followed-of K served t ss (i .0) (i .1))
+run-step K served (taking t) (writes room) ss i = refl
+run-step K served (taking t) (maps p) ss i = refl
+run-step K served (taking t) counts ss i = refl
+run-step K served (taking t) (lists room) ss i = refl
+run-step K served (resolved t ts) (takes b) ss i = refl
+run-step K served (resolved t ts) resolves ss i = refl
+run-step K served (resolved t ts) (writes room) ss i =
+    ap (λ S. runOutcome (RunState.resolved (heldOf (t .sources)) (surviving K t ts)) (writeInto room (written K S))) (surviving-sheet K served t ts ss (i .0) (i .1) (i .2))
+run-step K served (resolved t ts) (maps p) ss i =
+    ap (λ A. runOutcome (RunState.resolved (heldOf (t .sources)) (surviving K t ts)) (told (mapped A p))) (archive-held K served (t .sources) (followed-of K served t ss (i .0) (i .1)))
+run-step K served (resolved t ts) counts ss i =
+    ap (λ A. runOutcome (RunState.resolved (heldOf (t .sources)) (surviving K t ts)) (counted (reparented A))) (archive-held K served (t .sources) (followed-of K served t ss (i .0) (i .1)))
+run-step K served (resolved t ts) (lists room) ss i =
+    ap₂ (λ A S. runOutcome (RunState.resolved (heldOf (t .sources)) (surviving K t ts)) (listInto (listed K room A S)))
+    (archive-held K served (t .sources) (followed-of K served t ss (i .0) (i .1))) (surviving-sheet K served t ts ss (i .0) (i .1) (i .2))
+run-step K served spoiled c ss i = refl

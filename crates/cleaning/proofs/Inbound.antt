@@ -12,7 +12,7 @@ use Rattle.lists.specs.Lists.{filter, upFrom, Each}
 use Rattle.lists.proofs.Tests.{tested, both}
 use Rattle.lists.proofs.Each.{each-append, each-flat, each-map, each-imp, each-both}
 use Rattle.lists.proofs.Pairs.{each-upFrom}
-use Rattle.columns.specs.Limits.{kinds}
+use Rattle.columns.specs.Limits.{Served}
 use Rattle.columns.specs.Building.{inFile}
 use Rattle.cleaning.specs.Summary.{Summary}
 use Rattle.cleaning.specs.Writing.{Numbered, numbered, groupIs, rowsIn, Edge, edgesInto, edgesOf}
@@ -70,18 +70,18 @@ abbrev InBlock : Summary → Numbered → Type 0
 InBlock S r = let g = r .row .body .group in (S .start + rowsBefore S g ≤ r .number) × (r .number < S .start + rowsBefore S (suc g))
 
 -- an inbound edge of a file
-abbrev pub Inbound : ℕ → ℕ → Edge → Type 0
-Inbound first end e = (end ≤ e .child) × (first ≤ e .parent) × (e .parent < end) × (e .kind < kinds)
+abbrev pub Inbound : (K : ℕ) → ℕ → ℕ → Edge → Type 0
+Inbound K first end e = (end ≤ e .child) × (first ≤ e .parent) × (e .parent < end) × (e .kind < K)
 
-module _ (S : Summary) (good : Good S) where
+module _ (K : ℕ) (served : Served K) (S : Summary) (good : Good K S) where
   block : (j : ℕ) → j < length (S .groups) → Each (InBlock S) (rowsIn S j)
   block j l =
-      each-imp (λ r. GoodRow S j r × ((S .start + rowsBefore S j ≤ r .number) × (r .number < S .start + rowsBefore S (suc j)))) (InBlock S) (rowsIn S j)
+      each-imp (λ r. GoodRow K S j r × ((S .start + rowsBefore S j ≤ r .number) × (r .number < S .start + rowsBefore S (suc j)))) (InBlock S) (rowsIn S j)
       (λ r b. subst (λ g. (S .start + rowsBefore S g ≤ r .number) × (r .number < S .start + rowsBefore S (suc g))) (sym (b .0 .group)) (b .1))
-      (rows-within S good j l)
+      (rows-within K served S good j l)
 
   blocks : Each (InBlock S) (numbered S)
-  blocks = subst (Each (InBlock S)) (all-rows S good)
+  blocks = subst (Each (InBlock S)) (all-rows K served S good)
       (each-flat (InBlock S) (rowsIn S) (upFrom 0 (length (S .groups)))
       (each-imp (λ j. (0 ≤ j) × (j < 0 + length (S .groups))) (λ j. Each (InBlock S) (rowsIn S j)) (upFrom 0 (length (S .groups)))
       (λ j b. block j (omega arith)) (each-upFrom 0 (length (S .groups)))))
@@ -90,24 +90,24 @@ module _ (S : Summary) (good : Good S) where
   past-end : (g : ℕ) (r : Numbered) (p : ℕ) → groupIs g r ≡ false → InBlock S r → S .start + rowsBefore S g ≤ p → p < r .number
       → S .start + rowsBefore S (suc g) ≤ r .number
   past-end g r p d b l h = elim (tested (ltb (r .row .body .group) g)) [
-    | inl e ↦ absurd (omega (arith, before-rises S good (suc (r .row .body .group)) g (ltb-true (r .row .body .group) g e)))
-    | inr e ↦ omega (arith, before-rises S good (suc g) (r .row .body .group) (omega (arith, ltb-false (r .row .body .group) g e, eqb-false (r .row .body .group) g d)))
+    | inl e ↦ absurd (omega (arith, before-rises K served S good (suc (r .row .body .group)) g (ltb-true (r .row .body .group) g e)))
+    | inr e ↦ omega (arith, before-rises K served S good (suc g) (r .row .body .group) (omega (arith, ltb-false (r .row .body .group) g e, eqb-false (r .row .body .group) g d)))
   ]
 
-  pub edges-inbound : (g : ℕ) → Each (Inbound (S .start + rowsBefore S g) (S .start + rowsBefore S (suc g)))
+  pub edges-inbound : (g : ℕ) → Each (Inbound K (S .start + rowsBefore S g) (S .start + rowsBefore S (suc g)))
       (edgesOf S g (S .start + rowsBefore S g) (S .start + rowsBefore S (suc g)))
   unfolding edgesOf numbered
   edges-inbound g =
       let first = S .start + rowsBefore S g in
       let end = S .start + rowsBefore S (suc g) in
       let other : Numbered → Bool = λ r. not (groupIs g r) in
-      each-flat (Inbound first end) (λ r. edgesInto first end (r .number) 0 (r .row .parents)) (filter other (numbered S))
-      (each-imp (λ r. (other r ≡ true) × (InBlock S r × GoodLists (r .number) (r .row .parents)))
-      (λ r. Each (Inbound first end) (edgesInto first end (r .number) 0 (r .row .parents))) (filter other (numbered S))
-      (λ r b. each-imp (EdgeInto first end (r .number) 0 kinds) (Inbound first end) (edgesInto first end (r .number) 0 (r .row .parents))
+      each-flat (Inbound K first end) (λ r. edgesInto first end (r .number) 0 (r .row .parents)) (filter other (numbered S))
+      (each-imp (λ r. (other r ≡ true) × (InBlock S r × GoodLists K (r .number) (r .row .parents)))
+      (λ r. Each (Inbound K first end) (edgesInto first end (r .number) 0 (r .row .parents))) (filter other (numbered S))
+      (λ r b. each-imp (EdgeInto first end (r .number) 0 K) (Inbound K first end) (edgesInto first end (r .number) 0 (r .row .parents))
       (λ e i. (omega (arith, i .child, past-end g r (e .parent) (not-true (groupIs g r) (b .0)) (b .1 .0) (i .low) (i .below)), i .low, i .high, i .kind))
-      (edges-into first end (r .number) kinds 0 (r .row .parents) (omega (arith, b .1 .1 .each-kind)) (b .1 .1 .below)))
-      (each-both (λ r. other r ≡ true) (λ r. InBlock S r × GoodLists (r .number) (r .row .parents)) (filter other (numbered S))
+      (edges-into first end (r .number) K 0 (r .row .parents) (omega (arith, b .1 .1 .each-kind)) (b .1 .1 .below)))
+      (each-both (λ r. other r ≡ true) (λ r. InBlock S r × GoodLists K (r .number) (r .row .parents)) (filter other (numbered S))
       (filter-passes other (numbered S))
-      (each-filter other (λ r. InBlock S r × GoodLists (r .number) (r .row .parents)) (numbered S)
-      (each-both (InBlock S) (λ r. GoodLists (r .number) (r .row .parents)) (numbered S) blocks (lists-numbered (S .start) (S .rows) (good .lists))))))
+      (each-filter other (λ r. InBlock S r × GoodLists K (r .number) (r .row .parents)) (numbered S)
+      (each-both (InBlock S) (λ r. GoodLists K (r .number) (r .row .parents)) (numbered S) blocks (lists-numbered K served (S .start) (S .rows) (good .lists))))))

@@ -2,6 +2,7 @@
 use mathlib.Core.Path.{_≡_, refl, ap}
 use mathlib.Core.List.{List, [], _∷_, _++_, map, append-nil}
 use mathlib.Core.Option.{Option, none, some}
+use Rattle.columns.specs.Limits.{Served}
 use Rattle.lists.specs.Lists.{flat, last}
 use Rattle.columns.specs.Refusal.{unless, refuse}
 use Rattle.columns.specs.declared.refusal.Refusal.{Refusal}
@@ -21,70 +22,70 @@ use Rattle.columns.proofs.FirstBroken.{each-none}
 use Rattle.cleaning.proofs.Taken.{Followed, taken-followed, followed-append}
 
 -- the state of a run whose accepted takings have given the sources ss
-unfoldable pub Inv : State → List Source → Type 0
-Inv (taking t) ss = (t .sources ≡ ss) × Followed none ss
-Inv (resolved t ts) ss = (t .sources ≡ ss) × Followed none ss × (ts ≡ tables (archiveOf t))
-Inv spoiled ss = ⊥
+unfoldable pub Inv : (K : ℕ) → State → List Source → Type 0
+Inv K (taking t) ss = (t .sources ≡ ss) × Followed K none ss
+Inv K (resolved t ts) ss = (t .sources ≡ ss) × Followed K none ss × (ts ≡ tables K (archiveOf K t))
+Inv K spoiled ss = ⊥
 
 -- the same with what a call has taken
-abbrev After : Call → Outcome → List Source → Type 0
-After c o ss = Inv (o .state) (ss ++ took (did c (o .answer)))
+abbrev After : (K : ℕ) → Call → Outcome → List Source → Type 0
+After K c o ss = Inv K (o .state) (ss ++ took K (did c (o .answer)))
 
 -- a call that takes nothing and leaves the state
-quiet : (s : State) (ss : List Source) → Inv s ss → Inv s (ss ++ [])
-quiet s ss i = rw (append-nil ss) i
+quiet : (K : ℕ) (served : Served K) → (s : State) (ss : List Source) → Inv K s ss → Inv K s (ss ++ [])
+quiet K served s ss i = rw (append-nil ss) i
 
 -- ── taking ───────────────────────────────────────────────────────────────────────────────────
 
-rules-of-files : (ss : List Source) (fs : List File) → takeRules ss fs ≡ none → filesRules (last ss) fs ≡ none
+rules-of-files : (K : ℕ) (served : Served K) → (ss : List Source) (fs : List File) → takeRules K ss fs ≡ none → filesRules K (last ss) fs ≡ none
 unfolding takeRules
-rules-of-files ss fs e = (each-none (refuse OverRecords (overRecords ss fs) ∷ refuse OverNumbers (overNumbers ss fs) ∷ filesRules (last ss) fs ∷ []) e) .1 .1 .0
+rules-of-files K served ss fs e = (each-none (refuse OverRecords (overRecords ss fs) ∷ refuse OverNumbers (overNumbers ss fs) ∷ filesRules K (last ss) fs ∷ []) e) .1 .1 .0
 
-take-after : (t : Taken) (b : List ℕ) (x : Parsed (List File)) → parse b ≡ x → (ss : List Source) → Inv (taking t) ss
-    → After (takes b) (takeMore t (takenFrom (t .sources) x)) ss
+take-after : (K : ℕ) (served : Served K) → (t : Taken) (b : List ℕ) (x : Parsed (List File)) → parse K b ≡ x → (ss : List Source) → Inv K (taking t) ss
+    → After K (takes b) (takeMore t (takenFrom K (t .sources) x)) ss
 unfolding Inv unless
-take-after t b broken e ss i = quiet (taking t) ss i
-take-after t b (got fs q) e ss i = go (takeRules (t .sources) fs) refl
+take-after K served t b broken e ss i = quiet K served (taking t) ss i
+take-after K served t b (got fs q) e ss i = go (takeRules K (t .sources) fs) refl
   where
-    go : (r : Option Refusal) → takeRules (t .sources) fs ≡ r → After (takes b) (takeMore t (unless r (map sourceOf fs))) ss
+    go : (r : Option Refusal) → takeRules K (t .sources) fs ≡ r → After K (takes b) (takeMore t (unless r (map (sourceOf K) fs))) ss
     go none h = rw e (
-      ap (λ s. s ++ map sourceOf fs) (i .0),
-      followed-append ss (map sourceOf fs) (i .1) (taken-followed (last ss) fs (rw (i .0) at (rules-of-files (t .sources) fs h))),
+      ap (λ s. s ++ map (sourceOf K) fs) (i .0),
+      followed-append K served ss (map (sourceOf K) fs) (i .1) (taken-followed K served (last ss) fs (rw (i .0) at (rules-of-files K served (t .sources) fs h))),
     )
-    go (some r) h = quiet (taking t) ss i
+    go (some r) h = quiet K served (taking t) ss i
 
 -- ── resolving ────────────────────────────────────────────────────────────────────────────────
 
-resolve-after : (t : Taken) (r : Option Refusal) (ss : List Source) → Inv (taking t) ss → After resolves (resolveBy t (tables (archiveOf t)) r) ss
+resolve-after : (K : ℕ) (served : Served K) → (t : Taken) (r : Option Refusal) (ss : List Source) → Inv K (taking t) ss → After K resolves (resolveBy t (tables K (archiveOf K t)) r) ss
 unfolding Inv
-resolve-after t none ss i = rw (append-nil ss) (i .0, i .1, refl)
-resolve-after t (some r) ss i = quiet (taking t) ss i
+resolve-after K served t none ss i = rw (append-nil ss) (i .0, i .1, refl)
+resolve-after K served t (some r) ss i = quiet K served (taking t) ss i
 
 -- ── every call ───────────────────────────────────────────────────────────────────────────────
 
-pub step-after : (s : State) (c : Call) (ss : List Source) → Inv s ss → Inv ((step s c) .state) (ss ++ took (did c ((step s c) .answer)))
+pub step-after : (K : ℕ) (served : Served K) → (s : State) (c : Call) (ss : List Source) → Inv K s ss → Inv K ((step K s c) .state) (ss ++ took K (did c ((step K s c) .answer)))
 unfolding Inv step resolve
-step-after (taking t) (takes b) ss i = take-after t b (parse b) refl ss i
-step-after (taking t) resolves ss i = resolve-after t (resolveRules t (archiveOf t) (tables (archiveOf t))) ss i
-step-after (taking t) (writes room) ss i = quiet (taking t) ss i
-step-after (taking t) (maps p) ss i = quiet (taking t) ss i
-step-after (taking t) counts ss i = quiet (taking t) ss i
-step-after (taking t) (lists room) ss i = quiet (taking t) ss i
-step-after (resolved t ts) (takes b) ss i = quiet (resolved t ts) ss i
-step-after (resolved t ts) resolves ss i = quiet (resolved t ts) ss i
-step-after (resolved t ts) (writes room) ss i = quiet (resolved t ts) ss i
-step-after (resolved t ts) (maps p) ss i = quiet (resolved t ts) ss i
-step-after (resolved t ts) counts ss i = quiet (resolved t ts) ss i
-step-after (resolved t ts) (lists room) ss i = quiet (resolved t ts) ss i
-step-after spoiled c ss i = absurd i
+step-after K served (taking t) (takes b) ss i = take-after K served t b (parse K b) refl ss i
+step-after K served (taking t) resolves ss i = resolve-after K served t (resolveRules t (archiveOf K t) (tables K (archiveOf K t))) ss i
+step-after K served (taking t) (writes room) ss i = quiet K served (taking t) ss i
+step-after K served (taking t) (maps p) ss i = quiet K served (taking t) ss i
+step-after K served (taking t) counts ss i = quiet K served (taking t) ss i
+step-after K served (taking t) (lists room) ss i = quiet K served (taking t) ss i
+step-after K served (resolved t ts) (takes b) ss i = quiet K served (resolved t ts) ss i
+step-after K served (resolved t ts) resolves ss i = quiet K served (resolved t ts) ss i
+step-after K served (resolved t ts) (writes room) ss i = quiet K served (resolved t ts) ss i
+step-after K served (resolved t ts) (maps p) ss i = quiet K served (resolved t ts) ss i
+step-after K served (resolved t ts) counts ss i = quiet K served (resolved t ts) ss i
+step-after K served (resolved t ts) (lists room) ss i = quiet K served (resolved t ts) ss i
+step-after K served spoiled c ss i = absurd i
 
 -- once resolved, nothing is taken
-pub no-more : (t : Taken) (ts : List (List (List ℕ))) (cs : List Call) → flat took (history (resolved t ts) cs) ≡ []
+pub no-more : (K : ℕ) (served : Served K) → (t : Taken) (ts : List (List (List ℕ))) (cs : List Call) → flat (took K) (history K (resolved t ts) cs) ≡ []
 unfolding history step
-no-more t ts [] = refl
-no-more t ts (takes b ∷ cs) = no-more t ts cs
-no-more t ts (resolves ∷ cs) = no-more t ts cs
-no-more t ts (writes room ∷ cs) = no-more t ts cs
-no-more t ts (maps p ∷ cs) = no-more t ts cs
-no-more t ts (counts ∷ cs) = no-more t ts cs
-no-more t ts (lists room ∷ cs) = no-more t ts cs
+no-more K served t ts [] = refl
+no-more K served t ts (takes b ∷ cs) = no-more K served t ts cs
+no-more K served t ts (resolves ∷ cs) = no-more K served t ts cs
+no-more K served t ts (writes room ∷ cs) = no-more K served t ts cs
+no-more K served t ts (maps p ∷ cs) = no-more K served t ts cs
+no-more K served t ts (counts ∷ cs) = no-more K served t ts cs
+no-more K served t ts (lists room ∷ cs) = no-more K served t ts cs

@@ -9,6 +9,7 @@ use native.Mathlib.Nat.{zero-add}
 use lib.Dec.{leb, eqb}
 use lib.ListN.{length, getD}
 use borrow.Author.Tests.{leb-true, eqb-true}
+use Rattle.columns.specs.Limits.{Served}
 use Rattle.lists.specs.Lists.{any, filter, sum, upFrom, Each}
 use Rattle.lists.specs.Order.{levelAbove, notFalling}
 use Rattle.lists.proofs.Tests.{tested, both, all-each}
@@ -52,11 +53,11 @@ kept-events A = kept-from (A .start) (A .events)
 
 -- ── bodies ───────────────────────────────────────────────────────────────────────────────────
 
-module _ {B : Type 0} (A : Archive) (f : Body → B) where
-  pub map-rows : map (λ r. f (r .body)) ((summary A) .rows) ≡ map (λ e. f (e .body)) (keptEvents (A .events))
+module _ (K : ℕ) (served : Served K) {B : Type 0} (A : Archive) (f : Body → B) where
+  pub map-rows : map (λ r. f (r .body)) ((summary K A) .rows) ≡ map (λ e. f (e .body)) (keptEvents (A .events))
   unfolding summary keptBy
   map-rows =
-      map-map (λ r. f (r .body)) (keptBy A) (survivors A) ∙ sym (map-map (λ e. f (e .body)) (at A) (survivors A))
+      map-map (λ r. f (r .body)) (keptBy K A) (survivors A) ∙ sym (map-map (λ e. f (e .body)) (at A) (survivors A))
       ∙ ap (map (λ e. f (e .body))) (kept-events A)
 
 each-of-map : {A B : Type 0} (P : B → Type 0) (f : A → B) (xs : List A) → Each P (map f xs) → Each (λ x. P (f x)) xs
@@ -64,20 +65,20 @@ each-of-map P f [] h = tt
 each-of-map P f (x ∷ xs) h = (h .0, each-of-map P f xs (h .1))
 
 -- what each event's body has, each row's has
-pub each-row : (A : Archive) (P : Body → Type 0) → Each (λ e. P (e .body)) (A .events) → Each (λ r. P (r .body)) ((summary A) .rows)
+pub each-row : (K : ℕ) (served : Served K) → (A : Archive) (P : Body → Type 0) → Each (λ e. P (e .body)) (A .events) → Each (λ r. P (r .body)) ((summary K A) .rows)
 unfolding keptEvents
-each-row A P h =
-    each-of-map P (λ r. r .body) ((summary A) .rows)
-    (rw (map-rows A (λ b. b)) (each-map P (λ e. e .body) (keptEvents (A .events)) (each-filter (λ e. not (e .erased)) (λ e. P (e .body)) (A .events) h)))
+each-row K served A P h =
+    each-of-map P (λ r. r .body) ((summary K A) .rows)
+    (rw (map-rows K served A (λ b. b)) (each-map P (λ e. e .body) (keptEvents (A .events)) (each-filter (λ e. not (e .erased)) (λ e. P (e .body)) (A .events) h)))
 
 -- a figure of the rows' bodies sums to no more than that of all events' bodies
-pub sum-rows : (A : Archive) (f : Body → ℕ) → sum (λ r. f (r .body)) ((summary A) .rows) ≤ sum (λ e. f (e .body)) (A .events)
+pub sum-rows : (K : ℕ) (served : Served K) → (A : Archive) (f : Body → ℕ) → sum (λ r. f (r .body)) ((summary K A) .rows) ≤ sum (λ e. f (e .body)) (A .events)
 unfolding keptEvents
-sum-rows A f =
-    let e = ap (sum (λ n. n)) (map-rows A f) in
+sum-rows K served A f =
+    let e = ap (sum (λ n. n)) (map-rows K served A f) in
     omega (
       arith,
-      sum-map (λ n. n) (λ r. f (r .body)) ((summary A) .rows),
+      sum-map (λ n. n) (λ r. f (r .body)) ((summary K A) .rows),
       sum-map (λ n. n) (λ e. f (e .body)) (keptEvents (A .events)),
       sum-filter (λ e. f (e .body)) (λ e. not (e .erased)) (A .events),
     )
@@ -100,9 +101,9 @@ level-kept low (e ∷ es) h =
     go true h g = h
     go false h g = g
 
-pub rows-level : (A : Archive) → notFalling (map groupNumber (A .events)) ≡ true → notFalling (map (λ r. r .body .group) ((summary A) .rows)) ≡ true
+pub rows-level : (K : ℕ) (served : Served K) → (A : Archive) → notFalling (map groupNumber (A .events)) ≡ true → notFalling (map (λ r. r .body .group) ((summary K A) .rows)) ≡ true
 unfolding notFalling
-rows-level A h = rw (map-rows A (λ b. b .group)) (level-kept 0 (A .events) h)
+rows-level K served A h = rw (map-rows K served A (λ b. b .group)) (level-kept 0 (A .events) h)
 
 survivor-kept : (g : ℕ) (es : List Event) → any (survivesIn g) es ≡ true → List·Memᴰ g (map groupNumber (keptEvents es))
 unfolding any survivesIn keptEvents filter
@@ -116,10 +117,10 @@ survivor-kept g (e ∷ es) h = go (not (e .erased)) (tested (eqb (groupNumber e)
     go true (inr t) h ih = List·Memᴰ·tail (ih (rw t at h))
     go false t h ih = ih h
 
-pub group-has-row : (A : Archive) → groupsSurvive A ≡ true → (g : ℕ) → g < length (A .groups) → List·Memᴰ g (map (λ r. r .body .group) ((summary A) .rows))
+pub group-has-row : (K : ℕ) (served : Served K) → (A : Archive) → groupsSurvive A ≡ true → (g : ℕ) → g < length (A .groups) → List·Memᴰ g (map (λ r. r .body .group) ((summary K A) .rows))
 unfolding groupsSurvive
-group-has-row A h g l =
+group-has-row K served A h g l =
     let n = length (A .groups) in
     let t = each-getD (λ g. any (survivesIn g) (A .events) ≡ true) (upFrom 0 n) g 0
     (all-each (λ g. any (survivesIn g) (A .events)) (upFrom 0 n) h) (rw (length-upFrom 0 n) l) in
-    rw (map-rows A (λ b. b .group)) (survivor-kept g (A .events) (rw (getD-upFrom 0 n g 0 l, zero-add g) at t))
+    rw (map-rows K served A (λ b. b .group)) (survivor-kept g (A .events) (rw (getD-upFrom 0 n g 0 l, zero-add g) at t))

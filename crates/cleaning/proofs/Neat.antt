@@ -6,7 +6,7 @@ use mathlib.Core.Logic.{_⊎_, inl, inr}
 use mathlib.Core.Option.{none, some}
 use Prim.Native.Nat.{ℕ, _+_, _-_, _*_, _<_}
 use native.Mathlib.Omega.{arith}
-use native.Mathlib.Nat.{not-suc-le-zero}
+use native.Mathlib.Nat.{not-suc-le-zero, mul-zero}
 use lib.Dec.{ltb}
 use lib.ListN.{length, getD}
 use borrow.Author.Tests.{ltb-true}
@@ -14,7 +14,7 @@ use Rattle.lists.specs.Lists.{all, isEmpty, Each}
 use Rattle.lists.specs.Order.{rising, levelAbove, notFalling}
 use Rattle.lists.proofs.Tests.{tested, all-each}
 use Rattle.lists.proofs.Each.{each-imp}
-use Rattle.columns.specs.Limits.{kinds, maxNumbers}
+use Rattle.columns.specs.Limits.{Served, maxNumbers}
 use Rattle.columns.specs.Refusal.{refuse}
 use Rattle.columns.specs.Building.{slotRules}
 use Rattle.columns.specs.declared.refusal.Refusal.the-variants.{GroupOrder, OverRecords, OverNumbers, NoSurvivor}
@@ -47,19 +47,19 @@ use Rattle.cleaning.proofs.FilledGroups.{filled-survivors}
 use Rattle.cleaning.proofs.TidyHeld.{groups-below, tidy-with}
 
 -- rows in order, a tidy sheet, parents below their events
-pub record Neat (h : Held) : Type 0 where
-  pub rows : Rows h
-  pub tidy : Tidy (h .sheet)
-  pub below : SlotsBelow h
+pub record Neat (K : ℕ) (h : Held) : Type 0 where
+  pub rows : Rows K h
+  pub tidy : Tidy K (h .sheet)
+  pub below : SlotsBelow K h
 
-pub neat-nothing : Neat nothing
+pub neat-nothing : (K : ℕ) (served : Served K) → Neat K nothing
 unfolding nothing notFalling levelAbove rising all labelsFit
-neat-nothing = record {
-  rows = record { groups = refl; tags = refl; labels = refl; lists = refl; roots = tt; unresolved = tt };
+neat-nothing K served = record {
+  rows = record { groups = refl; tags = refl; labels = refl; lists = sym (mul-zero K); roots = tt; unresolved = tt };
   tidy = record {
     eachGroup = refl;
     eachLabel = refl;
-    eachList = refl;
+    eachList = rw (mul-zero K);
     groupOrder = refl;
     groupsKnown = refl;
     rootOrder = refl;
@@ -73,15 +73,15 @@ neat-nothing = record {
   below = tt;
 }
 
-neat-with : (h : Held) (s : Source) → Ready h s → Sound s → Orderly s → Neat h → Neat (heldWith h s)
-neat-with h s q d o n = record { rows = (held-with h s q d) .rows; tidy = tidy-with h s q d o (n .tidy); below = below-with h s q d (n .below) }
+neat-with : (K : ℕ) (served : Served K) → (h : Held) (s : Source) → Ready K h s → Sound K s → Orderly s → Neat K h → Neat K (heldWith h s)
+neat-with K served h s q d o n = record { rows = (held-with K served h s q d) .rows; tidy = tidy-with K served h s q d o (n .tidy); below = below-with K served h s q d (n .below) }
 
-neat-after : (before : Source) (h : Held) (ss : List Source) → HeldLast before h → Neat h → Followed (some before) ss → Each Orderly ss
-    → Neat (foldl heldWith h ss)
-neat-after before h [] e n f o = n
-neat-after before h (s ∷ ss) e n f o =
-    let q = ready (some before) h s e (f .1) in
-    neat-after s (heldWith h s) ss (held-with h s q (f .0)) (neat-with h s q (f .0) (o .0) n) (f .2) (o .1)
+neat-after : (K : ℕ) (served : Served K) → (before : Source) (h : Held) (ss : List Source) → HeldLast K before h → Neat K h → Followed K (some before) ss → Each Orderly ss
+    → Neat K (foldl heldWith h ss)
+neat-after K served before h [] e n f o = n
+neat-after K served before h (s ∷ ss) e n f o =
+    let q = ready K served (some before) h s e (f .1) in
+    neat-after K served s (heldWith h s) ss (held-with K served h s q (f .0)) (neat-with K served h s q (f .0) (o .0) n) (f .2) (o .1)
 
 -- ── what the next file looks back at ─────────────────────────────────────────────────────────
 
@@ -111,7 +111,7 @@ cover-there : (b : Bool) (c : SourceCover) → b ≡ isThere (cond b (some c) no
 cover-there true c = refl
 cover-there false c = refl
 
-module _ (h : Held) (n : Neat h) where
+module _ (K : ℕ) (served : Served K) (h : Held) (n : Neat K h) where
   links-known : Each (λ l. l .group < length (h .sheet .groups)) (h .sheet .links)
   links-known =
       let m = length (h .sheet .groups) in
@@ -119,7 +119,7 @@ module _ (h : Held) (n : Neat h) where
       (all-each (λ l. ltb (l .group) m) (h .sheet .links) (n .tidy .linksKnown))
 
   -- a sheet with a group is one whose last source ends where its rows end
-  pub held-last : isEmpty (h .sheet .groups) ≡ false → HeldLast (looksLike (h .sheet)) h
+  pub held-last : isEmpty (h .sheet .groups) ≡ false → HeldLast K (looksLike (h .sheet)) h
   unfolding ending
   held-last e = record {
     rows = n .rows;
@@ -131,11 +131,11 @@ module _ (h : Held) (n : Neat h) where
   }
 
   -- one without a group has no row
-  pub ready-first : isEmpty (h .sheet .groups) ≡ true → (s : Source) → s .group ≡ 0 → Ready h s
+  pub ready-first : isEmpty (h .sheet .groups) ≡ true → (s : Source) → s .group ≡ 0 → Ready K h s
   unfolding sheetWith
   ready-first e s g =
       let z = no-element (h .sheet .groups) e in
-      let none-held = subst (λ k. Each (λ x. x < k) (h .sheet .rowGroups)) z (groups-below h (n .tidy)) in
+      let none-held = subst (λ k. Each (λ x. x < k) (h .sheet .rowGroups)) z (groups-below K served h (n .tidy)) in
       let m : length (h .erased) ≡ 0 = sym (n .rows .groups) ∙ none-below (h .sheet .rowGroups) none-held in
       record {
         rows = n .rows;
@@ -149,54 +149,54 @@ module _ (h : Held) (n : Neat h) where
       }
 
 -- a neat run with an accepted archive more is neat
-pub neat-more : (h : Held) (fs : List File) → Neat h → holdRules h fs ≡ none → Each FileFits fs → Neat (foldl heldWith h (map sourceOf fs))
+pub neat-more : (K : ℕ) (served : Served K) → (h : Held) (fs : List File) → Neat K h → holdRules K h fs ≡ none → Each (FileFits K) fs → Neat K (foldl heldWith h (map (sourceOf K) fs))
 unfolding holdRules
-neat-more h fs n e k =
+neat-more K served h fs n e k =
     let before = lookBack (h .sheet) in
-    let rules : filesRules before fs ≡ none =
-    each-none (refuse OverRecords (recordsOver h fs) ∷ refuse OverNumbers (numbersOver h fs) ∷ filesRules before fs ∷ []) e .1 .1 .0 in
-    go (map sourceOf fs) (taken-followed before fs rules) (orderly-taken before fs rules k) (tested (isEmpty (h .sheet .groups)))
+    let rules : filesRules K before fs ≡ none =
+    each-none (refuse OverRecords (recordsOver h fs) ∷ refuse OverNumbers (numbersOver h fs) ∷ filesRules K before fs ∷ []) e .1 .1 .0 in
+    go (map (sourceOf K) fs) (taken-followed K served before fs rules) (orderly-taken K served before fs rules k) (tested (isEmpty (h .sheet .groups)))
   where
-    go : (ss : List Source) → Followed (lookBack (h .sheet)) ss → Each Orderly ss
-        → (isEmpty (h .sheet .groups) ≡ true) ⊎ (isEmpty (h .sheet .groups) ≡ false) → Neat (foldl heldWith h ss)
-    go ss f o (inr b) = neat-after (looksLike (h .sheet)) h ss (held-last h n b) n (subst (λ x. Followed x ss) (look-back (h .sheet) false b) f) o
+    go : (ss : List Source) → Followed K (lookBack (h .sheet)) ss → Each Orderly ss
+        → (isEmpty (h .sheet .groups) ≡ true) ⊎ (isEmpty (h .sheet .groups) ≡ false) → Neat K (foldl heldWith h ss)
+    go ss f o (inr b) = neat-after K served (looksLike (h .sheet)) h ss (held-last K served h n b) n (subst (λ x. Followed K x ss) (look-back (h .sheet) false b) f) o
     go [] f o (inl b) = n
     go (s ∷ ss) f o (inl b) =
-        let q = ready-first h n b s (subst (λ x. FollowsLast x s) (look-back (h .sheet) true b) (f .1)) in
-        neat-after s (heldWith h s) ss (held-with h s q (f .0)) (neat-with h s q (f .0) (o .0) n) (f .2) (o .1)
+        let q = ready-first K served h n b s (subst (λ x. FollowsLast x s) (look-back (h .sheet) true b) (f .1)) in
+        neat-after K served s (heldWith h s) ss (held-with K served h s q (f .0)) (neat-with K served h s q (f .0) (o .0) n) (f .2) (o .1)
 
 -- ── resolved ─────────────────────────────────────────────────────────────────────────────────
 
-pub neat-valid : (h : Held) → Neat h → Valid (archiveHeld h)
-neat-valid h n = valid-held h (n .rows) (n .below)
+pub neat-valid : (K : ℕ) (served : Served K) → (h : Held) → Neat K h → Valid (archiveHeld K h)
+neat-valid K served h n = valid-held K served h (n .rows) (n .below)
 
 -- the sheet of the survivors of a neat run that is not refused is tidy, and every group has a row in it
-module _ (h : Held) (n : Neat h) where
-  pub survivors-tidy : Tidy (survivorSheet h (slotted (length ((archiveHeld h) .events)) (tables (archiveHeld h))))
+module _ (K : ℕ) (served : Served K) (h : Held) (n : Neat K h) where
+  pub survivors-tidy : Tidy K (survivorSheet K h (slotted (length ((archiveHeld K h) .events)) (tables K (archiveHeld K h))))
   survivors-tidy =
-      let A = archiveHeld h in
-      tidy-survivors h (n .rows) (n .tidy) (slotted (length (A .events)) (tables A))
-      (slotted-length (length (A .events)) (tables A) (tables-length A) ∙ ap (λ m. kinds * m) (events-length h (n .rows)))
+      let A = archiveHeld K h in
+      tidy-survivors K served h (n .rows) (n .tidy) (slotted (length (A .events)) (tables K A))
+      (slotted-length K served (length (A .events)) (tables K A) (tables-length K served A) ∙ ap (λ m. K * m) (events-length K served h (n .rows)))
 
   -- it names no parent at or above its event, and none twice in a slot
-  pub survivors-once : let s = survivorSheet h (slotted (length ((archiveHeld h) .events)) (tables (archiveHeld h))) in slotRules (s .start) 0 (s .lists) ≡ none
+  pub survivors-once : let s = survivorSheet K h (slotted (length ((archiveHeld K h) .events)) (tables K (archiveHeld K h))) in slotRules K (s .start) 0 (s .lists) ≡ none
   unfolding survivorSheet archiveHeld
   survivors-once =
-      let A = archiveHeld h in
-      let v = neat-valid h n in
-      let same = summary-held h (tables A) (n .rows) (tables-length A) ∙ tabled-summary A v in
-      rows-slots (survivorSheet h (slotted (length (A .events)) (tables A))) survivors-tidy (subst (λ S. RowsFrom (A .start) (S .rows)) (sym same) (lists-good A v))
+      let A = archiveHeld K h in
+      let v = neat-valid K served h n in
+      let same = summary-held K served h (tables K A) (n .rows) (tables-length K served A) ∙ tabled-summary K served A v in
+      rows-slots K served (survivorSheet K h (slotted (length (A .events)) (tables K A))) survivors-tidy (subst (λ S. RowsFrom K (A .start) (S .rows)) (sym same) (lists-good K served A v))
 
-  pub neat-resolved : heldRules h (archiveHeld h) (tables (archiveHeld h)) ≡ none
-      → Tidy (survivorSheet h (slotted (length ((archiveHeld h) .events)) (tables (archiveHeld h))))
-      × Filled (survivorSheet h (slotted (length ((archiveHeld h) .events)) (tables (archiveHeld h))))
+  pub neat-resolved : heldRules h (archiveHeld K h) (tables K (archiveHeld K h)) ≡ none
+      → Tidy K (survivorSheet K h (slotted (length ((archiveHeld K h) .events)) (tables K (archiveHeld K h))))
+      × Filled (survivorSheet K h (slotted (length ((archiveHeld K h) .events)) (tables K (archiveHeld K h))))
   unfolding heldRules
   neat-resolved e =
-      let A = archiveHeld h in
+      let A = archiveHeld K h in
       let rules = each-none (refuse GroupOrder (isEmpty (h .sheet .groups))
-      ∷ refuse OverNumbers (ltb maxNumbers (entries (tables A)))
+      ∷ refuse OverNumbers (ltb maxNumbers (entries (tables K A)))
       ∷ refuse NoSurvivor (not (groupsSurvive A))
       ∷ []) e in (
         survivors-tidy,
-        filled-survivors h (n .rows) (n .tidy) (slotted (length (A .events)) (tables A)) (passed NoSurvivor (groupsSurvive A) (rules .1 .1 .0)),
+        filled-survivors K served h (n .rows) (n .tidy) (slotted (length (A .events)) (tables K A)) (passed NoSurvivor (groupsSurvive A) (rules .1 .1 .0)),
       )

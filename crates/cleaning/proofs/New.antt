@@ -10,7 +10,7 @@ use Rattle.lists.specs.Lists.{once, distinct, Each}
 use Rattle.lists.proofs.Each.{each-imp, each-map}
 use Rattle.lists.proofs.Once.{each-once, once-map, distinct-once}
 use Rattle.lists.proofs.Flat.{getD-map-upFrom}
-use Rattle.columns.specs.Limits.{kinds}
+use Rattle.columns.specs.Limits.{Served}
 use Rattle.cleaning.specs.Archive.{Archive}
 use Rattle.cleaning.specs.Routes.{ends, Valid}
 use Rattle.cleaning.specs.Cleaning.{renumber, newParents}
@@ -19,7 +19,7 @@ use Rattle.cleaning.proofs.Ends.{Stop, ends-stop}
 use Rattle.cleaning.proofs.Inj.{renumber-lt, renumber-inj}
 use Rattle.cleaning.proofs.Table.{getD-lists, memo-right}
 
-module _ (A : Archive) (k : ℕ) (v : Valid A) (p : ℕ) (l : A .start ≤ p) (h : p < A .start + length (A .events)) where
+module _ (K : ℕ) (served : Served K) (A : Archive) (k : ℕ) (v : Valid A) (p : ℕ) (l : A .start ≤ p) (h : p < A .start + length (A .events)) where
   ends-within : Each (Stop A (A .start + length (A .events))) (ends A k p)
   ends-within = each-imp (Stop A p) (Stop A (A .start + length (A .events))) (ends A k p) (λ x s. (s .0, omega arith)) (ends-stop A k v p l)
 
@@ -31,9 +31,9 @@ module _ (A : Archive) (k : ℕ) (v : Valid A) (p : ℕ) (l : A .start ≤ p) (h
   pub memo-new : getD (memo A k (length (A .events))) (p - A .start) [] ≡ newParents A k p
   memo-new = rw (memo-right A k v (length (A .events)), new-once) (getD-lists A k (length (A .events)) p l h)
 
-  pub tables-new : k < kinds → getD (getD (tables A) k []) (p - A .start) [] ≡ newParents A k p
+  pub tables-new : k < K → getD (getD (tables K A) k []) (p - A .start) [] ≡ newParents A k p
   unfolding tables
-  tables-new b = rw (getD-map-upFrom (λ j. memo A j (length (A .events))) 0 kinds k [] b, zero-add k) memo-new
+  tables-new b = rw (getD-map-upFrom (λ j. memo A j (length (A .events))) 0 K k [] b, zero-add k) memo-new
 
   pub new-distinct : distinct (newParents A k p) ≡ true
   new-distinct = rw new-once (distinct-once (map (renumber A) (ends A k p)))

@@ -9,7 +9,7 @@ use Rattle.lists.specs.Lists.{sum, upFrom, distinct, once, Each}
 use Rattle.lists.proofs.Each.{each-imp, each-map, each-all}
 use Rattle.lists.proofs.Flat.{length-map-upFrom}
 use Rattle.lists.proofs.Pairs.{each-upFrom}
-use Rattle.columns.specs.Limits.{kinds}
+use Rattle.columns.specs.Limits.{Served}
 use Rattle.cleaning.specs.Archive.{Event, Archive}
 use Rattle.cleaning.specs.Routes.{Valid}
 use Rattle.cleaning.specs.Cleaning.{renumber, newParents, survivorsFrom, survivors}
@@ -20,16 +20,17 @@ use Rattle.cleaning.proofs.Good.{GoodLists, RowsFrom}
 use Rattle.cleaning.proofs.Survivors.{Within, within, map-renumber-survivors}
 use Rattle.cleaning.proofs.Table.{listOf, memo-right}
 use Rattle.cleaning.proofs.New.{new-once, new-distinct, new-below}
-use Rattle.lists.proofs.Sums.{sum-map, sum-ext, sum-both}
+use Rattle.lists.proofs.Sums.{sum-map, sum-ext}
+use Rattle.lists.proofs.Counting.{sum-below, sum-swap}
 
 -- ── rows and their numbers ───────────────────────────────────────────────────────────────────
 
-rows-from : (f : ℕ → ℕ) (g : ℕ → Kept) (n : ℕ) (ps : List ℕ) → map f ps ≡ upFrom n (length ps) → Each (λ p. GoodLists (f p) ((g p) .parents)) ps
-    → RowsFrom n (map g ps)
+rows-from : (K : ℕ) (served : Served K) → (f : ℕ → ℕ) (g : ℕ → Kept) (n : ℕ) (ps : List ℕ) → map f ps ≡ upFrom n (length ps) → Each (λ p. GoodLists K (f p) ((g p) .parents)) ps
+    → RowsFrom K n (map g ps)
 unfolding upFrom
-rows-from f g n [] e h = tt
-rows-from f g n (p ∷ ps) e h =
-    (subst (λ m. GoodLists m ((g p) .parents)) (head-eq-of-cons-eq e) (h .0), rows-from f g (suc n) ps (tail-eq-of-cons-eq e) (h .1))
+rows-from K served f g n [] e h = tt
+rows-from K served f g n (p ∷ ps) e h =
+    (subst (λ m. GoodLists K m ((g p) .parents)) (head-eq-of-cons-eq e) (h .0), rows-from K served f g (suc n) ps (tail-eq-of-cons-eq e) (h .1))
 
 -- ── sums over survivors ──────────────────────────────────────────────────────────────────────
 
@@ -50,21 +51,21 @@ unfolding upFrom sum
 sum-shift f a i zero = refl
 sum-shift f a i (suc n) = let e : a + suc i ≡ suc (a + i) = omega arith in rw (sum-shift f a (suc i) n, e)
 
-module _ (A : Archive) (v : Valid A) where
-  good-lists : (p : ℕ) → Within (A .start) (A .events) p → GoodLists (renumber A p) ((keptBy A p) .parents)
+module _ (K : ℕ) (served : Served K) (A : Archive) (v : Valid A) where
+  good-lists : (p : ℕ) → Within (A .start) (A .events) p → GoodLists K (renumber A p) ((keptBy K A p) .parents)
   unfolding keptBy
   good-lists p w = record {
-    each-kind = length-map-upFrom (λ k. newParents A k p) 0 kinds;
-    once = each-map (λ ps. distinct ps ≡ true) (λ k. newParents A k p) (upFrom 0 kinds)
-        (each-all (λ k. distinct (newParents A k p) ≡ true) (λ k. new-distinct A k v p (w .0) (w .1)) (upFrom 0 kinds));
-    below = each-map (λ ps. Each (λ q. q < renumber A p) ps) (λ k. newParents A k p) (upFrom 0 kinds)
-        (each-all (λ k. Each (λ q. q < renumber A p) (newParents A k p)) (λ k. new-below A k v p (w .0) (w .1)) (upFrom 0 kinds));
+    each-kind = length-map-upFrom (λ k. newParents A k p) 0 K;
+    once = each-map (λ ps. distinct ps ≡ true) (λ k. newParents A k p) (upFrom 0 K)
+        (each-all (λ k. distinct (newParents A k p) ≡ true) (λ k. new-distinct K served A k v p (w .0) (w .1)) (upFrom 0 K));
+    below = each-map (λ ps. Each (λ q. q < renumber A p) ps) (λ k. newParents A k p) (upFrom 0 K)
+        (each-all (λ k. Each (λ q. q < renumber A p) (newParents A k p)) (λ k. new-below K served A k v p (w .0) (w .1)) (upFrom 0 K));
   }
 
-  pub lists-good : RowsFrom (A .start) ((summary A) .rows)
+  pub lists-good : RowsFrom K (A .start) ((summary K A) .rows)
   unfolding summary
-  lists-good = rows-from (renumber A) (keptBy A) (A .start) (survivors A) (map-renumber-survivors A)
-      (each-imp (Within (A .start) (A .events)) (λ p. GoodLists (renumber A p) ((keptBy A p) .parents)) (survivors A) good-lists (within A))
+  lists-good = rows-from K served (renumber A) (keptBy K A) (A .start) (survivors A) (map-renumber-survivors A)
+      (each-imp (Within (A .start) (A .events)) (λ p. GoodLists K (renumber A p) ((keptBy K A p) .parents)) (survivors A) good-lists (within A))
 
   -- the entries of a kind in the table, number by number
   memo-entries : (k : ℕ) → sum length (memo A k (length (A .events))) ≡ sum (λ p. length (newParents A k p)) (upFrom (A .start) (length (A .events)))
@@ -74,7 +75,7 @@ module _ (A : Archive) (v : Valid A) where
       rw (memo-right A k v n, sum-map length (listOf A k) (upFrom 0 n))
       (sum-ext (λ i. length (listOf A k i)) (λ i. length (newParents A k (A .start + i))) (upFrom 0 n)
       (each-imp (λ i. (0 ≤ i) × (i < 0 + n)) (λ i. length (listOf A k i) ≡ length (newParents A k (A .start + i))) (upFrom 0 n)
-      (λ i b. ap length (sym (new-once A k v (A .start + i) (omega arith) (omega (arith, b .1))))) (each-upFrom 0 n))
+      (λ i b. ap length (sym (new-once K served A k v (A .start + i) (omega arith) (omega (arith, b .1))))) (each-upFrom 0 n))
       ∙ sum-shift (λ p. length (newParents A k p)) (A .start) 0 n
       ∙ ap (λ m. sum (λ p. length (newParents A k p)) (upFrom m n)) (omega arith))
 
@@ -82,17 +83,17 @@ module _ (A : Archive) (v : Valid A) where
   unfolding survivors
   kind-entries k = omega (arith, memo-entries k, sum-survivors (λ p. length (newParents A k p)) (A .start) (A .events))
 
-  pub entries-within : sum (λ r. sum length (r .parents)) ((summary A) .rows) ≤ entries (tables A)
-  unfolding summary keptBy entries tables sum upFrom
+  pub entries-within : sum (λ r. sum length (r .parents)) ((summary K A) .rows) ≤ entries (tables K A)
+  unfolding summary keptBy entries tables
   entries-within =
-      let a : ℕ → ℕ = λ p. length (newParents A 0 p) in
-      let b : ℕ → ℕ = λ p. length (newParents A 1 p) in
+      let f : ℕ → ℕ → ℕ = λ p k. length (newParents A k p) in
+      let memos : ℕ → List (List ℕ) = λ k. memo A k (length (A .events)) in
       omega (
         arith,
-        sum-map (λ r. sum length (r .parents)) (keptBy A) (survivors A),
-        sum-ext (λ p. sum length ((keptBy A p) .parents)) (λ p. a p + b p) (survivors A)
-            (each-all (λ p. sum length ((keptBy A p) .parents) ≡ a p + b p) (λ p. omega arith) (survivors A)),
-        sum-both a b (survivors A),
-        kind-entries 0,
-        kind-entries 1,
+        sum-map (λ r. sum length (r .parents)) (keptBy K A) (survivors A),
+        sum-ext (λ p. sum length ((keptBy K A p) .parents)) (λ p. sum (f p) (upFrom 0 K)) (survivors A)
+            (each-all (λ p. sum length ((keptBy K A p) .parents) ≡ sum (f p) (upFrom 0 K)) (λ p. sum-map length (λ k. newParents A k p) (upFrom 0 K)) (survivors A)),
+        sum-swap f (survivors A) (upFrom 0 K),
+        sum-below (λ k. sum (λ p. f p k) (survivors A)) (λ k. sum length (memos k)) kind-entries (upFrom 0 K),
+        sum-map (sum length) memos (upFrom 0 K),
       )

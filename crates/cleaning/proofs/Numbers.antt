@@ -5,6 +5,7 @@ use Prim.Native.Nat.{ℕ, suc, _+_, _≤_, _<_}
 use native.Mathlib.Omega.{arith}
 use native.Mathlib.Nat.{not-suc-le-zero, add-zero}
 use lib.ListN.{length}
+use Rattle.columns.specs.Limits.{Served}
 use Rattle.lists.specs.Lists.{sum, Each}
 use Rattle.lists.proofs.Each.{each-imp}
 use Rattle.cleaning.specs.Summary.{Kept}
@@ -41,10 +42,10 @@ unfolding numberedFrom
 each-numbered P n [] h = tt
 each-numbered P n (r ∷ rs) h = (h .0, each-numbered P (suc n) rs (h .1))
 
-pub lists-numbered : (n : ℕ) (rs : List Kept) → RowsFrom n rs → Each (λ r. GoodLists (r .number) (r .row .parents)) (numberedFrom n rs)
+pub lists-numbered : (K : ℕ) (served : Served K) → (n : ℕ) (rs : List Kept) → RowsFrom K n rs → Each (λ r. GoodLists K (r .number) (r .row .parents)) (numberedFrom n rs)
 unfolding numberedFrom
-lists-numbered n [] h = tt
-lists-numbered n (r ∷ rs) h = (h .0, lists-numbered (suc n) rs (h .1))
+lists-numbered K served n [] h = tt
+lists-numbered K served n (r ∷ rs) h = (h .0, lists-numbered K served (suc n) rs (h .1))
 
 pub counted-append : (n : ℕ) (s t : List Numbered) → Counted n (s ++ t) → Counted n s × Counted (n + length s) t
 counted-append n [] t h = rw (add-zero n) (tt, h)

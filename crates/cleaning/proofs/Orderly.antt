@@ -7,6 +7,7 @@ use Prim.Native.Nat.{ℕ, zero, suc, _+_, _<_}
 use native.Mathlib.Omega.{arith}
 use native.Mathlib.Nat.{not-suc-le-zero, le-of-suc-le-suc, add-zero}
 use lib.ListN.{length, getD, getElem?}
+use Rattle.columns.specs.Limits.{Served}
 use Rattle.lists.specs.Lists.{upFrom, Each}
 use Rattle.lists.specs.Order.{rising, notFalling}
 use Rattle.lists.proofs.Tests.{both}
@@ -37,16 +38,16 @@ label-each : (rows : ℕ) (c : Option SourceCover) → CoverFitting rows c → L
 label-each rows none f = tt
 label-each rows (some c) f = f .0
 
-orderly-files : (fs : List File) → Each FileFits fs → Each Fitting (map sourceOf fs) → Each Orderly (map sourceOf fs)
+orderly-files : (K : ℕ) (served : Served K) → (fs : List File) → Each (FileFits K) fs → Each Fitting (map (sourceOf K) fs) → Each Orderly (map (sourceOf K) fs)
 unfolding sourceOf
-orderly-files [] h g = tt
-orderly-files (f ∷ fs) h g = (
-  record { roots = h .0 .rootOrder; children = h .0 .unresolvedOrder; labels = label-each (length (f .rows)) ((sourceOf f) .cover) (g .0 .cover) },
-  orderly-files fs (h .1) (g .1),
+orderly-files K served [] h g = tt
+orderly-files K served (f ∷ fs) h g = (
+  record { roots = h .0 .rootOrder; children = h .0 .unresolvedOrder; labels = label-each (length (f .rows)) ((sourceOf K f) .cover) (g .0 .cover) },
+  orderly-files K served fs (h .1) (g .1),
 )
 
-pub orderly-taken : (before : Option Source) (fs : List File) → filesRules before fs ≡ none → Each FileFits fs → Each Orderly (map sourceOf fs)
-orderly-taken before fs e h = orderly-files fs h (fitting-taken before fs e h)
+pub orderly-taken : (K : ℕ) (served : Served K) → (before : Option Source) (fs : List File) → filesRules K before fs ≡ none → Each (FileFits K) fs → Each Orderly (map (sourceOf K) fs)
+orderly-taken K served before fs e h = orderly-files K served fs h (fitting-taken K served before fs e h)
 
 -- ── labels ───────────────────────────────────────────────────────────────────────────────────
 

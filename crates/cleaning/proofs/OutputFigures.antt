@@ -10,6 +10,7 @@ use native.Mathlib.Nat.{zero-add}
 use borrow.Author.Tests.{le-ltb, eqb-true}
 use lib.Dec.{ltb, eqb}
 use lib.ListN.{length, length-append, length-map}
+use Rattle.columns.specs.Limits.{Served}
 use Rattle.lists.specs.Lists.{flat, sum, add, mem}
 use Rattle.lists.proofs.Tests.{tested, both}
 use Rattle.lists.proofs.Once.{add-there, add-new}
@@ -100,36 +101,36 @@ pub once-few : (s xs : List ℕ) → length (foldl add s xs) ≤ length s + leng
 once-few s [] = omega arith
 once-few s (x ∷ xs) = omega (arith, once-few (add s x) xs, add-few s x)
 
-pub length-deltas : (first : ℕ) (lists : List (List ℕ)) → length (setOf first lists .deltas) ≡ sum length lists
+pub length-deltas : (K : ℕ) (served : Served K) → (first : ℕ) (lists : List (List ℕ)) → length (setOf K first lists .deltas) ≡ sum length lists
 unfolding setOf
-length-deltas first lists = set-count first lists ∙ length-joined lists
+length-deltas K served first lists = set-count K first lists ∙ length-joined lists
 
 -- ── figures of all files ─────────────────────────────────────────────────────────────────────
 
-module _ (S : Summary) (good : Good S) where
+module _ (K : ℕ) (served : Served K) (S : Summary) (good : Good K S) where
   -- a figure over the files, group by group
   pub files-sum : (f : File → ℕ) (h : ℕ → ℕ)
-      → ((g : ℕ) → g < length (S .groups) → f (fileOfRows (S .subject) g (groupAt S g) (rowsIn S g) (setsOf S g)) ≤ h g)
-      → sum f (outputs S) ≤ sum h (groupNumbers S)
+      → ((g : ℕ) → g < length (S .groups) → f (fileOfRows (S .subject) g (groupAt S g) (rowsIn S g) (setsOf K S g)) ≤ h g)
+      → sum f (outputs K S) ≤ sum h (groupNumbers S)
   unfolding outputs
   files-sum f h b =
       omega (
         arith,
-        sum-map f (outputOf S) (groupNumbers S),
-        sum-le (λ g. f (outputOf S g)) h (groupNumbers S)
-            (each-below (λ g. f (outputOf S g) ≤ h g) (length (S .groups)) (λ g l. rw (output-sets S good g) (b g l))),
+        sum-map f (outputOf K S) (groupNumbers S),
+        sum-le (λ g. f (outputOf K S g)) h (groupNumbers S)
+            (each-below (λ g. f (outputOf K S g) ≤ h g) (length (S .groups)) (λ g l. rw (output-sets K served S good g) (b g l))),
       )
 
   -- nothing is taken before them
-  pub within : (limit : ℕ) (before : Source → ℕ) (f : File → ℕ) → sum f (outputs S) ≤ limit → ltb limit (total before f [] (outputs S)) ≡ false
+  pub within : (limit : ℕ) (before : Source → ℕ) (f : File → ℕ) → sum f (outputs K S) ≤ limit → ltb limit (total before f [] (outputs K S)) ≡ false
   unfolding total sum
-  within limit before f h = le-ltb limit (0 + sum f (outputs S)) (omega arith)
+  within limit before f h = le-ltb limit (0 + sum f (outputs K S)) (omega arith)
 
   -- a figure over the rows, group by group
   pub rows-sum : (f : Kept → ℕ) → sum (λ g. sum (λ r. f (r .row)) (rowsIn S g)) (groupNumbers S) ≡ sum f (S .rows)
   unfolding numbered
   rows-sum f =
-      sym (sum-flat (λ r. f (r .row)) (rowsIn S) (groupNumbers S)) ∙ ap (sum (λ r. f (r .row))) (all-rows S good) ∙ sum-numbered f (S .start) (S .rows)
+      sym (sum-flat (λ r. f (r .row)) (rowsIn S) (groupNumbers S)) ∙ ap (sum (λ r. f (r .row))) (all-rows K served S good) ∙ sum-numbered f (S .start) (S .rows)
 
   pub groups-sum : (f : Group → ℕ) → sum (λ g. f (groupAt S g)) (groupNumbers S) ≡ sum f (S .groups)
   groups-sum f =

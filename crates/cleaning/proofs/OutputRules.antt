@@ -11,7 +11,7 @@ use lib.ListN.{length, length-map}
 use Rattle.lists.specs.Lists.{flat, all, same, upFrom, Each}
 use Rattle.lists.proofs.Tests.{all-of}
 use Rattle.lists.proofs.Each.{each-imp, each-append, each-getD}
-use Rattle.columns.specs.Limits.{kinds, end64}
+use Rattle.columns.specs.Limits.{Served, end64, referenceKinds}
 use Rattle.columns.specs.Building.{numbersOk, inFile, Built}
 use Rattle.columns.specs.declared.refusal.Refusal.the-variants.{SubjectLength, NumberRange, DepthOrder, RootOutside, GroupOrder, SourceOrder, CoverInSome, CoverForm}
 use Rattle.cover.specs.Chains.{Link}
@@ -49,10 +49,10 @@ roots-within i (r ∷ rs) =
     one (some h) = ((omega arith, omega arith), tt)
 
 -- 6 and 7 of an unresolved record
-record-passes : (f : File) (u : Unresolved) → f .first ≤ u .child → u .child < fileEnd f → u .kind < kinds → unresolvedRules f u ≡ none
+record-passes : (f : File) (u : Unresolved) → f .first ≤ u .child → u .child < fileEnd f → u .kind < referenceKinds → unresolvedRules f u ≡ none
 unfolding unresolvedRules inFile
 record-passes f u a b k =
-    rw (le-leb (f .first) (u .child) a, lt-ltb (u .child) (fileEnd f) b, lt-ltb (u .kind) kinds k) (none-of _ (refl, (refl, tt)))
+    rw (le-leb (f .first) (u .child) a, lt-ltb (u .child) (fileEnd f) b, lt-ltb (u .kind) referenceKinds k) (none-of _ (refl, (refl, tt)))
 
 cover-passes : (links : Option (List Link)) (rs : List Numbered) → GoodLinks links → coverRules (coverOfGroup links rs) ≡ none
 unfolding rangeRules linkRules
@@ -63,19 +63,19 @@ cover-passes (some ls) rs h =
 -- ── one file ─────────────────────────────────────────────────────────────────────────────────
 
 -- the source before that of a group
-abbrev prior : Summary → ℕ → Option Source
-prior S zero = none
-prior S (suc g) = some (sourceOf (outputOf S g))
+abbrev prior : (K : ℕ) → Summary → ℕ → Option Source
+prior K S zero = none
+prior K S (suc g) = some (sourceOf K (outputOf K S g))
 
-module _ (S : Summary) (good : Good S) where
+module _ (K : ℕ) (served : Served K) (S : Summary) (good : Good K S) where
   looks-back : (g : ℕ) (b : Built) → g < length (S .groups) → let f = fileOfRows (S .subject) g (groupAt S g) (rowsIn S g) b in
-      (groupFollows (prior S g) f ≡ true) × (sourceFollows (prior S g) f ≡ true) × (coverFollows (prior S g) f ≡ true)
+      (groupFollows (prior K S g) f ≡ true) × (sourceFollows (prior K S g) f ≡ true) × (coverFollows (prior K S g) f ≡ true)
   unfolding sourceOf outputOf
   looks-back zero b l = (refl, refl, refl)
   looks-back (suc g) b l =
       let before : g < length (S .groups) = omega arith in
       let first : firstOf S (suc g) ≡ firstOf S g + length (map rowOf (rowsIn S g)) =
-      omega (arith, end-next S good g before, rows-first S good (suc g) l, length-map (rowsIn S g) rowOf) in (
+      omega (arith, end-next K served S good g before, rows-first K served S good (suc g) l, length-map (rowsIn S g) rowOf) in (
         rw (eq-eqb (suc g) (g + 1) (omega arith)) (or-true (eqb (suc g) g)),
         rw (same-self (S .subject)) (eq-eqb (firstOf S (suc g)) (firstOf S g + length (map rowOf (rowsIn S g))) first),
         rw (ne-eqb (suc g) g (omega arith)),
@@ -87,22 +87,22 @@ module _ (S : Summary) (good : Good S) where
 
     records-pass : (f : File) → f .first ≡ firstOf S g → fileEnd f ≡ endOf S g → Each (λ u. unresolvedRules f u ≡ none) (flat unresolvedOf (rowsIn S g))
     records-pass f a b =
-        references-each S good g (λ u. unresolvedRules f u ≡ none) l
-        (λ u low high kind handle. record-passes f u (omega (arith, rows-first S good g l)) (omega (arith, end-next S good g l)) kind)
+        references-each K served S good g (λ u. unresolvedRules f u ≡ none) l
+        (λ u low high kind handle. record-passes f u (omega (arith, rows-first K served S good g l)) (omega (arith, end-next K served S good g l)) kind)
 
-    file-rules : fileRules (prior S g) (outputOf S g) ≡ none
+    file-rules : fileRules K (prior K S g) (outputOf K S g) ≡ none
     unfolding fileRules numbersOk
     file-rules =
         let n : length (map rowOf (rowsIn S g)) ≡ length (rowsIn S g) = length-map (rowsIn S g) rowOf in
         let numbers : numbersOk (firstOf S g) (length (map rowOf (rowsIn S g))) ≡ true =
-        lt-ltb (firstOf S g + length (map rowOf (rowsIn S g))) end64 (omega (arith, n, end-within S good g l, good .numbers)) in
+        lt-ltb (firstOf S g + length (map rowOf (rowsIn S g))) end64 (omega (arith, n, end-within K served S good g l, good .numbers)) in
         let inside : Root → Bool = λ r. ltb (r .row) (length (map rowOf (rowsIn S g))) in
         let roots : all inside (rootsFrom 0 (rowsIn S g)) ≡ true =
         all-of inside (rootsFrom 0 (rowsIn S g))
         (each-imp (λ r. (0 ≤ r .row) × (r .row < 0 + length (rowsIn S g))) (λ r. inside r ≡ true) (rootsFrom 0 (rowsIn S g))
         (λ r w. lt-ltb (r .row) (length (map rowOf (rowsIn S g))) (omega (arith, n))) (roots-within 0 (rowsIn S g))) in
-        let back = looks-back g (setsOf S g) l in
-        rw (output-sets S good g) (none-of _ (
+        let back = looks-back g (setsOf K S g) l in
+        rw (output-sets K served S good g) (none-of _ (
           passes SubjectLength _ (good .subject),
           (
             passes NumberRange _ numbers,
@@ -115,11 +115,11 @@ module _ (S : Summary) (good : Good S) where
                   (
                     passes CoverInSome _ (back .2),
                     (
-                      rw n (forward-rules S good g l),
+                      rw n (forward-rules K served S good g l),
                       (
-                        rw n (reverse-rules S good g l),
+                        rw n (reverse-rules K served S good g l),
                         (
-                          rw n (inbound-rules S good g l),
+                          rw n (inbound-rules K served S good g l),
                           (
                             passes RootOutside _ roots,
                             (
@@ -142,11 +142,11 @@ module _ (S : Summary) (good : Good S) where
 
   -- ── all files ────────────────────────────────────────────────────────────────────────────────
 
-  files-from : (g m : ℕ) → g + m ≤ length (S .groups) → filesRules (prior S g) (map (outputOf S) (upFrom g m)) ≡ none
+  files-from : (g m : ℕ) → g + m ≤ length (S .groups) → filesRules K (prior K S g) (map (outputOf K S) (upFrom g m)) ≡ none
   unfolding filesRules upFrom
   files-from g zero h = refl
   files-from g (suc m) h = none-of _ (file-rules g (omega arith), (files-from (suc g) m (omega arith), tt))
 
-  pub files-rules : filesRules none (outputs S) ≡ none
+  pub files-rules : filesRules K none (outputs K S) ≡ none
   unfolding outputs
   files-rules = files-from 0 (length (S .groups)) (omega arith)

@@ -5,16 +5,17 @@ use mathlib.Core.Logic.{inl, inr}
 use mathlib.Core.List.{List, [], _∷_, map}
 use Prim.Native.Nat.{ℕ, suc, _+_, _-_, _*_, _≤_, _<_}
 use native.Mathlib.Omega.{arith}
-use native.Mathlib.Nat.{add-zero}
+use native.Mathlib.Nat.{add-zero, zero-add, mul-zero}
 use borrow.Author.Tests.{ltb-true, ltb-false, lt-ltb, le-leb}
 use lib.Dec.{ltb, eqb}
 use lib.ListN.{length, getD}
 use Rattle.lists.specs.Lists.{filter, mem, upFrom, Each}
 use Rattle.lists.specs.Order.{sort}
+use Rattle.lists.proofs.Slots.{slot-row}
 use Rattle.lists.proofs.Tests.{tested}
 use Rattle.lists.proofs.Each.{each-imp, each-all, each-both, each-map, each-append, each-flat}
 use Rattle.lists.proofs.Pairs.{each-upFrom}
-use Rattle.columns.specs.Limits.{kinds, end64}
+use Rattle.columns.specs.Limits.{Served, end64}
 use Rattle.columns.specs.EdgeSet.{forward, reverse, inbound, eventOf, allowed}
 use Rattle.columns.specs.Questions.{listOf}
 use Rattle.columns.specs.Building.{InboundColumns, inFile, childrenTo, naming, reverseLists, inboundLists}
@@ -42,16 +43,16 @@ side-below : (end n t : ℕ) → allowed forward end n t ≡ true → t < n
 unfolding allowed
 side-below end n t e = ltb-true t n e
 
-module _ (first : ℕ) (rs : List Numbered) (counted : Counted first rs) (fits : first + length rs ≤ end64)
-    (good : Each (λ r. GoodLists (r .number) (r .row .parents)) rs) where
-  pub forward-side : AllowedFrom forward first (first + length rs) 0 (slotsOfRows rs)
+module _ (K : ℕ) (served : Served K) (first : ℕ) (rs : List Numbered) (counted : Counted first rs) (fits : first + length rs ≤ end64)
+    (good : Each (λ r. GoodLists K (r .number) (r .row .parents)) rs) where
+  pub forward-side : AllowedFrom K forward first (first + length rs) 0 (slotsOfRows rs)
   unfolding slotsOfRows
   forward-side =
-      allowed-rows forward first (first + length rs) (λ r. r .row .parents) 0 rs
-      (from-eq _ first (first + 0) rs (sym (add-zero first)) (go first rs counted (omega arith) good))
+      rw (mul-zero K) at (allowed-rows K served forward first (first + length rs) (λ r. r .row .parents) 0 rs
+      (from-eq _ first (first + 0) rs (sym (add-zero first)) (go first rs counted (omega arith) good)))
     where
-      go : (n : ℕ) (xs : List Numbered) → Counted n xs → n + length xs ≤ first + length rs → Each (λ r. GoodLists (r .number) (r .row .parents)) xs
-          → EachFrom (λ n r. SideRow forward (first + length rs) n (r .row .parents)) n xs
+      go : (n : ℕ) (xs : List Numbered) → Counted n xs → n + length xs ≤ first + length rs → Each (λ r. GoodLists K (r .number) (r .row .parents)) xs
+          → EachFrom (λ n r. SideRow K forward (first + length rs) n (r .row .parents)) n xs
       go n [] c l h = tt
       go n (r ∷ xs) c l h =
           let lists = rw (c .0) at (h .0) in (
@@ -66,30 +67,30 @@ module _ (first : ℕ) (rs : List Numbered) (counted : Counted first rs) (fits :
 
 -- ── reverse lists ────────────────────────────────────────────────────────────────────────────
 
-module _ (first rows end : ℕ) (lists : List (List ℕ)) (side : AllowedFrom forward first end 0 lists) where
+module _ (K : ℕ) (served : Served K) (first rows end : ℕ) (lists : List (List ℕ)) (side : AllowedFrom K forward first end 0 lists) where
   -- the entries of an event's list are below the event
-  list-below : (k e : ℕ) → k < kinds → Each (λ t. t < e) (listOf first lists k e)
+  list-below : (k e : ℕ) → k < K → Each (λ t. t < e) (listOf K first lists k e)
   unfolding listOf
   list-below k e h = elim (tested (ltb e first)) [
     | inl q ↦ rw q tt
     | inr q ↦ let l : first ≤ e = ltb-false e first q in
-        let same : eventOf first (0 + (kinds * (e - first) + k)) ≡ e = omega arith in
-        let j = kinds * (e - first) + k in
-        rw q (each-imp (λ t. (allowed forward end (eventOf first (0 + j)) t ≡ true) × (t < end64)) (λ t. t < e) (getD lists j [])
-        (λ t s. side-below end e t (subst (λ n. allowed forward end n t ≡ true) same (s .0))) (allowed-at forward first end 0 lists j side))
+        let same : eventOf K first (0 + (K * (e - first) + k)) ≡ e = rw (zero-add (K * (e - first) + k), slot-row K (e - first) k h) (omega arith) in
+        let j = K * (e - first) + k in
+        rw q (each-imp (λ t. (allowed forward end (eventOf K first (0 + j)) t ≡ true) × (t < end64)) (λ t. t < e) (getD lists j [])
+        (λ t s. side-below end e t (subst (λ n. allowed forward end n t ≡ true) same (s .0))) (allowed-at K served forward first end 0 lists j side))
   ]
 
-  pub reverse-side : first + rows ≤ end → end ≤ end64 → AllowedFrom reverse first end 0 (reverseLists first rows lists)
+  pub reverse-side : first + rows ≤ end → end ≤ end64 → AllowedFrom K reverse first end 0 (reverseLists K first rows lists)
   unfolding reverseLists naming allowed
   reverse-side u b =
-      allowed-table reverse first end (naming first rows lists) rows (omega arith)
-      (λ n k l h j. each-imp (λ e. ((first ≤ e) × (e < first + rows)) × (mem n (listOf first lists k e) ≡ true))
-      (λ e. (allowed reverse end n e ≡ true) × (e < end64)) (naming first rows lists n k)
-      (λ e w. let after : n < e = each-has (λ t. t < e) n (listOf first lists k e) (list-below k e j) (w .1) in
+      allowed-table K served reverse first end (naming K first rows lists) rows (omega arith)
+      (λ n k l h j. each-imp (λ e. ((first ≤ e) × (e < first + rows)) × (mem n (listOf K first lists k e) ≡ true))
+      (λ e. (allowed reverse end n e ≡ true) × (e < end64)) (naming K first rows lists n k)
+      (λ e w. let after : n < e = each-has (λ t. t < e) n (listOf K first lists k e) (list-below k e j) (w .1) in
       (rw (lt-ltb n e after) (lt-ltb e end (omega arith)), omega arith))
-      (each-both _ _ (naming first rows lists n k)
-      (each-filter (λ e. mem n (listOf first lists k e)) (λ e. (first ≤ e) × (e < first + rows)) (upFrom first rows) (each-upFrom first rows))
-      (filter-passes (λ e. mem n (listOf first lists k e)) (upFrom first rows))))
+      (each-both _ _ (naming K first rows lists n k)
+      (each-filter (λ e. mem n (listOf K first lists k e)) (λ e. (first ≤ e) × (e < first + rows)) (upFrom first rows) (each-upFrom first rows))
+      (filter-passes (λ e. mem n (listOf K first lists k e)) (upFrom first rows))))
 
 -- ── inbound lists ────────────────────────────────────────────────────────────────────────────
 
@@ -113,11 +114,11 @@ module _ (P : ℕ → Type 0) where
       (each-map (λ e. P (e .child)) (edge child k) (filter (inFile first end) ps) (each-all (λ p. P child) (λ p. h) (filter (inFile first end) ps)))
       (each-edges first end child (suc k) lists h)
 
-pub inbound-side : (first rows end : ℕ) (e : InboundColumns) → first + rows ≤ end64 → Each (λ c. (end ≤ c) × (c < end64)) (e .children)
-    → AllowedFrom inbound first end 0 (inboundLists first rows e)
+pub inbound-side : (K : ℕ) (served : Served K) → (first rows end : ℕ) (e : InboundColumns) → first + rows ≤ end64 → Each (λ c. (end ≤ c) × (c < end64)) (e .children)
+    → AllowedFrom K inbound first end 0 (inboundLists K first rows e)
 unfolding inboundLists allowed
-inbound-side first rows end e b h =
-    allowed-table inbound first end (λ n k. sort (childrenTo n k (e .children) (e .parents) (e .kindsGiven))) rows b
+inbound-side K served first rows end e b h =
+    allowed-table K served inbound first end (λ n k. sort (childrenTo n k (e .children) (e .parents) (e .kindsGiven))) rows b
     (λ n k l u j. each-sort (λ t. (allowed inbound end n t ≡ true) × (t < end64)) (childrenTo n k (e .children) (e .parents) (e .kindsGiven))
     (each-children (λ t. (allowed inbound end n t ≡ true) × (t < end64)) n k (e .children) (e .parents) (e .kindsGiven)
     (each-imp (λ c. (end ≤ c) × (c < end64)) (λ t. (allowed inbound end n t ≡ true) × (t < end64)) (e .children) (λ c w. (le-leb end c (w .0), w .1)) h)))
@@ -131,20 +132,20 @@ firstOf S g = firstNumber (rowsIn S g)
 abbrev pub endOf : Summary → ℕ → ℕ
 endOf S g = firstOf S g + length (rowsIn S g)
 
-module _ (S : Summary) (good : Good S) (g : ℕ) (l : g < length (S .groups)) where
+module _ (K : ℕ) (served : Served K) (S : Summary) (good : Good K S) (g : ℕ) (l : g < length (S .groups)) where
   pub end-next : endOf S g ≡ S .start + rowsBefore S (suc g)
-  end-next = omega (arith, rows-first S good g l, before-next S good g)
+  end-next = omega (arith, rows-first K served S good g l, before-next K served S good g)
 
   pub end-within : endOf S g ≤ S .start + length (S .rows)
-  end-within = omega (arith, end-next, before-within S good (suc g) l)
+  end-within = omega (arith, end-next, before-within K served S good (suc g) l)
 
   -- the children of the edges of other files are past this one
   pub children-past : Each (λ c. (endOf S g ≤ c) × (c < end64)) (inboundColumns (edgesOf S g (firstOf S g) (endOf S g)) .children)
   unfolding inboundColumns edgesOf numbered
   children-past =
       each-map (λ c. (endOf S g ≤ c) × (c < end64)) (λ e. e .child) edges
-      (each-imp (λ e. Inbound (firstOf S g) (endOf S g) e × (e .child < end64)) (λ e. (endOf S g ≤ e .child) × (e .child < end64)) edges (λ e h. (h .0 .0, h .1))
-      (each-both (Inbound (firstOf S g) (endOf S g)) (λ e. e .child < end64) edges (rw (end-next, rows-first S good g l) (edges-inbound S good g))
+      (each-imp (λ e. Inbound K (firstOf S g) (endOf S g) e × (e .child < end64)) (λ e. (endOf S g ≤ e .child) × (e .child < end64)) edges (λ e h. (h .0 .0, h .1))
+      (each-both (Inbound K (firstOf S g) (endOf S g)) (λ e. e .child < end64) edges (rw (end-next, rows-first K served S good g l) (edges-inbound K served S good g))
       (each-flat (λ e. e .child < end64) (λ r. edgesInto (firstOf S g) (endOf S g) (r .number) 0 (r .row .parents)) (filter other (numbered S))
       (each-imp (λ r. r .number < end64) _ (filter other (numbered S))
       (λ r h. each-edges (λ c. c < end64) (firstOf S g) (endOf S g) (r .number) 0 (r .row .parents) h)

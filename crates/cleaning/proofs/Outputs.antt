@@ -5,12 +5,12 @@ use mathlib.Core.List.{List, [], _∷_, _++_, map}
 use mathlib.Core.Option.{Option, none, some}
 use Prim.Native.Nat.{ℕ, suc, _+_, _*_, _≤_, _<_, _^_}
 use native.Mathlib.Omega.{arith}
-use native.Mathlib.Nat.{add-zero, zero-add}
+use native.Mathlib.Nat.{add-zero, zero-add, mul-zero}
 use lib.ListN.{length, length-append}
 use lib.Seq.{append-snoc, take-all}
 use Rattle.lists.specs.Lists.{flat, part, Each}
 use Rattle.lists.proofs.Each.{each-imp, each-map, each-flat, each-getD}
-use Rattle.columns.specs.Limits.{kinds}
+use Rattle.columns.specs.Limits.{Served, referenceKinds}
 use Rattle.columns.specs.Reading.{Label}
 use Rattle.columns.specs.Building.{builtOf, forwardPart}
 use Rattle.columns.proofs.ReadBack.{slots-set, cut-joined}
@@ -48,30 +48,30 @@ pub record Holds (s : Source) (g : ℕ) (group : Group) (rs : List Numbered) : T
   pub cover : s .cover ≡ keptCover (group .links) rs
 
 -- the parents of rows, as building is given them, are those of the one granule
-pub forward-part : (S : Summary) (g : ℕ) (group : Group) (rs : List Numbered) → Each EachKind rs → forwardPart (graphOfRows S g group rs) ≡ slotsOfRows rs
+pub forward-part : (K : ℕ) (served : Served K) → (S : Summary) (g : ℕ) (group : Group) (rs : List Numbered) → Each (EachKind K) rs → forwardPart K (graphOfRows S g group rs) ≡ slotsOfRows rs
 unfolding forwardPart graphOfRows part
-forward-part S g group rs h = rw (cut-joined (slotsOfRows rs)) (take-all (kinds * length rs) (slotsOfRows rs) (omega (arith, length-slots rs h)))
+forward-part K served S g group rs h = rw (cut-joined (slotsOfRows rs), mul-zero K) (take-all (K * length rs) (slotsOfRows rs) (omega (arith, length-slots K served rs h)))
 
 cover-back : (links : Option (List Link)) (rs : List Numbered) → GoodLinks links → coverRead (coverOfGroup links rs) ≡ keptCover links rs
 cover-back none rs h = refl
 cover-back (some links) rs h =
     ap some (λ i. record { labels = labels-columns (labelsIn rs) i; ranges = length (rangesOf (labelsIn rs)); links = stored-back links (h .0) (h .1) i })
 
-row-kinds : (S : Summary) (g : ℕ) (r : Numbered) → GoodRow S g r → EachKind r
-row-kinds S g r h = h .lists .each-kind
+row-kinds : (K : ℕ) (served : Served K) → (S : Summary) (g : ℕ) (r : Numbered) → GoodRow K S g r → EachKind K r
+row-kinds K served S g r h = h .lists .each-kind
 
-module _ (S : Summary) (good : Good S) (g : ℕ) where
-  pub rows-kinds : Each EachKind (rowsIn S g)
-  rows-kinds = each-imp (GoodRow S g) EachKind (rowsIn S g) (row-kinds S g) (rows-good S good g)
+module _ (K : ℕ) (served : Served K) (S : Summary) (good : Good K S) (g : ℕ) where
+  pub rows-kinds : Each (EachKind K) (rowsIn S g)
+  rows-kinds = each-imp (GoodRow K S g) (EachKind K) (rowsIn S g) (row-kinds K served S g) (rows-good K served S good g)
 
-  pub output-holds : g < length (S .groups) → Holds (sourceOf (outputOf S g)) g (groupAt S g) (rowsIn S g)
+  pub output-holds : g < length (S .groups) → Holds (sourceOf K (outputOf K S g)) g (groupAt S g) (rowsIn S g)
   unfolding sourceOf outputOf builtOf graphOf graphOfRows
   output-holds l = record {
     first = refl;
     number = refl;
     depth = refl;
-    forward = rw (add-zero (firstNumber (rowsIn S g)), slots-set (firstNumber (rowsIn S g)) (forwardPart (graphOf S g)))
-        (forward-part S g (groupAt S g) (rowsIn S g) rows-kinds);
+    forward = rw (add-zero (firstNumber (rowsIn S g)), slots-set K (firstNumber (rowsIn S g)) (forwardPart K (graphOf S g)))
+        (forward-part K served S g (groupAt S g) (rowsIn S g) rows-kinds);
     rows = refl;
     unresolved = refl;
     roots = refl;
@@ -80,16 +80,16 @@ module _ (S : Summary) (good : Good S) (g : ℕ) where
 
   -- the unresolved records of a group's rows: children in the group's numbers, kinds and handles in their bounds
   pub references-each : (P : Unresolved → Type 0) → g < length (S .groups)
-      → ((u : Unresolved) → S .start + rowsBefore S g ≤ u .child → u .child < S .start + rowsBefore S (suc g) → u .kind < kinds → u .handle < 2 ^ 32 → P u)
+      → ((u : Unresolved) → S .start + rowsBefore S g ≤ u .child → u .child < S .start + rowsBefore S (suc g) → u .kind < referenceKinds → u .handle < 2 ^ 32 → P u)
       → Each P (flat unresolvedOf (rowsIn S g))
   unfolding unresolvedOf
   references-each P l f =
       each-flat P unresolvedOf (rowsIn S g)
       (each-imp _ (λ r. Each P (unresolvedOf r)) (rowsIn S g)
       (λ r h. each-map P _ (r .row .body .unresolved)
-      (each-imp (λ u. (u .kind < kinds) × (u .handle < 2 ^ 32)) _ (r .row .body .unresolved)
+      (each-imp (λ u. (u .kind < referenceKinds) × (u .handle < 2 ^ 32)) _ (r .row .body .unresolved)
       (λ u k. f _ (h .1 .0) (h .1 .1) (k .0) (k .1)) (h .0 .body .unresolved)))
-      (rows-within S good g l))
+      (rows-within K served S good g l))
 
 -- ── its events ───────────────────────────────────────────────────────────────────────────────
 
@@ -107,21 +107,21 @@ kept-label none before r rs h k = go (r .row .body .label) k
     go (some l) k = absurd k
 kept-label (some links) before r rs h k = label-at links before r rs h k
 
-module _ (S : Summary) (t : Taken) (s : Source) (g : ℕ) (all : List Numbered) (holds : Holds s g (groupAt S g) all)
-    (counted : Counted (firstNumber all) all) (good : Each (GoodRow S g) all) where
-  good-label : (r : Numbered) → GoodRow S g r → GoodLabel ((groupAt S g) .links) (r .row .body .label)
+module _ (K : ℕ) (served : Served K) (S : Summary) (t : Taken) (s : Source) (g : ℕ) (all : List Numbered) (holds : Holds s g (groupAt S g) all)
+    (counted : Counted (firstNumber all) all) (good : Each (GoodRow K S g) all) where
+  good-label : (r : Numbered) → GoodRow K S g r → GoodLabel ((groupAt S g) .links) (r .row .body .label)
   good-label r h = rw (h .group) at (h .body .label)
 
-  labels-before : (before : List Numbered) (r : Numbered) (rs : List Numbered) → Each (GoodRow S g) (before ++ (r ∷ rs))
+  labels-before : (before : List Numbered) (r : Numbered) (rs : List Numbered) → Each (GoodRow K S g) (before ++ (r ∷ rs))
       → Each (λ b. GoodLabel ((groupAt S g) .links) (b .row .body .label)) before
   labels-before before r rs h =
-      each-imp (GoodRow S g) (λ b. GoodLabel ((groupAt S g) .links) (b .row .body .label)) before good-label (each-left (GoodRow S g) before (r ∷ rs) h)
+      each-imp (GoodRow K S g) (λ b. GoodLabel ((groupAt S g) .links) (b .row .body .label)) before good-label (each-left (GoodRow K S g) before (r ∷ rs) h)
 
   body-back : (before : List Numbered) (r : Numbered) (rs : List Numbered) → all ≡ before ++ (r ∷ rs) → bodyOf s (length before) (rowOf r) ≡ r .row .body
   unfolding bodyOf
   body-back before r rs e =
       let split = rw e at good in
-      let this = each-right (GoodRow S g) before (r ∷ rs) split .0 in
+      let this = each-right (GoodRow K S g) before (r ∷ rs) split .0 in
       let group : s .group ≡ r .row .body .group = holds .number ∙ sym (this .group) in
       let label : labelIn (s .cover) (length before) ≡ r .row .body .label =
       ap (λ c. labelIn c (length before)) (holds .cover ∙ ap (keptCover ((groupAt S g) .links)) e)
@@ -135,13 +135,13 @@ module _ (S : Summary) (t : Taken) (s : Source) (g : ℕ) (all : List Numbered) 
       λ i. record { group = group i; tag = r .row .body .tag; label = label i; root = root i; unresolved = refs i }
 
   lists-back : (before : List Numbered) (r : Numbered) (rs : List Numbered) → all ≡ before ++ (r ∷ rs)
-      → part (kinds * length before) kinds (s .forward) ≡ r .row .parents
+      → part (K * length before) K (s .forward) ≡ r .row .parents
   lists-back before r rs e =
-      let kinds-of = each-imp (GoodRow S g) EachKind (before ++ (r ∷ rs)) (row-kinds S g) (rw e at good) in
-      ap (part (kinds * length before) kinds) (holds .forward ∙ ap slotsOfRows e)
-      ∙ lists-at before r rs (each-left EachKind before (r ∷ rs) kinds-of) (each-right EachKind before (r ∷ rs) kinds-of .0)
+      let kinds-of = each-imp (GoodRow K S g) (EachKind K) (before ++ (r ∷ rs)) (row-kinds K served S g) (rw e at good) in
+      ap (part (K * length before) K) (holds .forward ∙ ap slotsOfRows e)
+      ∙ lists-at K served before r rs (each-left (EachKind K) before (r ∷ rs) kinds-of) (each-right (EachKind K) before (r ∷ rs) kinds-of .0)
 
-  events-from : (before rs : List Numbered) → all ≡ before ++ rs → eventsFrom t s (length before) (map rowOf rs) ≡ map (λ r. eventOf (r .row)) rs
+  events-from : (before rs : List Numbered) → all ≡ before ++ rs → eventsFrom K t s (length before) (map rowOf rs) ≡ map (λ r. eventOf (r .row)) rs
   unfolding eventsFrom isErased
   events-from before [] e = refl
   events-from before (r ∷ rs) e =
@@ -149,5 +149,5 @@ module _ (S : Summary) (t : Taken) (s : Source) (g : ℕ) (all : List Numbered) 
       let rest = rw n at (events-from (before ++ (r ∷ [])) rs (e ∙ sym (append-snoc before r rs))) in
       ap₂ (λ x xs. x ∷ xs) (λ i. record { erased = false; body = body-back before r rs e i; parents = lists-back before r rs e i }) rest
 
-  pub events-back : eventsFrom t s 0 (s .rows) ≡ map (λ r. eventOf (r .row)) all
-  events-back = ap (eventsFrom t s 0) (holds .rows) ∙ events-from [] all refl
+  pub events-back : eventsFrom K t s 0 (s .rows) ≡ map (λ r. eventOf (r .row)) all
+  events-back = ap (eventsFrom K t s 0) (holds .rows) ∙ events-from [] all refl

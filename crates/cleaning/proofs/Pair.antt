@@ -18,10 +18,10 @@ use Rattle.cleaning.specs.Worked.{workedFile}
 use Rattle.cleaning.specs.Pair.{otherFile, cleaningOf, PairMeets}
 
 abbrev A : Archive
-A = archiveIn (history fresh (cleaningOf workedFile))
+A = archiveIn kinds (history kinds fresh (cleaningOf workedFile))
 
 abbrev B : Archive
-B = archiveIn (history fresh (cleaningOf otherFile))
+B = archiveIn kinds (history kinds fresh (cleaningOf otherFile))
 
 -- the number of bytes that the first call takes
 taken : List Call → ℕ
@@ -45,11 +45,11 @@ last-ends zero h = (inr (omega arith, omega arith, refl), (inl (omega arith, ref
 last-ends (suc zero) h = (inr (omega arith, omega arith, refl), tt)
 last-ends (suc (suc k)) h = absurd (omega arith)
 
-first-same : SameSurvivor A B 100 100
+first-same : SameSurvivor kinds A B 100 100
 unfolding computes history archiveIn workedFile otherFile cleaningOf
 first-same = record { same-group = refl; same-tag = refl; same-label = refl; same-root = refl; same-unresolved = refl; same-ends = first-ends }
 
-last-same : SameSurvivor A B 103 102
+last-same : SameSurvivor kinds A B 103 102
 unfolding computes history archiveIn workedFile otherFile cleaningOf
 last-same = record { same-group = refl; same-tag = refl; same-label = refl; same-root = refl; same-unresolved = refl; same-ends = last-ends }
 

@@ -13,7 +13,7 @@ use borrow.Author.Tests.{ltb-true, ltb-false, ne-eqb}
 use Rattle.lists.specs.Lists.{flat, filter, part, upFrom, Each}
 use Rattle.lists.proofs.Tests.{tested, not-both}
 use Rattle.lists.proofs.Once.{eqb-iff}
-use Rattle.columns.specs.Limits.{kinds}
+use Rattle.columns.specs.Limits.{Served}
 use Rattle.run_renumber.specs.Numbers.{takes, numbersFrom}
 use Rattle.archive.specs.File.{Unresolved, Root}
 use Rattle.cleaning.specs.Archive.{Event, rootIn, referencesIn}
@@ -64,9 +64,9 @@ keep-flat q g i (b ∷ es) h =
     go false e r = rw (e, r)
 
 -- the lists of the kept rows
-pub keep-slots : (es : List Bool) (ls : List (List ℕ)) → keepSlots es ls ≡ flat (λ i. part (kinds * i) kinds ls) (keep es (upFrom 0 (length es)))
+pub keep-slots : (K : ℕ) (served : Served K) → (es : List Bool) (ls : List (List ℕ)) → keepSlots K es ls ≡ flat (λ i. part (K * i) K ls) (keep es (upFrom 0 (length es)))
 unfolding keepSlots
-keep-slots es ls = keep-flat (λ i. getD es i false) (λ i. part (kinds * i) kinds ls) 0 es (λ j l. ap (λ i. getD es i false) {x = 0 + j} {y = j} (omega arith))
+keep-slots K served es ls = keep-flat (λ i. getD es i false) (λ i. part (K * i) K ls) 0 es (λ j l. ap (λ i. getD es i false) {x = 0 + j} {y = j} (omega arith))
 
 -- ── ranks ────────────────────────────────────────────────────────────────────────────────────
 

@@ -17,7 +17,7 @@ use Rattle.lists.specs.Order.{levelAbove, notFalling, risesAbove, rising}
 use Rattle.lists.proofs.Tests.{tested, all-each}
 use Rattle.lists.proofs.Each.{each-imp, each-map, each-append}
 use Rattle.lists.proofs.Flat.{length-starts}
-use Rattle.columns.specs.Limits.{kinds, maxRecords, maxNumbers}
+use Rattle.columns.specs.Limits.{Served, maxRecords, maxNumbers}
 use Rattle.columns.specs.EdgeSet.{deltasFrom, setOf}
 use Rattle.columns.specs.Reading.{Label}
 use Rattle.columns.specs.Building.{fits63, deltasFit}
@@ -49,17 +49,17 @@ unfolding fits63
 fits-signed (pos n) e = record { sfits = ltb-true n (2 ^ 63) e }
 fits-signed (negsuc n) e = record { sfits = ltb-true n (2 ^ 63) e }
 
-pub set-fits : (first rows : ℕ) (lists : List (List ℕ)) → length lists ≡ kinds * rows → length (setOf first lists .deltas) ≤ maxNumbers
-    → deltasFit first lists ≡ true → SetFits rows (setOf first lists)
+pub set-fits : (K : ℕ) (served : Served K) → (first rows : ℕ) (lists : List (List ℕ)) → length lists ≡ K * rows → length (setOf K first lists .deltas) ≤ maxNumbers
+    → deltasFit K first lists ≡ true → SetFits K rows (setOf K first lists)
 unfolding setOf deltasFit
-set-fits first rows lists full few fit = record {
+set-fits K served first rows lists full few fit = record {
   slots = omega (arith, length-starts 0 lists);
-  counted = sym (set-count first lists);
-  count = omega (arith, set-count first lists);
-  offsets = each-imp (λ x. x ≤ 0 + length (joined lists)) (λ x. x < 256 ^ 8) (starts 0 lists) (λ x h. omega (arith, set-count first lists))
+  counted = sym (set-count K first lists);
+  count = omega (arith, set-count K first lists);
+  offsets = each-imp (λ x. x ≤ 0 + length (joined lists)) (λ x. x < 256 ^ 8) (starts 0 lists) (λ x h. omega (arith, set-count K first lists))
       (starts-bounded 0 lists);
-  deltas = each-imp (λ d. fits63 d ≡ true) (λ d. SFits w64 d) (joined (deltasFrom first 0 lists)) fits-signed
-      (all-each fits63 (joined (deltasFrom first 0 lists)) fit);
+  deltas = each-imp (λ d. fits63 d ≡ true) (λ d. SFits w64 d) (joined (deltasFrom K first 0 lists)) fits-signed
+      (all-each fits63 (joined (deltasFrom K first 0 lists)) fit);
 }
 
 -- ── unresolved references ────────────────────────────────────────────────────────────────────

@@ -12,7 +12,7 @@ use lib.Dec.{eqb}
 use lib.ListN.{length, getD, length-map, List·getD-map}
 use Rattle.lists.specs.Lists.{any, sum, upFrom, Each}
 use Rattle.lists.proofs.Each.{each-imp}
-use Rattle.columns.specs.Limits.{kinds, maxNumbers}
+use Rattle.columns.specs.Limits.{Served, maxNumbers}
 use Rattle.cleaning.specs.Routes.{Valid}
 use Rattle.cleaning.specs.Memo.{memo, tables}
 use Rattle.cleaning.specs.Summary.{Kept, Summary}
@@ -42,9 +42,9 @@ survivor-of g (r ∷ rs) m = elim (List·Memᴰ·cases-cons m) [
   | inr t ↦ rw (survivor-of g rs t) (or-true (eqb (r .body .group) g))
 ]
 
-pub groups-survive : (S : Summary) → Good S → groupsSurvive (unerased S) ≡ true
+pub groups-survive : (K : ℕ) (served : Served K) → (S : Summary) → Good K S → groupsSurvive (unerased S) ≡ true
 unfolding groupsSurvive
-groups-survive S good =
+groups-survive K served S good =
     all-of (λ g. any (survivesIn g) (map eventOf (S .rows))) (groupNumbers S)
     (each-below _ (length (S .groups)) (λ g l. survivor-of g (S .rows) (good .every g l)))
 
@@ -54,22 +54,22 @@ groups-survive S good =
 abbrev list : ℕ → Kept → List ℕ
 list k r = getD (r .parents) k []
 
-rows-wide : (n : ℕ) (rs : List Kept) → RowsFrom n rs → Each (λ r. length (r .parents) ≡ kinds) rs
-rows-wide n [] h = tt
-rows-wide n (r ∷ rs) h = (h .0 .each-kind, rows-wide (suc n) rs (h .1))
+rows-wide : (K : ℕ) (served : Served K) → (n : ℕ) (rs : List Kept) → RowsFrom K n rs → Each (λ r. length (r .parents) ≡ K) rs
+rows-wide K served n [] h = tt
+rows-wide K served n (r ∷ rs) h = (h .0 .each-kind, rows-wide K served (suc n) rs (h .1))
 
-kind-by-kind : (r : Kept) → length (r .parents) ≡ kinds → sum (λ k. length (list k r)) (upFrom 0 kinds) ≡ sum length (r .parents)
-kind-by-kind r e =
-    sym (sum-map length (λ k. list k r) (upFrom 0 kinds))
+kind-by-kind : (K : ℕ) (served : Served K) → (r : Kept) → length (r .parents) ≡ K → sum (λ k. length (list k r)) (upFrom 0 K) ≡ sum length (r .parents)
+kind-by-kind K served r e =
+    sym (sum-map length (λ k. list k r) (upFrom 0 K))
     ∙ ap (λ n. sum length (map (λ k. list k r) (upFrom 0 n))) (sym e)
     ∙ ap (sum length) (map-places (λ k. list k r) 0 (r .parents) [] (λ k l. ap (λ i. list i r) (zero-add k)))
 
-module _ (S : Summary) (good : Good S) where
+module _ (K : ℕ) (served : Served K) (S : Summary) (good : Good K S) where
   valid-again : Valid (unerased S)
-  valid-again = subst Valid (archive-again S good) (valid-sources (again S .sources) (taken-followed none (outputs S) (files-rules S good)))
+  valid-again = subst Valid (archive-again K served S good) (valid-sources K served (again K S .sources) (taken-followed K served none (outputs K S) (files-rules K served S good)))
 
   -- the table of a kind holds the rows' lists of that kind
-  memo-rows : (k : ℕ) → k < kinds → memo (unerased S) k (length (map eventOf (S .rows))) ≡ map (list k) (S .rows)
+  memo-rows : (k : ℕ) → k < K → memo (unerased S) k (length (map eventOf (S .rows))) ≡ map (list k) (S .rows)
   unfolding listOf
   memo-rows k h =
       memo-right (unerased S) k valid-again (length (map eventOf (S .rows)))
@@ -77,19 +77,19 @@ module _ (S : Summary) (good : Good S) where
       ∙ map-places (listOf (unerased S) k) 0 (map (list k) (S .rows)) (list k blankRow)
       (λ i l. let b : i < length (S .rows) = omega (arith, length-map (S .rows) (list k)) in
       ap (listOf (unerased S) k) (zero-add i)
-      ∙ sym (new-once (unerased S) k valid-again (S .start + i) (omega arith) (omega (arith, length-map (S .rows) eventOf)))
-      ∙ parents-stay S good i b k h
+      ∙ sym (new-once K served (unerased S) k valid-again (S .start + i) (omega arith) (omega (arith, length-map (S .rows) eventOf)))
+      ∙ parents-stay K served S good i b k h
       ∙ sym (List·getD-map (list k) (S .rows) i blankRow))
 
-  entries-again : entries (tables (unerased S)) ≡ sum (λ r. sum length (r .parents)) (S .rows)
+  entries-again : entries (tables K (unerased S)) ≡ sum (λ r. sum length (r .parents)) (S .rows)
   unfolding entries tables
   entries-again =
-      sum-map (sum length) (λ k. memo (unerased S) k (length (map eventOf (S .rows)))) (upFrom 0 kinds)
-      ∙ sum-ext (λ k. sum length (memo (unerased S) k (length (map eventOf (S .rows))))) (λ k. sum (λ r. length (list k r)) (S .rows)) (upFrom 0 kinds)
-      (each-below _ kinds (λ k h. ap (sum length) (memo-rows k h) ∙ sum-map length (list k) (S .rows)))
-      ∙ sum-swap (λ k r. length (list k r)) (upFrom 0 kinds) (S .rows)
-      ∙ sum-ext (λ r. sum (λ k. length (list k r)) (upFrom 0 kinds)) (λ r. sum length (r .parents)) (S .rows)
-      (each-imp (λ r. length (r .parents) ≡ kinds) _ (S .rows) kind-by-kind (rows-wide (S .start) (S .rows) (good .lists)))
+      sum-map (sum length) (λ k. memo (unerased S) k (length (map eventOf (S .rows)))) (upFrom 0 K)
+      ∙ sum-ext (λ k. sum length (memo (unerased S) k (length (map eventOf (S .rows))))) (λ k. sum (λ r. length (list k r)) (S .rows)) (upFrom 0 K)
+      (each-below _ K (λ k h. ap (sum length) (memo-rows k h) ∙ sum-map length (list k) (S .rows)))
+      ∙ sum-swap (λ k r. length (list k r)) (upFrom 0 K) (S .rows)
+      ∙ sum-ext (λ r. sum (λ k. length (list k r)) (upFrom 0 K)) (λ r. sum length (r .parents)) (S .rows)
+      (each-imp (λ r. length (r .parents) ≡ K) _ (S .rows) (kind-by-kind K served) (rows-wide K served (S .start) (S .rows) (good .lists)))
 
-  pub few-entries : entries (tables (unerased S)) ≤ maxNumbers
+  pub few-entries : entries (tables K (unerased S)) ≤ maxNumbers
   few-entries = omega (arith, entries-again, good .entries)

@@ -3,9 +3,9 @@ use mathlib.Core.Path.{_≡_, refl, ap, sym, _∙_}
 use mathlib.Core.Bool.{true, false, _&&_, not, and-true, and-false}
 use mathlib.Core.List.{List, [], _∷_, map}
 use mathlib.Core.Option.{Option, none, some}
-use Prim.Native.Nat.{ℕ, zero, suc, _+_, _*_, _≤_, _<_}
+use Prim.Native.Nat.{ℕ, zero, suc, _+_, _*_, _≤_, _<_, _/_}
 use native.Mathlib.Omega.{arith}
-use native.Mathlib.Nat.{not-suc-le-zero, le-of-suc-le-suc, zero-add, add-suc, add-zero}
+use native.Mathlib.Nat.{not-suc-le-zero, le-of-suc-le-suc, zero-add, add-suc, add-zero, mul-zero, div-eq-of-lt-le}
 use lib.Dec.{ltb, leb, eqb}
 use lib.ListN.{length, getD, getElem?, length-map}
 use borrow.Author.Tests.{eq-eqb, lt-leb, le-leb, lt-ltb, le-ltb, not-true}
@@ -14,7 +14,7 @@ use Rattle.lists.proofs.Tests.{both, all-of}
 use Rattle.lists.proofs.Each.{each-imp, each-both}
 use Rattle.lists.proofs.Filters.{each-below, map-places}
 use Rattle.lists.proofs.Once.{or-is-false, eqb-sym}
-use Rattle.columns.specs.Limits.{kinds}
+use Rattle.columns.specs.Limits.{Served, referenceKinds}
 use Rattle.columns.specs.Refusal.{refuse, firstIn}
 use Rattle.columns.specs.EdgeSet.{eventOf}
 use Rattle.columns.specs.Reading.{Label, labelsOf}
@@ -64,31 +64,32 @@ unseen [] = tt
 unseen (p ∷ ps) = (refl, unseen ps)
 
 -- a slot's parents pass
-abbrev SlotPasses : ℕ → ℕ → List ℕ → Type 0
-SlotPasses first slot ps = parentRules (eventOf first slot) [] ps ≡ none
+abbrev SlotPasses : (K : ℕ) → ℕ → ℕ → List ℕ → Type 0
+SlotPasses K first slot ps = parentRules (eventOf K first slot) [] ps ≡ none
 
-slots-none : (first slot : ℕ) (lists : List (List ℕ)) → EachFrom (SlotPasses first) slot lists → slotRules first slot lists ≡ none
+slots-none : (K : ℕ) (served : Served K) → (first slot : ℕ) (lists : List (List ℕ)) → EachFrom (SlotPasses K first) slot lists → slotRules K first slot lists ≡ none
 unfolding slotRules
-slots-none first slot [] h = refl
-slots-none first slot (ps ∷ lists) h =
-    none-of (parentRules (eventOf first slot) [] ps ∷ slotRules first (suc slot) lists ∷ []) (h .0, (slots-none first (suc slot) lists (h .1), tt))
+slots-none K served first slot [] h = refl
+slots-none K served first slot (ps ∷ lists) h =
+    none-of (parentRules (eventOf K first slot) [] ps ∷ slotRules K first (suc slot) lists ∷ []) (h .0, (slots-none K served first (suc slot) lists (h .1), tt))
 
-rows-pass : (first i : ℕ) (rs : List Numbered) → Counted (first + i) rs → Each (λ r. GoodLists (r .number) (r .row .parents)) rs
-    → EachFrom (SlotPasses first) (kinds * i) (slotsOfRows rs)
+rows-pass : (K : ℕ) (served : Served K) → (first i : ℕ) (rs : List Numbered) → Counted (first + i) rs → Each (λ r. GoodLists K (r .number) (r .row .parents)) rs
+    → EachFrom (SlotPasses K first) (K * i) (slotsOfRows rs)
 unfolding slotsOfRows
-rows-pass first i [] c h = tt
-rows-pass first i (r ∷ rs) c h =
-    from-append (SlotPasses first) (kinds * i) (r .row .parents) (slotsOfRows rs)
-    (from-each (SlotPasses first) (λ ps. (distinct ps ≡ true) × Each (λ p. p < r .number) ps) (kinds * i + kinds) (kinds * i) (r .row .parents)
-    (λ slot ps a b q. let e : eventOf first slot ≡ r .number = omega (arith, c .0) in rw e (parents-none (r .number) [] ps (q .1) (q .0) (unseen ps)))
+rows-pass K served first i [] c h = tt
+rows-pass K served first i (r ∷ rs) c h =
+    from-append (SlotPasses K first) (K * i) (r .row .parents) (slotsOfRows rs)
+    (from-each (SlotPasses K first) (λ ps. (distinct ps ≡ true) × Each (λ p. p < r .number) ps) (K * i + K) (K * i) (r .row .parents)
+    (λ slot ps a b q. let row : slot / K ≡ i = div-eq-of-lt-le K (omega arith) (omega arith) in
+    let e : eventOf K first slot ≡ r .number = rw row (omega (arith, c .0)) in rw e (parents-none (r .number) [] ps (q .1) (q .0) (unseen ps)))
     (omega (arith, h .0 .each-kind))
     (each-both (λ ps. distinct ps ≡ true) (λ ps. Each (λ p. p < r .number) ps) (r .row .parents) (h .0 .once) (h .0 .below)))
-    (from-eq (SlotPasses first) (kinds * suc i) (kinds * i + length (r .row .parents)) (slotsOfRows rs) (omega (arith, h .0 .each-kind))
-    (rows-pass first (suc i) rs (rw (add-suc first i) (c .1)) (h .1)))
+    (from-eq (SlotPasses K first) (K * suc i) (K * i + length (r .row .parents)) (slotsOfRows rs) (omega (arith, h .0 .each-kind))
+    (rows-pass K served first (suc i) rs (rw (add-suc first i) (c .1)) (h .1)))
 
-pub row-slots-none : (first : ℕ) (rs : List Numbered) → Counted first rs → Each (λ r. GoodLists (r .number) (r .row .parents)) rs
-    → slotRules first 0 (slotsOfRows rs) ≡ none
-row-slots-none first rs c h = slots-none first 0 (slotsOfRows rs) (rows-pass first 0 rs (rw (add-zero first) c) h)
+pub row-slots-none : (K : ℕ) (served : Served K) → (first : ℕ) (rs : List Numbered) → Counted first rs → Each (λ r. GoodLists K (r .number) (r .row .parents)) rs
+    → slotRules K first 0 (slotsOfRows rs) ≡ none
+row-slots-none K served first rs c h = slots-none K served first 0 (slotsOfRows rs) (rw (mul-zero K) at (rows-pass K served first 0 rs (rw (add-zero first) c) h))
 
 -- ── 9 and 10 ─────────────────────────────────────────────────────────────────────────────────
 
@@ -144,48 +145,48 @@ module _ (first end n : ℕ) where
   unfolding inFile
   past-file l = rw (le-ltb n end l) (and-false (leb first n))
 
-module _ (first end : ℕ) where
+module _ (K : ℕ) (served : Served K) (first end : ℕ) where
   -- the rules of unresolved records whose children are in the file are one test of their kinds
   pub unresolved-kinds : (us : List Unresolved) → Each (λ u. inFile first end (u .child) ≡ true) us
       → firstIn (λ i. unresolvedRules first end (getElem? (map (λ u. u .child) us) i) (getElem? (map (λ u. u .kind) us) i) (getElem? (map (λ u. 0) us) i))
       (upFrom 0 (recordCount (map (λ u. u .child) us) (map (λ u. u .kind) us) (map (λ u. 0) us)))
-      ≡ refuse UnresolvedKind (not (all (λ u. ltb (u .kind) kinds) us))
+      ≡ refuse UnresolvedKind (not (all (λ u. ltb (u .kind) referenceKinds) us))
   unfolding unresolvedRules has
   unresolved-kinds us h =
       columns-first (record { child = 0; kind = 0; handle = 0 }) (unresolvedRules first end) (λ u. u .child) (λ u. u .kind) (λ u. 0) us
-      ∙ first-ext (λ u. unresolvedRules first end (some (u .child)) (some (u .kind)) (some 0)) (λ u. refuse UnresolvedKind (not (ltb (u .kind) kinds))) us
+      ∙ first-ext (λ u. unresolvedRules first end (some (u .child)) (some (u .kind)) (some 0)) (λ u. refuse UnresolvedKind (not (ltb (u .kind) referenceKinds))) us
       (each-imp (λ u. inFile first end (u .child) ≡ true)
-      (λ u. unresolvedRules first end (some (u .child)) (some (u .kind)) (some 0) ≡ refuse UnresolvedKind (not (ltb (u .kind) kinds))) us
-      (λ u b. skip (refuse UnresolvedKind (not (ltb (u .kind) kinds && eqb 0 0)) ∷ []) (refuse UnresolvedKind (not (ltb (u .kind) kinds && eqb 0 0)) ∷ [])
+      (λ u. unresolvedRules first end (some (u .child)) (some (u .kind)) (some 0) ≡ refuse UnresolvedKind (not (ltb (u .kind) referenceKinds))) us
+      (λ u b. skip (refuse UnresolvedKind (not (ltb (u .kind) referenceKinds && eqb 0 0)) ∷ []) (refuse UnresolvedKind (not (ltb (u .kind) referenceKinds && eqb 0 0)) ∷ [])
       (passes UnresolvedChild (inFile first end (u .child)) b) refl
-      ∙ last-rule (refuse UnresolvedKind (not (ltb (u .kind) kinds && eqb 0 0))) ∙ ap (λ b. refuse UnresolvedKind (not b)) (and-true (ltb (u .kind) kinds))) h)
-      ∙ first-all UnresolvedKind (λ u. ltb (u .kind) kinds) us
+      ∙ last-rule (refuse UnresolvedKind (not (ltb (u .kind) referenceKinds && eqb 0 0))) ∙ ap (λ b. refuse UnresolvedKind (not b)) (and-true (ltb (u .kind) referenceKinds))) h)
+      ∙ first-all UnresolvedKind (λ u. ltb (u .kind) referenceKinds) us
 
   -- an unresolved record that passes
   abbrev pub RecordPasses : Unresolved → Type 0
-  RecordPasses u = (first ≤ u .child) × (u .child < end) × (u .kind < kinds)
+  RecordPasses u = (first ≤ u .child) × (u .child < end) × (u .kind < referenceKinds)
 
   pub unresolved-none : (us : List Unresolved) → Each RecordPasses us
       → firstIn (λ i. unresolvedRules first end (getElem? (map (λ u. u .child) us) i) (getElem? (map (λ u. u .kind) us) i) (getElem? (map (λ u. 0) us) i))
       (upFrom 0 (recordCount (map (λ u. u .child) us) (map (λ u. u .kind) us) (map (λ u. 0) us))) ≡ none
   unresolved-none us h =
       unresolved-kinds us (each-imp RecordPasses (λ u. inFile first end (u .child) ≡ true) us (λ u b. in-file first end (u .child) (b .0) (b .1)) h)
-      ∙ passes UnresolvedKind (all (λ u. ltb (u .kind) kinds) us)
-      (all-of (λ u. ltb (u .kind) kinds) us (each-imp RecordPasses (λ u. ltb (u .kind) kinds ≡ true) us (λ u b. lt-ltb (u .kind) kinds (b .2)) h))
+      ∙ passes UnresolvedKind (all (λ u. ltb (u .kind) referenceKinds) us)
+      (all-of (λ u. ltb (u .kind) referenceKinds) us (each-imp RecordPasses (λ u. ltb (u .kind) referenceKinds ≡ true) us (λ u b. lt-ltb (u .kind) referenceKinds (b .2)) h))
 
-  pub inbound-none : (es : List Edge) → Each (Inbound first end) es
-      → firstIn (λ i. inboundRules first end (getElem? (map (λ e. e .child) es) i) (getElem? (map (λ e. e .parent) es) i) (getElem? (map (λ e. e .kind) es) i))
+  pub inbound-none : (es : List Edge) → Each (Inbound K first end) es
+      → firstIn (λ i. inboundRules K first end (getElem? (map (λ e. e .child) es) i) (getElem? (map (λ e. e .parent) es) i) (getElem? (map (λ e. e .kind) es) i))
       (upFrom 0 (recordCount (map (λ e. e .child) es) (map (λ e. e .parent) es) (map (λ e. e .kind) es))) ≡ none
   unfolding inboundRules has
   inbound-none es h =
-      columns-first (record { child = 0; parent = 0; kind = 0 }) (inboundRules first end) (λ e. e .child) (λ e. e .parent) (λ e. e .kind) es
-      ∙ none-in (λ e. inboundRules first end (some (e .child)) (some (e .parent)) (some (e .kind))) es
-      (each-imp (Inbound first end) (λ e. inboundRules first end (some (e .child)) (some (e .parent)) (some (e .kind)) ≡ none) es
-      (λ e b. none-of (refuse InboundChild (not (leb end (e .child))) ∷ refuse InboundParent (not (inFile first end (e .parent) && ltb (e .kind) kinds)) ∷ []) (
+      columns-first (record { child = 0; parent = 0; kind = 0 }) (inboundRules K first end) (λ e. e .child) (λ e. e .parent) (λ e. e .kind) es
+      ∙ none-in (λ e. inboundRules K first end (some (e .child)) (some (e .parent)) (some (e .kind))) es
+      (each-imp (Inbound K first end) (λ e. inboundRules K first end (some (e .child)) (some (e .parent)) (some (e .kind)) ≡ none) es
+      (λ e b. none-of (refuse InboundChild (not (leb end (e .child))) ∷ refuse InboundParent (not (inFile first end (e .parent) && ltb (e .kind) K)) ∷ []) (
         passes InboundChild (leb end (e .child)) (le-leb end (e .child) (b .0)),
         (
-          passes InboundParent (inFile first end (e .parent) && ltb (e .kind) kinds)
-              (rw (in-file first end (e .parent) (b .1) (b .2), lt-ltb (e .kind) kinds (b .3))),
+          passes InboundParent (inFile first end (e .parent) && ltb (e .kind) K)
+              (rw (in-file first end (e .parent) (b .1) (b .2), lt-ltb (e .kind) K (b .3))),
           tt,
         ),
       )) h)

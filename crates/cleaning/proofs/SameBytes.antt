@@ -1,8 +1,9 @@
 -- A cleaned archive, taken again, is written as the same bytes.
 use mathlib.Core.Path.{_≡_, ap, subst}
 use mathlib.Core.List.{[], _∷_}
-use Prim.Native.Nat.{_≤_}
+use Prim.Native.Nat.{ℕ, _≤_}
 use lib.ListN.{length}
+use Rattle.columns.specs.Limits.{Served}
 use Rattle.archive.specs.Encode.{encode}
 use Rattle.cleaning.specs.Summary.{Summary, summary}
 use Rattle.cleaning.specs.Writing.{bytesOf, outputs}
@@ -16,14 +17,14 @@ use Rattle.cleaning.proofs.Again.{summary-again}
 use Rattle.cleaning.proofs.TakenAgain.{cleanable-again}
 
 -- the output files of a good summary, cleaned, are their own bytes
-pub cleaned-again : (S : Summary) → Good S → cleaned (archiveOfFiles (outputs S)) ≡ bytesOf S
+pub cleaned-again : (K : ℕ) (served : Served K) → (S : Summary) → Good K S → cleaned K (archiveOfFiles K (outputs K S)) ≡ bytesOf K S
 unfolding cleaned
-cleaned-again S good = ap bytesOf (summary-again S good)
+cleaned-again K served S g = ap (bytesOf K) (summary-again K served S g)
 
-pub idempotent : Idempotent
+pub idempotent : (K : ℕ) (served : Served K) → Idempotent K
 unfolding cleaned bytesOf
-idempotent fs c room l =
-    let S : Summary = summary (archiveOfFiles fs) in
-    let same = cleaned-again S (good fs c) in
-    subst (λ w. length w ≤ room → Wrote (history fresh (takes (encode (outputs S)) ∷ resolves ∷ writes room ∷ [])) (allOf w)) same
-    (accepted (outputs S) (cleanable-again S (good fs c) (c .chains, c .spans)) room) l
+idempotent K served fs c room l =
+    let S : Summary = summary K (archiveOfFiles K fs) in
+    let same = cleaned-again K served S (good K served fs c) in
+    subst (λ w. length w ≤ room → Wrote (history K fresh (takes (encode (outputs K S)) ∷ resolves ∷ writes room ∷ [])) (allOf w)) same
+    (accepted K served (outputs K S) (cleanable-again K served S (good K served fs c) (c .chains, c .spans)) room) l

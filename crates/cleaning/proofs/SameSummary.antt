@@ -9,7 +9,7 @@ use Rattle.lists.specs.Lists.{Pairs, once, upFrom}
 use Rattle.lists.proofs.Each.{each-imp}
 use Rattle.lists.proofs.Flat.{map-ext}
 use Rattle.lists.proofs.Pairs.{pairs-map, each-upFrom}
-use Rattle.columns.specs.Limits.{kinds}
+use Rattle.columns.specs.Limits.{Served}
 use Rattle.cover.specs.Chains.{Link}
 use Rattle.cover.proofs.Links.{sort-same}
 use Rattle.cleaning.specs.Archive.{Group, Archive, at}
@@ -32,7 +32,7 @@ same-group-summary g h s = λ i. record { depth = s .same-depth i; links = same-
 
 -- ── survivors ────────────────────────────────────────────────────────────────────────────────
 
-module _ (A B : Archive) (s : A .start ≡ B .start) where
+module _ (K : ℕ) (served : Served K) (A B : Archive) (s : A .start ≡ B .start) where
   same-number : (p q : ℕ) → SameEnd A B p q → renumber A p ≡ renumber B q
   unfolding SameEnd
   same-number p q (inl h) = omega (arith, renumber-before A p (h .0), renumber-before B q (omega arith))
@@ -42,7 +42,7 @@ module _ (A B : Archive) (s : A .start ≡ B .start) where
   unfolding newParents
   same-new k p q r = pairs-map (SameEnd A B) (renumber A) (renumber B) same-number (once (ends A k p)) (once (ends B k q)) r
 
-  same-body : (p q : ℕ) → SameSurvivor A B p q → (at A p) .body ≡ (at B q) .body
+  same-body : (p q : ℕ) → SameSurvivor K A B p q → (at A p) .body ≡ (at B q) .body
   same-body p q r = λ i. record {
     group = r .same-group i;
     tag = r .same-tag i;
@@ -51,20 +51,20 @@ module _ (A B : Archive) (s : A .start ≡ B .start) where
     unresolved = r .same-unresolved i;
   }
 
-  same-kept : (p q : ℕ) → SameSurvivor A B p q → keptBy A p ≡ keptBy B q
+  same-kept : (p q : ℕ) → SameSurvivor K A B p q → keptBy K A p ≡ keptBy K B q
   unfolding keptBy
   same-kept p q r = ap₂ kept (same-body p q r)
-      (map-ext (λ k. newParents A k p) (λ k. newParents B k q) (upFrom 0 kinds)
-      (each-imp (λ k. (0 ≤ k) × (k < 0 + kinds)) (λ k. newParents A k p ≡ newParents B k q) (upFrom 0 kinds)
-      (λ k h. same-new k p q (r .same-ends k (omega arith))) (each-upFrom 0 kinds)))
+      (map-ext (λ k. newParents A k p) (λ k. newParents B k q) (upFrom 0 K)
+      (each-imp (λ k. (0 ≤ k) × (k < 0 + K)) (λ k. newParents A k p ≡ newParents B k q) (upFrom 0 K)
+      (λ k h. same-new k p q (r .same-ends k (omega arith))) (each-upFrom 0 K)))
 
 -- ── the whole ────────────────────────────────────────────────────────────────────────────────
 
-pub summary-alike : (A B : Archive) → Alike A B → summary A ≡ summary B
+pub summary-alike : (K : ℕ) (served : Served K) → (A B : Archive) → Alike K A B → summary K A ≡ summary K B
 unfolding summary
-summary-alike A B l = λ i. record {
+summary-alike K served A B l = λ i. record {
   start = l .same-start i;
   subject = l .same-subject i;
   groups = pairs-map SameGroup groupSummary groupSummary same-group-summary (A .groups) (B .groups) (l .same-groups) i;
-  rows = pairs-map (SameSurvivor A B) (keptBy A) (keptBy B) (same-kept A B (l .same-start)) (survivors A) (survivors B) (l .same-survivors) i;
+  rows = pairs-map (SameSurvivor K A B) (keptBy K A) (keptBy K B) (same-kept K served A B (l .same-start)) (survivors A) (survivors B) (l .same-survivors) i;
 }

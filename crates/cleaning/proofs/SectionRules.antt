@@ -15,7 +15,7 @@ use Rattle.lists.proofs.Tests.{tested, both, all-of}
 use Rattle.lists.proofs.Each.{each-imp, each-flat}
 use Rattle.lists.proofs.Filters.{filter-passes}
 use Rattle.lists.proofs.Rising.{filter-rising, upFrom-rising}
-use Rattle.columns.specs.Limits.{kinds, end64}
+use Rattle.columns.specs.Limits.{Served, end64}
 use Rattle.columns.specs.Refusal.{refuse, firstOf}
 use Rattle.columns.specs.EdgeSet.{offsetsForm}
 use Rattle.columns.specs.Building.{inFile, slotRules, numbersOk, seqsRise, labelsRules, allUnresolvedRules, allInboundRules, naming, inboundLists, deltasFit, granuleStart, reversePart, inboundPart, buildRules}
@@ -59,7 +59,7 @@ unfolding rising distinct
 rising-distinct [] h = refl
 rising-distinct (x ∷ xs) h = rises-distinct x xs h
 
-module _ (s : Sheet) (t : Tidy s) (g : ℕ) where
+module _ (K : ℕ) (served : Served K) (s : Sheet) (t : Tidy K s) (g : ℕ) where
   -- ── 6, 7, 9, 10 ────────────────────────────────────────────────────────────────────────────
 
   -- the children of a group's unresolved records are its numbers
@@ -67,69 +67,69 @@ module _ (s : Sheet) (t : Tidy s) (g : ℕ) where
   unresolved-within =
       let first = sectionFirst s g in
       let end = sectionEnd s g in
-      rw (← range (λ u. u .child) (λ u. inFile first end (u .child)) first end (omega (arith, section-end s t g)) (λ u l. before-file first end (u .child) l)
+      rw (← range (λ u. u .child) (λ u. inFile first end (u .child)) first end (omega (arith, section-end K served s t g)) (λ u l. before-file first end (u .child) l)
       (λ u l h. in-file first end (u .child) l h) (λ u l. past-file first end (u .child) l) (s .unresolved) (t .childOrder))
       (filter-passes (λ u. inFile first end (u .child)) (s .unresolved))
 
   labels-section : labelsRules (sectionRows s g) (labelsWhere ((factsOf s g) .covered) (sectionLabels s g)) ≡ refuse SeqNotRising (not (seqsRise [] (sectionLabels s g)))
   unfolding seqsRise
   labels-section = elim (tested ((factsOf s g) .covered)) [
-    | inl c ↦ rw c (labels-rules (sectionRows s g) (sectionLabels s g) (labels-count s t g c))
-    | inr c ↦ rw (c, labels-uncovered s t g c)
+    | inl c ↦ rw c (labels-rules (sectionRows s g) (sectionLabels s g) (labels-count K served s t g c))
+    | inr c ↦ rw (c, labels-uncovered K served s t g c)
   ]
 
-  module _ (e : slotRules (s .start) 0 (s .lists) ≡ none) where
+  module _ (e : slotRules K (s .start) 0 (s .lists) ≡ none) where
     -- ── 11 to 13 ───────────────────────────────────────────────────────────────────────────────
 
     -- an edge of another row into the group's numbers comes from past them: its parent is earlier
-    edges-section : Each (Inbound (sectionFirst s g) (sectionEnd s g)) (sectionEdges s g)
+    edges-section : Each (Inbound K (sectionFirst s g) (sectionEnd s g)) (sectionEdges K s g)
     unfolding rowEdges
     edges-section =
         let first = sectionFirst s g in
         let end = sectionEnd s g in
-        each-flat (Inbound first end) (rowEdges s first end) (otherRows s g)
-        (each-imp (λ i. (i < rowCount s) × (sectionStart s g ≤ i → sectionStart s (suc g) ≤ i)) (λ i. Each (Inbound first end) (rowEdges s first end i)) (otherRows s g)
-        (λ i w. let good = row-good s t e i (w .0) in
-        each-imp (EdgeInto first end (s .start + i) 0 kinds) (Inbound first end) (rowEdges s first end i)
+        each-flat (Inbound K first end) (rowEdges K s first end) (otherRows s g)
+        (each-imp (λ i. (i < rowCount s) × (sectionStart s g ≤ i → sectionStart s (suc g) ≤ i)) (λ i. Each (Inbound K first end) (rowEdges K s first end i)) (otherRows s g)
+        (λ i w. let good = row-good K served s t e i (w .0) in
+        each-imp (EdgeInto first end (s .start + i) 0 K) (Inbound K first end) (rowEdges K s first end i)
         (λ d h. let l : sectionStart s g ≤ i = omega (arith, h .low, h .below) in (omega (arith, h .child, w .1 l), h .low, h .high, h .kind))
-        (edges-into first end (s .start + i) kinds 0 (parentsAt s i) (omega (arith, good .each-kind)) (good .below))) (others-outside s t g))
+        (edges-into first end (s .start + i) K 0 (parentsAt K s i) (omega (arith, good .each-kind)) (good .below))) (others-outside K served s t g))
 
     module _ (r : s .start + rowCount s < end64) where
-      edges-distinct : all distinct (inboundLists (sectionFirst s g) (sectionRows s g) (inboundColumns (sectionEdges s g))) ≡ true
+      edges-distinct : all distinct (inboundLists K (sectionFirst s g) (sectionRows s g) (inboundColumns (sectionEdges K s g))) ≡ true
       unfolding naming
       edges-distinct =
           let inside = inFile (sectionEnd s g) (sheetEnd s) in
-          let lists : ℕ → ℕ → List ℕ = naming (s .start) (rowCount s) (s .lists) in
-          rw (inbound-section s t g e r, within-section s t g (sectionEnd s g) (sheetEnd s))
+          let lists : ℕ → ℕ → List ℕ = naming K (s .start) (rowCount s) (s .lists) in
+          rw (inbound-section K served s t g e r, within-section K served s t g (sectionEnd s g) (sheetEnd s))
           (all-of distinct _
-          (each-table (λ x k. filter inside (lists x k)) (sectionFirst s g) (sectionRows s g) (λ l. distinct l ≡ true)
+          (each-table K (λ x k. filter inside (lists x k)) (sectionFirst s g) (sectionRows s g) (λ l. distinct l ≡ true)
           (λ x k. rising-distinct (filter inside (lists x k))
           (filter-rising inside (lists x k) (filter-rising _ (upFrom (s .start) (rowCount s)) (upFrom-rising (s .start) (rowCount s)))))))
 
       -- ── all rules ────────────────────────────────────────────────────────────────────────────
 
-      pub section-rules : buildRules (sectionGraph s g) ≡ sectionFaults s g
+      pub section-rules : buildRules K (sectionGraph K s g) ≡ sectionFaults K s g
       unfolding buildRules sectionGraph sectionFaults numbersOk allUnresolvedRules unresolvedColumns allInboundRules inboundColumns
       section-rules =
           let first = sectionFirst s g in
           let end = sectionEnd s g in
           let n = sectionRows s g in
-          let lists = sectionLists s g in
-          let children = sectionChildren s g in
-          let graph = sectionGraph s g in
-          let last : first + n ≡ end = omega (arith, section-end s t g) in
+          let lists = sectionLists K s g in
+          let children = sectionChildren K s g in
+          let graph = sectionGraph K s g in
+          let last : first + n ≡ end = omega (arith, section-end K served s t g) in
           then _ _ refl
-          (skip _ _ (passes EdgeEntries (offsetsForm n (length (joined lists)) (starts 0 lists)) (starts-form n lists (lists-length s t g)))
-          (skip _ _ (passes NumberRange (ltb (first + n) end64) (lt-ltb (first + n) end64 (omega (arith, section-end s t g, section-within s t g))))
-          (skip _ _ (ap (slotRules first 0) (cut-joined lists) ∙ section-slots s t e g)
-          (then _ _ (rw last (unresolved-kinds first end (sectionUnresolved s g) unresolved-within))
+          (skip _ _ (passes EdgeEntries (offsetsForm K n (length (joined lists)) (starts 0 lists)) (starts-form K n lists (lists-length K served s t g)))
+          (skip _ _ (passes NumberRange (ltb (first + n) end64) (lt-ltb (first + n) end64 (omega (arith, section-end K served s t g, section-within K served s t g))))
+          (skip _ _ (ap (slotRules K first 0) (cut-joined lists) ∙ section-slots K served s t e g)
+          (then _ _ (rw last (unresolved-kinds K served first end (sectionUnresolved s g) unresolved-within))
           (then _ _ refl
           (then _ _ labels-section
-          (skip _ _ (rw last (inbound-none first end (sectionEdges s g) edges-section))
-          (skip _ _ (passes InboundTwice (all distinct (inboundLists first n (inboundColumns (sectionEdges s g)))) edges-distinct)
+          (skip _ _ (rw last (inbound-none K served first end (sectionEdges K s g) edges-section))
+          (skip _ _ (passes InboundTwice (all distinct (inboundLists K first n (inboundColumns (sectionEdges K s g)))) edges-distinct)
           (skip _ _ (fails GranuleRows (ltb n (0 + n)) (le-ltb n (0 + n) (omega arith)))
-          (then _ _ (ap₂ (λ i ls. refuse DeltaRange (not (deltasFit i ls))) (starts-section s t g) (section-forward s t g))
-          (one-test DeltaRange (deltasFit (granuleStart graph) (reversePart graph)) (deltasFit (granuleStart graph) (inboundPart graph))
+          (then _ _ (ap₂ (λ i ls. refuse DeltaRange (not (deltasFit K i ls))) (starts-section K served s t g) (section-forward K served s t g))
+          (one-test DeltaRange (deltasFit K (granuleStart graph) (reversePart K graph)) (deltasFit K (granuleStart graph) (inboundPart K graph))
           ∙ ap (λ b. firstOf (refuse DeltaRange (not b) ∷ []))
-          (ap₂ (λ a b. a && b) (ap₂ deltasFit (starts-section s t g) (section-reverse s t g e)) (ap₂ deltasFit (starts-section s t g) (section-inbound s t g e r))
-          ∙ deltas-halves end (sheetEnd s) first children (children-fit s t g e r)))))))))))))
+          (ap₂ (λ a b. a && b) (ap₂ (deltasFit K) (starts-section K served s t g) (section-reverse K served s t g e)) (ap₂ (deltasFit K) (starts-section K served s t g) (section-inbound K served s t g e r))
+          ∙ deltas-halves K served end (sheetEnd s) first children (children-fit K served s t g e r)))))))))))))

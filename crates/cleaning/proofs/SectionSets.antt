@@ -7,7 +7,7 @@ use mathlib.Core.List.{List, [], _∷_, _++_, map, map-append, append-nil}
 use mathlib.Core.Option.{none}
 use Prim.Native.Nat.{ℕ, zero, suc, _+_, _-_, _*_, _≤_, _<_}
 use native.Mathlib.Omega.{arith}
-use native.Mathlib.Nat.{add-zero}
+use native.Mathlib.Nat.{add-zero, mul-le-mul-left, mul-zero}
 use lib.Dec.{leb}
 use lib.ListN.{length, length-take, length-drop}
 use lib.Seq.{take-all}
@@ -20,7 +20,7 @@ use Rattle.lists.proofs.Pairs.{each-upFrom}
 use Rattle.lists.proofs.Flat.{flat-ext, flat-map, upFrom-append, length-joined}
 use Rattle.lists.proofs.Filters.{each-filter, filter-none, filter-all, filter-append}
 use Rattle.lists.proofs.Rising.{filter-rising, upFrom-rising, rising-level}
-use Rattle.columns.specs.Limits.{kinds, end64}
+use Rattle.columns.specs.Limits.{Served, end64}
 use Rattle.columns.specs.EdgeSet.{setOf}
 use Rattle.columns.specs.Questions.{listOf}
 use Rattle.columns.specs.Building.{inFile, slotRules, childrenTo, slotTable, naming, reverseLists, inboundLists, forwardPart, reversePart, inboundPart, granuleStart, builtOf, within}
@@ -83,22 +83,22 @@ module _ (q : ℕ → Bool) (xs ys : List ℕ) where
 -- ── the rows that name a number ──────────────────────────────────────────────────────────────
 
 -- whether the list of a kind of a number names x
-abbrev names : Sheet → ℕ → ℕ → ℕ → Bool
-names s x k n = mem x (listOf (s .start) (s .lists) k n)
+abbrev names : (K : ℕ) → Sheet → ℕ → ℕ → ℕ → Bool
+names K s x k n = mem x (listOf K (s .start) (s .lists) k n)
 
 -- how many rows follow a group's
 abbrev rowsAfter : Sheet → ℕ → ℕ
 rowsAfter s g = rowCount s - sectionStart s (suc g)
 
-module _ (s : Sheet) (t : Tidy s) (g : ℕ) where
+module _ (K : ℕ) (served : Served K) (s : Sheet) (t : Tidy K s) (g : ℕ) where
   -- all numbers: those before a group's, the group's, those after them
   numbers-section : upFrom (s .start) (rowCount s) ≡ upFrom (s .start) (sectionStart s g) ++ (upFrom (sectionFirst s g) (sectionRows s g) ++ upFrom (sectionEnd s g) (rowsAfter s g))
   numbers-section =
       let a = sectionStart s g in
       let n = sectionRows s g in
       let m = rowsAfter s g in
-      let e : rowCount s ≡ a + (n + m) = omega (arith, section-end s t g, section-within s t g) in
-      let f : sectionFirst s g + n ≡ sectionEnd s g = omega (arith, section-end s t g) in
+      let e : rowCount s ≡ a + (n + m) = omega (arith, section-end K served s t g, section-within K served s t g) in
+      let f : sectionFirst s g + n ≡ sectionEnd s g = omega (arith, section-end K served s t g) in
       ap (upFrom (s .start)) e ∙ upFrom-append (s .start) a (n + m) ∙ ap (λ xs. upFrom (s .start) a ++ xs) (upFrom-append (sectionFirst s g) n m)
       ∙ ap (λ i. upFrom (s .start) a ++ (upFrom (sectionFirst s g) n ++ upFrom i m)) f
 
@@ -106,12 +106,12 @@ module _ (s : Sheet) (t : Tidy s) (g : ℕ) where
   own-numbers : (P : ℕ → Type 0) → ((n : ℕ) → sectionFirst s g ≤ n → n < sectionEnd s g → P n) → Each P (upFrom (sectionFirst s g) (sectionRows s g))
   own-numbers P f =
       each-imp (λ n. (sectionFirst s g ≤ n) × (n < sectionFirst s g + sectionRows s g)) P (upFrom (sectionFirst s g) (sectionRows s g))
-      (λ n w. f n (w .0) (omega (arith, w .1, section-end s t g))) (each-upFrom (sectionFirst s g) (sectionRows s g))
+      (λ n w. f n (w .0) (omega (arith, w .1, section-end K served s t g))) (each-upFrom (sectionFirst s g) (sectionRows s g))
 
   later-numbers : (P : ℕ → Type 0) → ((n : ℕ) → sectionEnd s g ≤ n → n < s .start + rowCount s → P n) → Each P (upFrom (sectionEnd s g) (rowsAfter s g))
   later-numbers P f =
       each-imp (λ n. (sectionEnd s g ≤ n) × (n < sectionEnd s g + rowsAfter s g)) P (upFrom (sectionEnd s g) (rowsAfter s g))
-      (λ n w. f n (w .0) (omega (arith, w .1, section-within s t g))) (each-upFrom (sectionEnd s g) (rowsAfter s g))
+      (λ n w. f n (w .0) (omega (arith, w .1, section-within K served s t g))) (each-upFrom (sectionEnd s g) (rowsAfter s g))
 
   -- a row of another group is not between the group's
   pub others-outside : Each (λ i. (i < rowCount s) × (sectionStart s g ≤ i → sectionStart s (suc g) ≤ i)) (otherRows s g)
@@ -122,48 +122,48 @@ module _ (s : Sheet) (t : Tidy s) (g : ℕ) where
       let P : ℕ → Type 0 = λ i. (i < rowCount s) × (a ≤ i → b ≤ i) in
       each-append P (upFrom 0 a) (upFrom b (rowsAfter s g))
       (each-imp (λ i. (0 ≤ i) × (i < 0 + a)) P (upFrom 0 a)
-      (λ i w. (omega (arith, w .1, section-end s t g, section-within s t g), λ l. absurd (omega (arith, w .1)))) (each-upFrom 0 a))
+      (λ i w. (omega (arith, w .1, section-end K served s t g, section-within K served s t g), λ l. absurd (omega (arith, w .1)))) (each-upFrom 0 a))
       (each-imp (λ i. (b ≤ i) × (i < b + rowsAfter s g)) P (upFrom b (rowsAfter s g))
-      (λ i w. (omega (arith, w .1, section-within s t g), λ l. w .0)) (each-upFrom b (rowsAfter s g)))
+      (λ i w. (omega (arith, w .1, section-within K served s t g), λ l. w .0)) (each-upFrom b (rowsAfter s g)))
 
   -- the children of a group's rows, as a table of their numbers
-  pub children-section : sectionChildren s g ≡ slotTable (naming (s .start) (rowCount s) (s .lists)) (sectionFirst s g) (sectionRows s g)
+  pub children-section : sectionChildren K s g ≡ slotTable K (naming K (s .start) (rowCount s) (s .lists)) (sectionFirst s g) (sectionRows s g)
   unfolding childLists reverseLists
   children-section =
-      table-part (naming (s .start) (rowCount s) (s .lists)) (s .start) (sectionStart s g) (sectionRows s g) (rowCount s) (omega (arith, section-end s t g, section-within s t g))
+      table-part K served (naming K (s .start) (rowCount s) (s .lists)) (s .start) (sectionStart s g) (sectionRows s g) (rowCount s) (omega (arith, section-end K served s t g, section-within K served s t g))
 
   pub within-section : (low high : ℕ)
-      → within low high (sectionChildren s g)
-      ≡ slotTable (λ x k. filter (inFile low high) (naming (s .start) (rowCount s) (s .lists) x k)) (sectionFirst s g) (sectionRows s g)
+      → within low high (sectionChildren K s g)
+      ≡ slotTable K (λ x k. filter (inFile low high) (naming K (s .start) (rowCount s) (s .lists) x k)) (sectionFirst s g) (sectionRows s g)
   unfolding within
   within-section low high =
       ap (map (filter (inFile low high))) children-section
-      ∙ map-table (naming (s .start) (rowCount s) (s .lists)) (filter (inFile low high)) (sectionFirst s g) (sectionRows s g)
+      ∙ map-table K served (naming K (s .start) (rowCount s) (s .lists)) (filter (inFile low high)) (sectionFirst s g) (sectionRows s g)
 
-  module _ (e : slotRules (s .start) 0 (s .lists) ≡ none) (x k : ℕ) (l : sectionFirst s g ≤ x) (j : k < kinds) where
-    none-before : filter (names s x k) (upFrom (s .start) (sectionStart s g)) ≡ []
+  module _ (e : slotRules K (s .start) 0 (s .lists) ≡ none) (x k : ℕ) (l : sectionFirst s g ≤ x) (j : k < K) where
+    none-before : filter (names K s x k) (upFrom (s .start) (sectionStart s g)) ≡ []
     none-before =
-        filter-none (names s x k) (upFrom (s .start) (sectionStart s g))
-        (each-imp (λ n. (s .start ≤ n) × (n < s .start + sectionStart s g)) (λ n. names s x k n ≡ false) (upFrom (s .start) (sectionStart s g))
-        (λ n w. let b : n < s .start + rowCount s = omega (arith, w .1, section-end s t g, section-within s t g) in
-        others-not-mem x (listOf (s .start) (s .lists) k n)
-        (each-imp (λ p. p < n) (λ p. x ≡ p → ⊥) (listOf (s .start) (s .lists) k n) (λ p b d. omega (arith, w .1)) (list-below s t e n k (w .0) b j)))
+        filter-none (names K s x k) (upFrom (s .start) (sectionStart s g))
+        (each-imp (λ n. (s .start ≤ n) × (n < s .start + sectionStart s g)) (λ n. names K s x k n ≡ false) (upFrom (s .start) (sectionStart s g))
+        (λ n w. let b : n < s .start + rowCount s = omega (arith, w .1, section-end K served s t g, section-within K served s t g) in
+        others-not-mem x (listOf K (s .start) (s .lists) k n)
+        (each-imp (λ p. p < n) (λ p. x ≡ p → ⊥) (listOf K (s .start) (s .lists) k n) (λ p b d. omega (arith, w .1)) (list-below K served s t e n k (w .0) b j)))
         (each-upFrom (s .start) (sectionStart s g)))
 
     -- the children of a number of the group: its own rows, then later ones
-    naming-section : naming (s .start) (rowCount s) (s .lists) x k
-        ≡ filter (names s x k) (upFrom (sectionFirst s g) (sectionRows s g)) ++ filter (names s x k) (upFrom (sectionEnd s g) (rowsAfter s g))
+    naming-section : naming K (s .start) (rowCount s) (s .lists) x k
+        ≡ filter (names K s x k) (upFrom (sectionFirst s g) (sectionRows s g)) ++ filter (names K s x k) (upFrom (sectionEnd s g) (rowsAfter s g))
     unfolding naming
     naming-section =
         let own = upFrom (sectionFirst s g) (sectionRows s g) in
         let after = upFrom (sectionEnd s g) (rowsAfter s g) in
-        rw (numbers-section, filter-append (names s x k) (upFrom (s .start) (sectionStart s g)) (own ++ after), none-before) (filter-append (names s x k) own after)
+        rw (numbers-section, filter-append (names K s x k) (upFrom (s .start) (sectionStart s g)) (own ++ after), none-before) (filter-append (names K s x k) own after)
 
     -- those below the group's end: the group's own rows that name the number
-    own-children : filter (inFile 0 (sectionEnd s g)) (naming (s .start) (rowCount s) (s .lists) x k) ≡ naming (sectionFirst s g) (sectionRows s g) (sectionLists s g) x k
+    own-children : filter (inFile 0 (sectionEnd s g)) (naming K (s .start) (rowCount s) (s .lists) x k) ≡ naming K (sectionFirst s g) (sectionRows s g) (sectionLists K s g) x k
     unfolding naming
     own-children =
-        let p = names s x k in
+        let p = names K s x k in
         let q = inFile 0 (sectionEnd s g) in
         let own = upFrom (sectionFirst s g) (sectionRows s g) in
         let after = upFrom (sectionEnd s g) (rowsAfter s g) in
@@ -171,15 +171,15 @@ module _ (s : Sheet) (t : Tidy s) (g : ℕ) where
         ∙ filter-left q (filter p own) (filter p after)
         (each-filter p (λ n. q n ≡ true) own (own-numbers (λ n. q n ≡ true) (λ n a b. in-file 0 (sectionEnd s g) n (omega arith) b)))
         (each-filter p (λ n. q n ≡ false) after (later-numbers (λ n. q n ≡ false) (λ n a b. past-file 0 (sectionEnd s g) n a)))
-        ∙ filter-ext p (λ n. mem x (listOf (sectionFirst s g) (sectionLists s g) k n)) own
-        (own-numbers (λ n. p n ≡ mem x (listOf (sectionFirst s g) (sectionLists s g) k n))
-        (λ n a b. ap (mem x) (sym (list-part (s .start) (sectionStart s g) (sectionRows s g) (s .lists) k n j a (omega (arith, section-end s t g))))))
+        ∙ filter-ext p (λ n. mem x (listOf K (sectionFirst s g) (sectionLists K s g) k n)) own
+        (own-numbers (λ n. p n ≡ mem x (listOf K (sectionFirst s g) (sectionLists K s g) k n))
+        (λ n a b. ap (mem x) (sym (list-part K served (s .start) (sectionStart s g) (sectionRows s g) (s .lists) k n j a (omega (arith, section-end K served s t g))))))
 
     -- those from the group's end on: later rows that name the number
     later-children : s .start + rowCount s < end64
-        → filter (inFile (sectionEnd s g) (sheetEnd s)) (naming (s .start) (rowCount s) (s .lists) x k) ≡ filter (names s x k) (upFrom (sectionEnd s g) (rowsAfter s g))
+        → filter (inFile (sectionEnd s g) (sheetEnd s)) (naming K (s .start) (rowCount s) (s .lists) x k) ≡ filter (names K s x k) (upFrom (sectionEnd s g) (rowsAfter s g))
     later-children r =
-        let p = names s x k in
+        let p = names K s x k in
         let q = inFile (sectionEnd s g) (sheetEnd s) in
         let own = upFrom (sectionFirst s g) (sectionRows s g) in
         let after = upFrom (sectionEnd s g) (rowsAfter s g) in
@@ -189,151 +189,154 @@ module _ (s : Sheet) (t : Tidy s) (g : ℕ) where
         (each-filter p (λ n. q n ≡ true) after (later-numbers (λ n. q n ≡ true) (λ n a b. in-file (sectionEnd s g) (sheetEnd s) n a (omega arith))))
 
     -- the edges of other rows to the number are those of later rows that name it
-    edge-children : x < sectionEnd s g → childrenOf x k (sectionEdges s g) ≡ filter (names s x k) (upFrom (sectionEnd s g) (rowsAfter s g))
+    edge-children : x < sectionEnd s g → childrenOf x k (sectionEdges K s g) ≡ filter (names K s x k) (upFrom (sectionEnd s g) (rowsAfter s g))
     unfolding rowEdges otherRows
     edge-children h =
         let first = sectionFirst s g in
         let end = sectionEnd s g in
         let before = upFrom 0 (sectionStart s g) in
         let after = upFrom (sectionStart s (suc g)) (rowsAfter s g) in
-        children-flat x k (rowEdges s first end) (otherRows s g)
-        ∙ flat-ext (λ i. childrenOf x k (rowEdges s first end i)) (λ i. only (names s x k (s .start + i)) (s .start + i)) (otherRows s g)
+        children-flat x k (rowEdges K s first end) (otherRows s g)
+        ∙ flat-ext (λ i. childrenOf x k (rowEdges K s first end i)) (λ i. only (names K s x k (s .start + i)) (s .start + i)) (otherRows s g)
         (each-imp (λ i. (i < rowCount s) × (sectionStart s g ≤ i → sectionStart s (suc g) ≤ i))
-        (λ i. childrenOf x k (rowEdges s first end i) ≡ only (names s x k (s .start + i)) (s .start + i)) (otherRows s g)
-        (λ i w. one-child x k first end (s .start + i) (parentsAt s i) (row-good s t e i (w .0) .once)
-        ∙ ap₂ (λ b ps. only (b && mem x ps) (s .start + i)) (in-file first end x l h) (row-list s t i k j)) others-outside)
-        ∙ sym (flat-map (λ n. only (names s x k n) n) (λ i. s .start + i) (otherRows s g))
-        ∙ filter-only (names s x k) (map (λ i. s .start + i) (otherRows s g))
-        ∙ ap (filter (names s x k))
+        (λ i. childrenOf x k (rowEdges K s first end i) ≡ only (names K s x k (s .start + i)) (s .start + i)) (otherRows s g)
+        (λ i w. one-child x k first end (s .start + i) (parentsAt K s i) (row-good K served s t e i (w .0) .once)
+        ∙ ap₂ (λ b ps. only (b && mem x ps) (s .start + i)) (in-file first end x l h) (row-list K served s t i k j)) others-outside)
+        ∙ sym (flat-map (λ n. only (names K s x k n) n) (λ i. s .start + i) (otherRows s g))
+        ∙ filter-only (names K s x k) (map (λ i. s .start + i) (otherRows s g))
+        ∙ ap (filter (names K s x k))
         (map-append (λ i. s .start + i) before after ∙ ap₂ _++_ (map-plus (s .start) 0 (sectionStart s g)) (map-plus (s .start) (sectionStart s (suc g)) (rowsAfter s g)))
-        ∙ filter-append (names s x k) (upFrom (s .start + 0) (sectionStart s g)) (upFrom end (rowsAfter s g))
-        ∙ ap (λ xs. xs ++ filter (names s x k) (upFrom end (rowsAfter s g)))
-        (ap (λ i. filter (names s x k) (upFrom i (sectionStart s g))) (add-zero (s .start)) ∙ none-before)
+        ∙ filter-append (names K s x k) (upFrom (s .start + 0) (sectionStart s g)) (upFrom end (rowsAfter s g))
+        ∙ ap (λ xs. xs ++ filter (names K s x k) (upFrom end (rowsAfter s g)))
+        (ap (λ i. filter (names K s x k) (upFrom i (sectionStart s g))) (add-zero (s .start)) ∙ none-before)
 
     -- they rise, so that sorting leaves them
     sorted-children : x < sectionEnd s g
-        → sort (childrenTo x k (map (λ e. e .child) (sectionEdges s g)) (map (λ e. e .parent) (sectionEdges s g)) (map (λ e. e .kind) (sectionEdges s g)))
-        ≡ filter (names s x k) (upFrom (sectionEnd s g) (rowsAfter s g))
+        → sort (childrenTo x k (map (λ e. e .child) (sectionEdges K s g)) (map (λ e. e .parent) (sectionEdges K s g)) (map (λ e. e .kind) (sectionEdges K s g)))
+        ≡ filter (names K s x k) (upFrom (sectionEnd s g) (rowsAfter s g))
     sorted-children h =
-        let later = filter (names s x k) (upFrom (sectionEnd s g) (rowsAfter s g)) in
-        ap sort (children-to x k (sectionEdges s g) ∙ edge-children h)
-        ∙ sort-same later (rising-level later (filter-rising (names s x k) (upFrom (sectionEnd s g) (rowsAfter s g)) (upFrom-rising (sectionEnd s g) (rowsAfter s g))))
+        let later = filter (names K s x k) (upFrom (sectionEnd s g) (rowsAfter s g)) in
+        ap sort (children-to x k (sectionEdges K s g) ∙ edge-children h)
+        ∙ sort-same later (rising-level later (filter-rising (names K s x k) (upFrom (sectionEnd s g) (rowsAfter s g)) (upFrom-rising (sectionEnd s g) (rowsAfter s g))))
 
 -- ── the lists of a group's file ──────────────────────────────────────────────────────────────
 
-module _ (s : Sheet) (t : Tidy s) (g : ℕ) (e : slotRules (s .start) 0 (s .lists) ≡ none) where
-  pub reverse-section : reverseLists (sectionFirst s g) (sectionRows s g) (sectionLists s g) ≡ within 0 (sectionEnd s g) (sectionChildren s g)
+module _ (K : ℕ) (served : Served K) (s : Sheet) (t : Tidy K s) (g : ℕ) (e : slotRules K (s .start) 0 (s .lists) ≡ none) where
+  pub reverse-section : reverseLists K (sectionFirst s g) (sectionRows s g) (sectionLists K s g) ≡ within 0 (sectionEnd s g) (sectionChildren K s g)
   unfolding reverseLists
   reverse-section =
-      sym (within-section s t g 0 (sectionEnd s g)
-      ∙ table-ext (λ x k. filter (inFile 0 (sectionEnd s g)) (naming (s .start) (rowCount s) (s .lists) x k))
-      (naming (sectionFirst s g) (sectionRows s g) (sectionLists s g)) (sectionFirst s g) (sectionRows s g) (λ x k l h j. own-children s t g e x k l j))
+      sym (within-section K served s t g 0 (sectionEnd s g)
+      ∙ table-ext K served (λ x k. filter (inFile 0 (sectionEnd s g)) (naming K (s .start) (rowCount s) (s .lists) x k))
+      (naming K (sectionFirst s g) (sectionRows s g) (sectionLists K s g)) (sectionFirst s g) (sectionRows s g) (λ x k l h j. own-children K served s t g e x k l j))
 
   module _ (r : s .start + rowCount s < end64) where
-    pub inbound-section : inboundLists (sectionFirst s g) (sectionRows s g) (inboundColumns (sectionEdges s g)) ≡ within (sectionEnd s g) (sheetEnd s) (sectionChildren s g)
+    pub inbound-section : inboundLists K (sectionFirst s g) (sectionRows s g) (inboundColumns (sectionEdges K s g)) ≡ within (sectionEnd s g) (sheetEnd s) (sectionChildren K s g)
     unfolding inboundLists inboundColumns
     inbound-section =
-        let es = sectionEdges s g in
+        let es = sectionEdges K s g in
         let f : ℕ → ℕ → List ℕ = λ x k. sort (childrenTo x k (map (λ e. e .child) es) (map (λ e. e .parent) es) (map (λ e. e .kind) es)) in
-        let c : ℕ → ℕ → List ℕ = λ x k. filter (inFile (sectionEnd s g) (sheetEnd s)) (naming (s .start) (rowCount s) (s .lists) x k) in
-        table-ext f c (sectionFirst s g) (sectionRows s g)
-        (λ x k l h j. sorted-children s t g e x k l j (omega (arith, section-end s t g)) ∙ sym (later-children s t g e x k l j r))
-        ∙ sym (within-section s t g (sectionEnd s g) (sheetEnd s))
+        let c : ℕ → ℕ → List ℕ = λ x k. filter (inFile (sectionEnd s g) (sheetEnd s)) (naming K (s .start) (rowCount s) (s .lists) x k) in
+        table-ext K served f c (sectionFirst s g) (sectionRows s g)
+        (λ x k l h j. sorted-children K served s t g e x k l j (omega (arith, section-end K served s t g)) ∙ sym (later-children K served s t g e x k l j r))
+        ∙ sym (within-section K served s t g (sectionEnd s g) (sheetEnd s))
 
     -- all parents are numbers of 64 bits
-    pub lists-within : within 0 (sheetEnd s) (sectionLists s g) ≡ sectionLists s g
+    pub lists-within : within 0 (sheetEnd s) (sectionLists K s g) ≡ sectionLists K s g
     unfolding parentsAt
     lists-within =
         let a = sectionStart s g in
         let n = sectionRows s g in
-        within-all 0 (sheetEnd s) (sectionLists s g)
-        (rw (← parts-from kinds (s .lists) a n)
-        (each-flat (λ ps. Each (λ p. (0 ≤ p) × (p < (sheetEnd s))) ps) (λ i. part (kinds * i) kinds (s .lists)) (upFrom a n)
-        (each-imp (λ i. (a ≤ i) × (i < a + n)) (λ i. Each (λ ps. Each (λ p. (0 ≤ p) × (p < (sheetEnd s))) ps) (part (kinds * i) kinds (s .lists))) (upFrom a n)
-        (λ i w. below i (omega (arith, w .1, section-end s t g, section-within s t g))) (each-upFrom a n))))
+        within-all K served 0 (sheetEnd s) (sectionLists K s g)
+        (rw (← parts-from K (s .lists) a n)
+        (each-flat (λ ps. Each (λ p. (0 ≤ p) × (p < (sheetEnd s))) ps) (λ i. part (K * i) K (s .lists)) (upFrom a n)
+        (each-imp (λ i. (a ≤ i) × (i < a + n)) (λ i. Each (λ ps. Each (λ p. (0 ≤ p) × (p < (sheetEnd s))) ps) (part (K * i) K (s .lists))) (upFrom a n)
+        (λ i w. below i (omega (arith, w .1, section-end K served s t g, section-within K served s t g))) (each-upFrom a n))))
       where
-        below : (i : ℕ) → i < rowCount s → Each (λ ps. Each (λ p. (0 ≤ p) × (p < (sheetEnd s))) ps) (part (kinds * i) kinds (s .lists))
+        below : (i : ℕ) → i < rowCount s → Each (λ ps. Each (λ p. (0 ≤ p) × (p < (sheetEnd s))) ps) (part (K * i) K (s .lists))
         below i l =
-            each-imp (λ ps. Each (λ p. p < s .start + i) ps) (λ ps. Each (λ p. (0 ≤ p) × (p < (sheetEnd s))) ps) (parentsAt s i)
-            (λ ps h. each-imp (λ p. p < s .start + i) (λ p. (0 ≤ p) × (p < (sheetEnd s))) ps (λ p b. (omega arith, omega arith)) h) (row-good s t e i l .below)
+            each-imp (λ ps. Each (λ p. p < s .start + i) ps) (λ ps. Each (λ p. (0 ≤ p) × (p < (sheetEnd s))) ps) (parentsAt K s i)
+            (λ ps h. each-imp (λ p. p < s .start + i) (λ p. (0 ≤ p) × (p < (sheetEnd s))) ps (λ p b. (omega arith, omega arith)) h) (row-good K served s t e i l .below)
 
     -- so are all children
-    pub children-fit : Each (λ cs. Each (λ c. c < (sheetEnd s)) cs) (sectionChildren s g)
+    pub children-fit : Each (λ cs. Each (λ c. c < (sheetEnd s)) cs) (sectionChildren K s g)
     unfolding naming
     children-fit =
-        rw (children-section s t g)
-        (each-table (naming (s .start) (rowCount s) (s .lists)) (sectionFirst s g) (sectionRows s g) (λ cs. Each (λ c. c < (sheetEnd s)) cs)
-        (λ x k. each-filter (names s x k) (λ c. c < (sheetEnd s)) (upFrom (s .start) (rowCount s))
+        rw (children-section K served s t g)
+        (each-table K (naming K (s .start) (rowCount s) (s .lists)) (sectionFirst s g) (sectionRows s g) (λ cs. Each (λ c. c < (sheetEnd s)) cs)
+        (λ x k. each-filter (names K s x k) (λ c. c < (sheetEnd s)) (upFrom (s .start) (rowCount s))
         (each-imp (λ c. (s .start ≤ c) × (c < s .start + rowCount s)) (λ c. c < (sheetEnd s)) (upFrom (s .start) (rowCount s))
         (λ c w. omega (arith, w .1)) (each-upFrom (s .start) (rowCount s)))))
 
 -- ── sizes ────────────────────────────────────────────────────────────────────────────────────
 
-module _ (s : Sheet) (t : Tidy s) (g : ℕ) where
-  pub lists-length : length (sectionLists s g) ≡ kinds * sectionRows s g
-  lists-length =
-      length-part (kinds * sectionStart s g) (kinds * sectionRows s g) (s .lists) (omega (arith, all-lists s t, section-end s t g, section-within s t g))
+module _ (K : ℕ) (served : Served K) (s : Sheet) (t : Tidy K s) (g : ℕ) where
+  rows-within : sectionStart s g + sectionRows s g ≤ rowCount s
+  rows-within = omega (arith, section-end K served s t g, section-within K served s t g)
 
-  pub children-length : length (sectionChildren s g) ≡ kinds * sectionRows s g
+  pub lists-length : length (sectionLists K s g) ≡ K * sectionRows s g
+  lists-length =
+      length-part (K * sectionStart s g) (K * sectionRows s g) (s .lists) (omega (arith, all-lists K served s t, mul-le-mul-left K rows-within))
+
+  pub children-length : length (sectionChildren K s g) ≡ K * sectionRows s g
   children-length =
-      ap length (children-section s t g) ∙ length-table (naming (s .start) (rowCount s) (s .lists)) (sectionFirst s g) (sectionRows s g)
+      ap length (children-section K served s t g) ∙ length-table K (naming K (s .start) (rowCount s) (s .lists)) (sectionFirst s g) (sectionRows s g)
 
   -- the children below the group's end and those from it on are all
-  pub children-counted : slotRules (s .start) 0 (s .lists) ≡ none → s .start + rowCount s < end64
-      → length (joined (within 0 (sectionEnd s g) (sectionChildren s g))) + length (joined (within (sectionEnd s g) (sheetEnd s) (sectionChildren s g)))
-      ≡ length (joined (sectionChildren s g))
-  children-counted e r = counts-add (sectionEnd s g) (sheetEnd s) (sectionChildren s g) (children-fit s t g e r)
+  pub children-counted : slotRules K (s .start) 0 (s .lists) ≡ none → s .start + rowCount s < end64
+      → length (joined (within 0 (sectionEnd s g) (sectionChildren K s g))) + length (joined (within (sectionEnd s g) (sheetEnd s) (sectionChildren K s g)))
+      ≡ length (joined (sectionChildren K s g))
+  children-counted e r = counts-add K served (sectionEnd s g) (sheetEnd s) (sectionChildren K s g) (children-fit K served s t g e r)
 
   -- a group's children are some of all
-  pub children-fewer : length (joined (sectionChildren s g)) ≤ length (joined (childLists s))
+  pub children-fewer : length (joined (sectionChildren K s g)) ≤ length (joined (childLists K s))
   unfolding part childLists reverseLists
   children-fewer =
-      let all = slotTable (naming (s .start) (rowCount s) (s .lists)) (s .start) (rowCount s) in
-      let inside : kinds * sectionStart s g + kinds * sectionRows s g ≤ length all =
-      omega (arith, length-table (naming (s .start) (rowCount s) (s .lists)) (s .start) (rowCount s), section-end s t g, section-within s t g) in
-      rw (joined-part (kinds * sectionStart s g) (kinds * sectionRows s g) all inside) (simp (length-take, length-drop) (omega arith))
+      let all = slotTable K (naming K (s .start) (rowCount s) (s .lists)) (s .start) (rowCount s) in
+      let inside : K * sectionStart s g + K * sectionRows s g ≤ length all =
+      omega (arith, length-table K (naming K (s .start) (rowCount s) (s .lists)) (s .start) (rowCount s), mul-le-mul-left K rows-within) in
+      rw (joined-part (K * sectionStart s g) (K * sectionRows s g) all inside) (simp (length-take, length-drop) (omega arith))
 
 -- all children are no more than all parents
-pub children-few : (s : Sheet) → Tidy s → length (joined (childLists s)) ≤ length (joined (s .lists))
+pub children-few : (K : ℕ) (served : Served K) → (s : Sheet) → Tidy K s → length (joined (childLists K s)) ≤ length (joined (s .lists))
 unfolding childLists
-children-few s t =
-    let turned = reverseLists (s .start) (rowCount s) (s .lists) in
-    omega (arith, length-joined turned, length-joined (s .lists), reverse-entries (s .start) (rowCount s) (s .lists) (all-lists s t))
+children-few K served s t =
+    let turned = reverseLists K (s .start) (rowCount s) (s .lists) in
+    omega (arith, length-joined turned, length-joined (s .lists), reverse-entries K served (s .start) (rowCount s) (s .lists) (all-lists K served s t))
 
 -- ── the sets ─────────────────────────────────────────────────────────────────────────────────
 
-module _ (s : Sheet) (t : Tidy s) (g : ℕ) where
-  pub starts-section : granuleStart (sectionGraph s g) ≡ sectionFirst s g
+module _ (K : ℕ) (served : Served K) (s : Sheet) (t : Tidy K s) (g : ℕ) where
+  pub starts-section : granuleStart (sectionGraph K s g) ≡ sectionFirst s g
   unfolding sectionGraph
   starts-section = add-zero (sectionFirst s g)
 
-  pub section-forward : forwardPart (sectionGraph s g) ≡ sectionLists s g
+  pub section-forward : forwardPart K (sectionGraph K s g) ≡ sectionLists K s g
   unfolding forwardPart sectionGraph part
-  section-forward = rw (cut-joined (sectionLists s g)) (take-all (kinds * sectionRows s g) (sectionLists s g) (omega (arith, lists-length s t g)))
+  section-forward = rw (cut-joined (sectionLists K s g), mul-zero K) (take-all (K * sectionRows s g) (sectionLists K s g) (omega (arith, lists-length K served s t g)))
 
-  module _ (e : slotRules (s .start) 0 (s .lists) ≡ none) where
-    pub section-reverse : reversePart (sectionGraph s g) ≡ within 0 (sectionEnd s g) (sectionChildren s g)
+  module _ (e : slotRules K (s .start) 0 (s .lists) ≡ none) where
+    pub section-reverse : reversePart K (sectionGraph K s g) ≡ within 0 (sectionEnd s g) (sectionChildren K s g)
     unfolding reversePart sectionGraph part
     section-reverse =
-        rw (cut-joined (sectionLists s g), reverse-section s t g e)
-        (take-all (kinds * sectionRows s g) (within 0 (sectionEnd s g) (sectionChildren s g))
-        (omega (arith, length-within 0 (sectionEnd s g) (sectionChildren s g), children-length s t g)))
+        rw (cut-joined (sectionLists K s g), reverse-section K served s t g e, mul-zero K)
+        (take-all (K * sectionRows s g) (within 0 (sectionEnd s g) (sectionChildren K s g))
+        (omega (arith, length-within K served 0 (sectionEnd s g) (sectionChildren K s g), children-length K served s t g)))
 
     module _ (r : s .start + rowCount s < end64) where
-      pub section-inbound : inboundPart (sectionGraph s g) ≡ within (sectionEnd s g) (sheetEnd s) (sectionChildren s g)
+      pub section-inbound : inboundPart K (sectionGraph K s g) ≡ within (sectionEnd s g) (sheetEnd s) (sectionChildren K s g)
       unfolding inboundPart sectionGraph part
       section-inbound =
-          rw (inbound-section s t g e r)
-          (take-all (kinds * sectionRows s g) (within (sectionEnd s g) (sheetEnd s) (sectionChildren s g))
-          (omega (arith, length-within (sectionEnd s g) (sheetEnd s) (sectionChildren s g), children-length s t g)))
+          rw (inbound-section K served s t g e r, mul-zero K)
+          (take-all (K * sectionRows s g) (within (sectionEnd s g) (sheetEnd s) (sectionChildren K s g))
+          (omega (arith, length-within K served (sectionEnd s g) (sheetEnd s) (sectionChildren K s g), children-length K served s t g)))
 
-      pub section-built : builtOf (sectionGraph s g) ≡ record {
-        forward = setOf (sectionFirst s g) (within 0 (sheetEnd s) (sectionLists s g));
-        reverse = setOf (sectionFirst s g) (within 0 (sectionEnd s g) (sectionChildren s g));
-        inbound = setOf (sectionFirst s g) (within (sectionEnd s g) (sheetEnd s) (sectionChildren s g));
+      pub section-built : builtOf K (sectionGraph K s g) ≡ record {
+        forward = setOf K (sectionFirst s g) (within 0 (sheetEnd s) (sectionLists K s g));
+        reverse = setOf K (sectionFirst s g) (within 0 (sectionEnd s g) (sectionChildren K s g));
+        inbound = setOf K (sectionFirst s g) (within (sectionEnd s g) (sheetEnd s) (sectionChildren K s g));
       }
       unfolding builtOf
       section-built =
           let first = starts-section in
-          let forward = section-forward ∙ sym (lists-within s t g e r) in
-          λ i. record { forward = setOf (first i) (forward i); reverse = setOf (first i) (section-reverse i); inbound = setOf (first i) (section-inbound i) }
+          let forward = section-forward ∙ sym (lists-within K served s t g e r) in
+          λ i. record { forward = setOf K (first i) (forward i); reverse = setOf K (first i) (section-reverse i); inbound = setOf K (first i) (section-inbound i) }

@@ -9,6 +9,7 @@ use native.Mathlib.Omega.{arith}
 use lib.Dec.{eqb, ltb}
 use lib.ListN.{length}
 use borrow.Author.Tests.{eqb-true, eqb-false, lt-ltb, le-ltb, ltb-true, ltb-false}
+use Rattle.columns.specs.Limits.{Served}
 use Rattle.lists.specs.Lists.{flat, filter, joined, starts, mem, upFrom}
 use Rattle.lists.proofs.Tests.{tested}
 use Rattle.lists.proofs.Flat.{map-ext, flat-map}
@@ -35,35 +36,35 @@ cover-where : (b : Bool) (links : List Link) (rs : List Numbered) → coverOfGro
 cover-where true links rs = refl
 cover-where false links rs = refl
 
-module _ (s : Sheet) (t : Tidy s) (g : ℕ) where
-  pub edges-section : (first end : ℕ) → edgesOf (summaryOf s) g first end ≡ flat (rowEdges s first end) (otherRows s g)
+module _ (K : ℕ) (served : Served K) (s : Sheet) (t : Tidy K s) (g : ℕ) where
+  pub edges-section : (first end : ℕ) → edgesOf (summaryOf K s) g first end ≡ flat (rowEdges K s first end) (otherRows s g)
   unfolding edgesOf rowEdges
-  edges-section first end = rw (others-section s t g) (flat-map (λ r. edgesInto first end (r .number) 0 (r .row .parents)) (rowAt s) (otherRows s g))
+  edges-section first end = rw (others-section K served s t g) (flat-map (λ r. edgesInto first end (r .number) 0 (r .row .parents)) (rowAt K s) (otherRows s g))
 
   module _ (l : g < length (s .groups)) (some-row : 0 < sectionRows s g) where
-    end-section : firstNumber (rowsIn (summaryOf s) g) + length (rowsIn (summaryOf s) g) ≡ sectionEnd s g
-    end-section = omega (arith, first-section s t g some-row, count-section s t g, section-end s t g)
+    end-section : firstNumber (rowsIn (summaryOf K s) g) + length (rowsIn (summaryOf K s) g) ≡ sectionEnd s g
+    end-section = omega (arith, first-section K served s t g some-row, count-section K served s t g, section-end K served s t g)
 
-    pub graph-section : graphOf (summaryOf s) g ≡ sectionGraph s g
+    pub graph-section : graphOf (summaryOf K s) g ≡ sectionGraph K s g
     unfolding graphOf graphOfRows sectionGraph summaryOf
     graph-section =
-        let rs = rowsIn (summaryOf s) g in
-        let first = first-section s t g some-row in
-        let n = count-section s t g in
-        let lists = lists-section s t g in
-        let group = group-section s t g l in
-        let labels : labelsOfGroup ((groupAt (summaryOf s) g) .links) rs ≡ labelsWhere ((factsOf s g) .covered) (sectionLabels s g) =
+        let rs = rowsIn (summaryOf K s) g in
+        let first = first-section K served s t g some-row in
+        let n = count-section K served s t g in
+        let lists = lists-section K served s t g in
+        let group = group-section K served s t g l in
+        let labels : labelsOfGroup ((groupAt (summaryOf K s) g) .links) rs ≡ labelsWhere ((factsOf s g) .covered) (sectionLabels s g) =
         ap (λ x. labelsOfGroup (x .links) rs) group ∙ labels-where ((factsOf s g) .covered) (sectionLinks s g) rs
-        ∙ ap (labelsWhere ((factsOf s g) .covered)) (labels-section s t g) in
-        let edges : edgesOf (summaryOf s) g (firstNumber rs) (firstNumber rs + length rs) ≡ sectionEdges s g =
-        ap₂ (edgesOf (summaryOf s) g) first end-section ∙ edges-section (sectionFirst s g) (sectionEnd s g) in
+        ∙ ap (labelsWhere ((factsOf s g) .covered)) (labels-section K served s t g) in
+        let edges : edgesOf (summaryOf K s) g (firstNumber rs) (firstNumber rs + length rs) ≡ sectionEdges K s g =
+        ap₂ (edgesOf (summaryOf K s) g) first end-section ∙ edges-section (sectionFirst s g) (sectionEnd s g) in
         λ k. record {
           subject = s .subject;
           first = first k;
           rows = n k;
           offsets = starts 0 (lists k);
           targets = joined (lists k);
-          unresolved = unresolvedColumns (unresolved-section s t g k);
+          unresolved = unresolvedColumns (unresolved-section K served s t g k);
           depth = (group k) .depth;
           labels = labels k;
           inbound = inboundColumns (edges k);
@@ -71,18 +72,18 @@ module _ (s : Sheet) (t : Tidy s) (g : ℕ) where
           granuleRows = n k;
         }
 
-    pub file-section : outputOf (summaryOf s) g ≡ sectionFile s g
+    pub file-section : outputOf K (summaryOf K s) g ≡ sectionFile K s g
     unfolding outputOf sectionFile summaryOf
     file-section =
-        let rs = rowsIn (summaryOf s) g in
-        let group = group-section s t g l in
-        let b = ap builtOf graph-section in
-        let rows = sym (map-map unerasedRow (λ r. r .row .body .tag) rs) ∙ ap (map unerasedRow) (tags-section s t g) in
-        let cover : coverOfGroup ((groupAt (summaryOf s) g) .links) rs ≡ coverWhere ((factsOf s g) .covered) (sectionLabels s g) (sectionLinks s g) =
+        let rs = rowsIn (summaryOf K s) g in
+        let group = group-section K served s t g l in
+        let b = ap (builtOf K) graph-section in
+        let rows = sym (map-map unerasedRow (λ r. r .row .body .tag) rs) ∙ ap (map unerasedRow) (tags-section K served s t g) in
+        let cover : coverOfGroup ((groupAt (summaryOf K s) g) .links) rs ≡ coverWhere ((factsOf s g) .covered) (sectionLabels s g) (sectionLinks s g) =
         ap (λ x. coverOfGroup (x .links) rs) group ∙ cover-where ((factsOf s g) .covered) (sectionLinks s g) rs
-        ∙ ap (λ ls. coverWhere ((factsOf s g) .covered) ls (sectionLinks s g)) (labels-section s t g) in
+        ∙ ap (λ ls. coverWhere ((factsOf s g) .covered) ls (sectionLinks s g)) (labels-section K served s t g) in
         λ k. record {
-          first = first-section s t g some-row k;
+          first = first-section K served s t g some-row k;
           group = g;
           subject = s .subject;
           depth = (group k) .depth;
@@ -90,8 +91,8 @@ module _ (s : Sheet) (t : Tidy s) (g : ℕ) where
           reverse = (b k) .reverse;
           inbound = (b k) .inbound;
           rows = rows k;
-          unresolved = unresolved-section s t g k;
-          roots = roots-section s t g k;
+          unresolved = unresolved-section K served s t g k;
+          roots = roots-section K served s t g k;
           cover = cover k;
         }
 
@@ -132,27 +133,27 @@ unfolding groupsFrom
 groups-length ls g [] = refl
 groups-length ls g (f ∷ fs) = ap suc (groups-length ls (1 + g) fs)
 
-module _ (s : Sheet) (t : Tidy s) (f : Filled s) where
-  numbers-sections : groupNumbers (summaryOf s) ≡ upFrom 0 (length (s .groups))
+module _ (K : ℕ) (served : Served K) (s : Sheet) (t : Tidy K s) (f : Filled s) where
+  numbers-sections : groupNumbers (summaryOf K s) ≡ upFrom 0 (length (s .groups))
   unfolding summaryOf groupsOfSheet
   numbers-sections = ap (upFrom 0) (groups-length (s .links) 0 (s .groups))
 
-  pub rules-sections : writeRules (summaryOf s) ≡ sectionRules s
+  pub rules-sections : writeRules K (summaryOf K s) ≡ sectionRules K s
   unfolding writeRules sectionRules
   rules-sections =
       rw numbers-sections
-      (first-ext (λ g. buildRules (graphOf (summaryOf s) g)) (λ g. buildRules (sectionGraph s g)) (upFrom 0 (length (s .groups)))
-      (each-below _ (length (s .groups)) (λ g l. ap buildRules (graph-section s t g l (filled-section s f g l)))))
+      (first-ext (λ g. buildRules K (graphOf (summaryOf K s) g)) (λ g. buildRules K (sectionGraph K s g)) (upFrom 0 (length (s .groups)))
+      (each-below _ (length (s .groups)) (λ g l. ap (buildRules K) (graph-section K served s t g l (filled-section s f g l)))))
 
-  pub bytes-sections : bytesOf (summaryOf s) ≡ sectionBytes s
+  pub bytes-sections : bytesOf K (summaryOf K s) ≡ sectionBytes K s
   unfolding bytesOf outputs sectionBytes
   bytes-sections =
       rw numbers-sections
       (ap encode
-      (map-ext (outputOf (summaryOf s)) (sectionFile s) (upFrom 0 (length (s .groups)))
-      (each-below _ (length (s .groups)) (λ g l. file-section s t g l (filled-section s f g l)))))
+      (map-ext (outputOf K (summaryOf K s)) (sectionFile K s) (upFrom 0 (length (s .groups)))
+      (each-below _ (length (s .groups)) (λ g l. file-section K served s t g l (filled-section s f g l)))))
 
   -- what writing answers but for the room that it is lent
-  pub written-sections : written (summaryOf s) ≡ unless (sectionRules s) (sectionBytes s)
+  pub written-sections : written K (summaryOf K s) ≡ unless (sectionRules K s) (sectionBytes K s)
   unfolding written
   written-sections = ap₂ unless rules-sections bytes-sections

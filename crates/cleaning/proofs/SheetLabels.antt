@@ -8,6 +8,7 @@ use native.Mathlib.Omega.{arith}
 use native.Mathlib.Nat.{not-suc-le-zero, le-of-suc-le-suc}
 use lib.ListN.{length, getD, length-map}
 use borrow.Author.Tests.{eqb-true}
+use Rattle.columns.specs.Limits.{Served}
 use Rattle.lists.specs.Lists.{flat, part, upFrom, Each}
 use Rattle.lists.proofs.Tests.{both}
 use Rattle.lists.proofs.Each.{each-imp, each-map}
@@ -42,7 +43,7 @@ none-there [] h = refl
 none-there (none ∷ ls) h = none-there ls (h .1)
 none-there (some l ∷ ls) h = absurd (false≢true (sym (h .0)))
 
-module _ (s : Sheet) (t : Tidy s) (g : ℕ) where
+module _ (K : ℕ) (served : Served K) (s : Sheet) (t : Tidy K s) (g : ℕ) where
   all-labels : length (s .labels) ≡ rowCount s
   all-labels = eqb-true (length (s .labels)) (rowCount s) (t .eachLabel)
 
@@ -51,13 +52,13 @@ module _ (s : Sheet) (t : Tidy s) (g : ℕ) where
       let a = sectionStart s g in
       let n = sectionRows s g in
       let P : Option Label → Type 0 = λ l. isThere l ≡ (factsOf s g) .covered in
-      rw (← map-part (s .labels) none a n (omega (arith, all-labels, section-end s t g, section-within s t g)))
+      rw (← map-part (s .labels) none a n (omega (arith, all-labels, section-end K served s t g, section-within K served s t g)))
       (each-map P (λ i. getD (s .labels) i none) (upFrom a n)
       (each-imp (λ i. (a ≤ i) × (i < a + n)) (λ i. P (getD (s .labels) i none)) (upFrom a n)
-      (λ i w. let m : i < sectionStart s (suc g) = omega (arith, section-end s t g, w .1) in
+      (λ i w. let m : i < sectionStart s (suc g) = omega (arith, section-end K served s t g, w .1) in
       fit-at (s .groups) (s .rowGroups) (s .labels) i (t .labelled)
-      (omega (arith, section-within s t g, eqb-true (length (s .rowGroups)) (rowCount s) (t .eachGroup)))
-      ∙ ap (λ k. (factsOf s k) .covered) (group-row s t g i (w .0) m)) (each-upFrom a n)))
+      (omega (arith, section-within K served s t g, eqb-true (length (s .rowGroups)) (rowCount s) (t .eachGroup)))
+      ∙ ap (λ k. (factsOf s k) .covered) (group-row K served s t g i (w .0) m)) (each-upFrom a n)))
 
   pub labels-covered : (factsOf s g) .covered ≡ true → map some (sectionLabels s g) ≡ part (sectionStart s g) (sectionRows s g) (s .labels)
   labels-covered e =
@@ -73,4 +74,4 @@ module _ (s : Sheet) (t : Tidy s) (g : ℕ) where
   pub labels-count : (factsOf s g) .covered ≡ true → length (sectionLabels s g) ≡ sectionRows s g
   labels-count e =
       sym (length-map (sectionLabels s g) some) ∙ ap length (labels-covered e)
-      ∙ length-part (sectionStart s g) (sectionRows s g) (s .labels) (omega (arith, all-labels, section-end s t g, section-within s t g))
+      ∙ length-part (sectionStart s g) (sectionRows s g) (s .labels) (omega (arith, all-labels, section-end K served s t g, section-within K served s t g))

@@ -3,7 +3,8 @@ use mathlib.Core.Path.{_≡_, refl, ap, subst, _∙_}
 use mathlib.Core.Bool.{true, false, or-true}
 use mathlib.Core.List.{List, [], _∷_, map}
 use mathlib.Core.Option.{none}
-use Prim.Native.Nat.{ℕ, zero, suc, _+_, _-_, _*_, _≤_, _<_}
+use Prim.Native.Nat.{ℕ, zero, suc, _+_, _-_, _*_, _≤_, _<_, _/_}
+use native.Mathlib.Nat.{mul-le-mul-left, div-eq-of-lt-le}
 use native.Mathlib.Omega.{arith}
 use lib.Dec.{leb, eqb}
 use lib.ListN.{length, getD, take, drop}
@@ -15,7 +16,7 @@ use Rattle.lists.proofs.Each.{each-imp, each-map, each-getD}
 use Rattle.lists.proofs.Pairs.{each-upFrom}
 use Rattle.lists.proofs.Flat.{flat-map}
 use Rattle.lists.proofs.From.{EachFrom, from-eq}
-use Rattle.columns.specs.Limits.{kinds}
+use Rattle.columns.specs.Limits.{Served}
 use Rattle.columns.specs.Refusal.{refuse}
 use Rattle.columns.specs.EdgeSet.{eventOf}
 use Rattle.columns.specs.Questions.{listOf}
@@ -61,12 +62,12 @@ module _ (event : ℕ) where
       let r = parents-earlier (p ∷ seen) ps (k .2) in
       ((k .0, r .0), rw (unseen p (p ∷ seen) ps (k .2) (rw (eq-eqb p p refl))) (r .1))
 
-slots-earlier : (first slot : ℕ) (lists : List (List ℕ)) → slotRules first slot lists ≡ none → EachFrom (λ i. Earlier (eventOf first i)) slot lists
+slots-earlier : (K : ℕ) (served : Served K) → (first slot : ℕ) (lists : List (List ℕ)) → slotRules K first slot lists ≡ none → EachFrom (λ i. Earlier (eventOf K first i)) slot lists
 unfolding slotRules
-slots-earlier first slot [] e = tt
-slots-earlier first slot (ps ∷ lists) e =
-    let h = each-none (parentRules (eventOf first slot) [] ps ∷ slotRules first (suc slot) lists ∷ []) e in
-    (parents-earlier (eventOf first slot) [] ps (h .0), slots-earlier first (suc slot) lists (h .1 .0))
+slots-earlier K served first slot [] e = tt
+slots-earlier K served first slot (ps ∷ lists) e =
+    let h = each-none (parentRules (eventOf K first slot) [] ps ∷ slotRules K first (suc slot) lists ∷ []) e in
+    (parents-earlier (eventOf K first slot) [] ps (h .0), slots-earlier K served first (suc slot) lists (h .1 .0))
 
 -- ── a part of a list and its numbers ─────────────────────────────────────────────────────────
 
@@ -89,63 +90,63 @@ module _ {A : Type 0} (P : ℕ → A → Type 0) where
 
 -- ── rows ─────────────────────────────────────────────────────────────────────────────────────
 
-module _ (s : Sheet) (t : Tidy s) where
-  pub all-lists : length (s .lists) ≡ kinds * rowCount s
-  all-lists = eqb-true (length (s .lists)) (kinds * rowCount s) (t .eachList)
+module _ (K : ℕ) (served : Served K) (s : Sheet) (t : Tidy K s) where
+  pub all-lists : length (s .lists) ≡ K * rowCount s
+  all-lists = eqb-true (length (s .lists)) (K * rowCount s) (t .eachList)
 
-  pub row-list : (i k : ℕ) → k < kinds → getD (parentsAt s i) k [] ≡ listOf (s .start) (s .lists) k (s .start + i)
+  pub row-list : (i k : ℕ) → k < K → getD (parentsAt K s i) k [] ≡ listOf K (s .start) (s .lists) k (s .start + i)
   unfolding parentsAt part listOf
   row-list i k l =
       let e : s .start + i - s .start ≡ i = omega arith in
-      rw (le-ltb (s .start + i) (s .start) (omega arith), e, getD-take kinds (drop (kinds * i) (s .lists)) k [] l, getD-drop (kinds * i) (s .lists) k [])
+      rw (le-ltb (s .start + i) (s .start) (omega arith), e, getD-take K (drop (K * i) (s .lists)) k [] l, getD-drop (K * i) (s .lists) k [])
 
   -- a sheet whose rows have good lists keeps 4 and 5
-  pub rows-slots : RowsFrom (s .start) ((summaryOf s) .rows) → slotRules (s .start) 0 (s .lists) ≡ none
+  pub rows-slots : RowsFrom K (s .start) ((summaryOf K s) .rows) → slotRules K (s .start) 0 (s .lists) ≡ none
   unfolding slotsOfRows parentsAt numbered summaryOf
   rows-slots h =
-      let slots : slotsOfRows (numbered (summaryOf s)) ≡ s .lists =
-      ap (flat (λ r. r .row .parents)) (numbered-sheet s) ∙ flat-map (λ r. r .row .parents) (rowAt s) (upFrom 0 (rowCount s))
-      ∙ parts-all kinds (rowCount s) (s .lists) all-lists in
-      subst (λ ls. slotRules (s .start) 0 ls ≡ none) slots
-      (row-slots-none (s .start) (numbered (summaryOf s)) (numbered-counted (s .start) ((summaryOf s) .rows)) (lists-numbered (s .start) ((summaryOf s) .rows) h))
+      let slots : slotsOfRows (numbered (summaryOf K s)) ≡ s .lists =
+      ap (flat (λ r. r .row .parents)) (numbered-sheet K served s) ∙ flat-map (λ r. r .row .parents) (rowAt K s) (upFrom 0 (rowCount s))
+      ∙ parts-all K (rowCount s) (s .lists) all-lists in
+      subst (λ ls. slotRules K (s .start) 0 ls ≡ none) slots
+      (row-slots-none K served (s .start) (numbered (summaryOf K s)) (numbered-counted (s .start) ((summaryOf K s) .rows)) (lists-numbered K served (s .start) ((summaryOf K s) .rows) h))
 
-  module _ (e : slotRules (s .start) 0 (s .lists) ≡ none) where
-    pub row-good : (i : ℕ) → i < rowCount s → GoodLists (s .start + i) (parentsAt s i)
+  module _ (e : slotRules K (s .start) 0 (s .lists) ≡ none) where
+    pub row-good : (i : ℕ) → i < rowCount s → GoodLists K (s .start + i) (parentsAt K s i)
     unfolding parentsAt part
     row-good i l =
-        let wide : length (part (kinds * i) kinds (s .lists)) ≡ kinds = length-part (kinds * i) kinds (s .lists) (omega (arith, all-lists)) in
-        let each : Each (Earlier (s .start + i)) (part (kinds * i) kinds (s .lists)) =
-        each-from (λ j. Earlier (eventOf (s .start) j)) (Earlier (s .start + i)) (kinds * i + kinds) (0 + kinds * i) (part (kinds * i) kinds (s .lists))
-        (λ j ps a b h. subst (λ n. Earlier n ps) {x = eventOf (s .start) j} {y = s .start + i} (omega arith) h) (omega (arith, wide))
-        (from-take (λ j. Earlier (eventOf (s .start) j)) kinds (0 + kinds * i) (drop (kinds * i) (s .lists))
-        (from-drop (λ j. Earlier (eventOf (s .start) j)) (kinds * i) 0 (s .lists) (slots-earlier (s .start) 0 (s .lists) e))) in
+        let wide : length (part (K * i) K (s .lists)) ≡ K = length-part (K * i) K (s .lists) (omega (arith, all-lists, mul-le-mul-left K l)) in
+        let each : Each (Earlier (s .start + i)) (part (K * i) K (s .lists)) =
+        each-from (λ j. Earlier (eventOf K (s .start) j)) (Earlier (s .start + i)) (K * i + K) (0 + K * i) (part (K * i) K (s .lists))
+        (λ j ps a b h. subst (λ n. Earlier n ps) {x = eventOf K (s .start) j} {y = s .start + i} (let row : j / K ≡ i = div-eq-of-lt-le K (omega arith) (omega arith) in rw row) h) (omega (arith, wide))
+        (from-take (λ j. Earlier (eventOf K (s .start) j)) K (0 + K * i) (drop (K * i) (s .lists))
+        (from-drop (λ j. Earlier (eventOf K (s .start) j)) (K * i) 0 (s .lists) (slots-earlier K served (s .start) 0 (s .lists) e))) in
         record {
           each-kind = wide;
-          once = each-imp (Earlier (s .start + i)) (λ ps. distinct ps ≡ true) (part (kinds * i) kinds (s .lists)) (λ ps h. h .1) each;
-          below = each-imp (Earlier (s .start + i)) (λ ps. Each (λ p. p < s .start + i) ps) (part (kinds * i) kinds (s .lists)) (λ ps h. h .0) each;
+          once = each-imp (Earlier (s .start + i)) (λ ps. distinct ps ≡ true) (part (K * i) K (s .lists)) (λ ps h. h .1) each;
+          below = each-imp (Earlier (s .start + i)) (λ ps. Each (λ p. p < s .start + i) ps) (part (K * i) K (s .lists)) (λ ps h. h .0) each;
         }
 
     -- the parents of a number are below it
-    pub list-below : (n k : ℕ) → s .start ≤ n → n < s .start + rowCount s → k < kinds → Each (λ p. p < n) (listOf (s .start) (s .lists) k n)
+    pub list-below : (n k : ℕ) → s .start ≤ n → n < s .start + rowCount s → k < K → Each (λ p. p < n) (listOf K (s .start) (s .lists) k n)
     list-below n k a b l =
         let i = n - s .start in
         let q : s .start + i ≡ n = omega arith in
         let g = row-good i (omega arith) in
-        rw q at (rw (row-list i k l) at (each-getD (λ ps. Each (λ p. p < s .start + i) ps) (parentsAt s i) k [] (g .below) (omega (arith, g .each-kind))))
+        rw q at (rw (row-list i k l) at (each-getD (λ ps. Each (λ p. p < s .start + i) ps) (parentsAt K s i) k [] (g .below) (omega (arith, g .each-kind))))
 
     -- ── a group's ──────────────────────────────────────────────────────────────────────────────
 
-    rows-counted : (i n : ℕ) → Counted (s .start + i) (map (rowAt s) (upFrom i n))
+    rows-counted : (i n : ℕ) → Counted (s .start + i) (map (rowAt K s) (upFrom i n))
     unfolding upFrom
     rows-counted i zero = tt
     rows-counted i (suc n) = let q : suc (s .start + i) ≡ s .start + suc i = omega arith in (refl, rw q (rows-counted (suc i) n))
 
-    pub section-slots : (g : ℕ) → slotRules (sectionFirst s g) 0 (sectionLists s g) ≡ none
+    pub section-slots : (g : ℕ) → slotRules K (sectionFirst s g) 0 (sectionLists K s g) ≡ none
     section-slots g =
         let a = sectionStart s g in
         let n = sectionRows s g in
-        rw (← lists-section s t g, rows-section s t g)
-        (row-slots-none (sectionFirst s g) (map (rowAt s) (upFrom a n)) (rows-counted a n)
-        (each-map (λ r. GoodLists (r .number) (r .row .parents)) (rowAt s) (upFrom a n)
-        (each-imp (λ i. (a ≤ i) × (i < a + n)) (λ i. GoodLists (s .start + i) (parentsAt s i)) (upFrom a n)
-        (λ i w. row-good i (omega (arith, w .1, section-end s t g, section-within s t g))) (each-upFrom a n))))
+        rw (← lists-section K served s t g, rows-section K served s t g)
+        (row-slots-none K served (sectionFirst s g) (map (rowAt K s) (upFrom a n)) (rows-counted a n)
+        (each-map (λ r. GoodLists K (r .number) (r .row .parents)) (rowAt K s) (upFrom a n)
+        (each-imp (λ i. (a ≤ i) × (i < a + n)) (λ i. GoodLists K (s .start + i) (parentsAt K s i)) (upFrom a n)
+        (λ i w. row-good i (omega (arith, w .1, section-end K served s t g, section-within K served s t g))) (each-upFrom a n))))

@@ -10,6 +10,7 @@ use native.Mathlib.Nat.{not-suc-le-zero, le-of-suc-le-suc, zero-add, add-zero}
 use lib.Dec.{eqb, ltb}
 use lib.ListN.{length, getD}
 use borrow.Author.Tests.{eqb-true, ne-eqb, ltb-true}
+use Rattle.columns.specs.Limits.{Served}
 use Rattle.lists.specs.Lists.{flat, filter, upFrom}
 use Rattle.lists.specs.Order.{risesAbove, rising}
 use Rattle.lists.proofs.Tests.{tested, both}
@@ -38,20 +39,20 @@ own-records n (u ∷ us) = elim (tested (eqb (u .child) n)) [
   | inr e ↦ rw e (own-records n us)
 ]
 
-module _ (s : Sheet) (t : Tidy s) (g : ℕ) where
-  pub unresolved-section : flat unresolvedOf (rowsIn (summaryOf s) g) ≡ sectionUnresolved s g
+module _ (K : ℕ) (served : Served K) (s : Sheet) (t : Tidy K s) (g : ℕ) where
+  pub unresolved-section : flat unresolvedOf (rowsIn (summaryOf K s) g) ≡ sectionUnresolved s g
   unfolding unresolvedOf bodyAt
   unresolved-section =
       let a = sectionStart s g in
       let n = sectionRows s g in
-      let f : ℕ → List Unresolved = λ i. unresolvedOf (rowAt s i) in
+      let f : ℕ → List Unresolved = λ i. unresolvedOf (rowAt K s i) in
       let c : ℕ → List Unresolved = λ i. between (λ u. u .child) (s .start + i) (suc (s .start + i)) (s .unresolved) in
-      ap (flat unresolvedOf) (rows-section s t g) ∙ flat-map unresolvedOf (rowAt s) (upFrom a n)
+      ap (flat unresolvedOf) (rows-section K served s t g) ∙ flat-map unresolvedOf (rowAt K s) (upFrom a n)
       ∙ flat-ext f c (upFrom a n)
       (each-all (λ i. f i ≡ c i)
       (λ i. own-records (s .start + i) (s .unresolved) ∙ range-one (λ u. u .child) (s .start + i) (s .unresolved) (t .childOrder)) (upFrom a n))
       ∙ ranges-follow (λ u. u .child) (s .start) (s .unresolved) a n
-      ∙ ap (λ b. between (λ u. u .child) (sectionFirst s g) (s .start + b) (s .unresolved)) (section-end s t g)
+      ∙ ap (λ b. between (λ u. u .child) (sectionFirst s g) (s .start + b) (s .unresolved)) (section-end K served s t g)
 
 -- ── state roots ──────────────────────────────────────────────────────────────────────────────
 
@@ -79,24 +80,24 @@ own-root a i (r ∷ rs) h = elim (tested (eqb (r .row) i)) [
   | inr e ↦ rw e (own-root a i rs (rises-rising (r .row) (map (λ r. r .row) rs) h))
 ]
 
-roots-places : (s : Sheet) (a j n : ℕ) → rootsFrom j (map (rowAt s) (upFrom (a + j) n)) ≡ flat (λ i. rootOf (i - a) (rootIn (s .roots) i)) (upFrom (a + j) n)
+roots-places : (K : ℕ) (served : Served K) → (s : Sheet) (a j n : ℕ) → rootsFrom j (map (rowAt K s) (upFrom (a + j) n)) ≡ flat (λ i. rootOf (i - a) (rootIn (s .roots) i)) (upFrom (a + j) n)
 unfolding rootsFrom upFrom bodyAt
-roots-places s a j zero = refl
-roots-places s a j (suc n) =
+roots-places K served s a j zero = refl
+roots-places K served s a j (suc n) =
     let e : suc (a + j) ≡ a + suc j = omega arith in
     let d : a + j - a ≡ j = omega arith in
-    rw (e, d) (ap (λ rs. rootOf j (rootIn (s .roots) (a + j)) ++ rs) (roots-places s a (suc j) n))
+    rw (e, d) (ap (λ rs. rootOf j (rootIn (s .roots) (a + j)) ++ rs) (roots-places K served s a (suc j) n))
 
-module _ (s : Sheet) (t : Tidy s) (g : ℕ) where
-  pub roots-section : rootsFrom 0 (rowsIn (summaryOf s) g) ≡ sectionRoots s g
+module _ (K : ℕ) (served : Served K) (s : Sheet) (t : Tidy K s) (g : ℕ) where
+  pub roots-section : rootsFrom 0 (rowsIn (summaryOf K s) g) ≡ sectionRoots s g
   roots-section =
       let a = sectionStart s g in
       let n = sectionRows s g in
       let f : ℕ → List Root = λ i. rootOf (i - a) (rootIn (s .roots) i) in
       let c : ℕ → List Root = λ i. between (λ r. r .row) (0 + i) (suc (0 + i)) (s .roots) in
-      ap (rootsFrom 0) (rows-section s t g)
-      ∙ ap (λ i. rootsFrom 0 (map (rowAt s) (upFrom i n))) (sym (add-zero a))
-      ∙ roots-places s a 0 n
+      ap (rootsFrom 0) (rows-section K served s t g)
+      ∙ ap (λ i. rootsFrom 0 (map (rowAt K s) (upFrom i n))) (sym (add-zero a))
+      ∙ roots-places K served s a 0 n
       ∙ ap (λ i. flat f (upFrom i n)) (add-zero a)
       ∙ flat-ext f (λ i. map (lessBy a) (c i)) (upFrom a n)
       (each-all (λ i. f i ≡ map (lessBy a) (c i))
@@ -105,7 +106,7 @@ module _ (s : Sheet) (t : Tidy s) (g : ℕ) where
       ∙ ap (λ k. between (λ r. r .row) k (suc k) (s .roots)) (sym (zero-add i)))) (upFrom a n))
       ∙ sym (map-flat (lessBy a) c (upFrom a n))
       ∙ ap (map (lessBy a)) (ranges-follow (λ r. r .row) 0 (s .roots) a n
-      ∙ ap₂ (λ i j. between (λ r. r .row) i j (s .roots)) (zero-add a) (zero-add (a + n) ∙ section-end s t g))
+      ∙ ap₂ (λ i j. between (λ r. r .row) i j (s .roots)) (zero-add a) (zero-add (a + n) ∙ section-end K served s t g))
 
 -- ── groups ───────────────────────────────────────────────────────────────────────────────────
 
@@ -117,8 +118,8 @@ group-from ls i j [] l = absurd (not-suc-le-zero l)
 group-from ls i zero (f ∷ fs) l = rw (add-zero i)
 group-from ls i (suc j) (f ∷ fs) l = let e : i + suc j ≡ 1 + i + j = omega arith in rw e (group-from ls (1 + i) j fs (le-of-suc-le-suc l))
 
-module _ (s : Sheet) (t : Tidy s) (g : ℕ) (l : g < length (s .groups)) where
-  pub group-section : groupAt (summaryOf s) g ≡ record { depth = (factsOf s g) .depth; links = cond ((factsOf s g) .covered) (some (sectionLinks s g)) none }
+module _ (K : ℕ) (served : Served K) (s : Sheet) (t : Tidy K s) (g : ℕ) (l : g < length (s .groups)) where
+  pub group-section : groupAt (summaryOf K s) g ≡ record { depth = (factsOf s g) .depth; links = cond ((factsOf s g) .covered) (some (sectionLinks s g)) none }
   unfolding summaryOf groupsOfSheet linksOf
   group-section =
       group-from (s .links) 0 g (s .groups) l

@@ -5,7 +5,7 @@ use mathlib.Core.Bool.{Bool, true, false, cond, not, _&&_}
 use mathlib.Core.List.{List, [], _∷_, _++_, map, foldl}
 use Prim.Native.Nat.{ℕ, zero, suc, _+_, _-_, _*_, _/_, _%_, _≤_, _<_}
 use native.Mathlib.Omega.{arith}
-use native.Mathlib.Nat.{not-suc-le-zero, le-of-suc-le-suc, zero-add, add-zero, mod-lt, mod-eq-of-lt, div-eq-of-lt, div-add-mod, mul-add-mod-self-left, mul-add-div}
+use native.Mathlib.Nat.{not-suc-le-zero, le-of-suc-le-suc, zero-add, add-zero, add-suc, suc-add, mul-zero, mul-le-mul-left}
 use lib.Dec.{ltb, eqb}
 use lib.ListN.{length, getD, take, drop, length-map, length-append, List·getD-map}
 use lib.Seq.{take-suc, take-length, take-at, drop-append-add, getD-take, getD-drop, getD-at}
@@ -13,7 +13,7 @@ use borrow.Author.Tests.{ltb-false}
 use Rattle.lists.specs.Lists.{flat, joined, part, upFrom, any, filter, sum, add, Each}
 use Rattle.lists.proofs.Each.{each-imp, each-all}
 use Rattle.lists.proofs.Flat.{length-map-upFrom, getD-map-upFrom, map-upFrom-snoc, upFrom-append, upFrom-snoc, sum-append, length-joined}
-use Rattle.columns.specs.Limits.{kinds}
+use Rattle.columns.specs.Limits.{Served}
 use Rattle.run_renumber.specs.Numbers.{takes, numbersFrom, survivors}
 use Rattle.run_renumber.specs.NewLists.{newList, newListsFrom, newLists}
 use Rattle.run_renumber.specs.NewLists
@@ -26,7 +26,9 @@ use Rattle.cleaning.specs.Cleaning
 use Rattle.cleaning.specs.Memo.{addParent, memo, tables}
 use Rattle.cleaning.specs.Resolving.{entries}
 use Rattle.cleaning.proofs.Inj.{renumber-past}
-use Rattle.lists.proofs.Sums.{sum-map, sum-ext}
+use Rattle.lists.proofs.Sums.{sum-map, sum-ext, sum-both}
+use Rattle.lists.proofs.Counting.{sum-zero}
+use Rattle.lists.proofs.Slots.{slot-row, slot-kind, slot-parts, slot-under, row-under, kind-under}
 use Rattle.cleaning.proofs.Table.{listOf, lists, memo-right}
 
 -- whether a flag says that its event is erased
@@ -81,76 +83,89 @@ survivors-say (x ∷ es) (f ∷ fs) e =
 
 -- ── slots ────────────────────────────────────────────────────────────────────────────────────
 
-pub slots-length : (es : List Event) → Each (λ e. length (e .parents) ≡ kinds) es → length (flat listsOf es) ≡ kinds * length es
-slots-length [] w = refl
-slots-length (x ∷ es) w = omega (arith, length-append (x .parents) (flat listsOf es), w .0, slots-length es (w .1))
+pub slots-length : (K : ℕ) (served : Served K) → (es : List Event) → Each (λ e. length (e .parents) ≡ K) es → length (flat listsOf es) ≡ K * length es
+slots-length K served [] w = sym (mul-zero K)
+slots-length K served (x ∷ es) w = omega (arith, length-append (x .parents) (flat listsOf es), w .0, slots-length K served es (w .1))
 
 -- the slots of an event are its lists
-pub event-slots : (es : List Event) (i : ℕ) → Each (λ e. length (e .parents) ≡ kinds) es → i < length es
-    → part (kinds * i) kinds (flat listsOf es) ≡ (getD es i blank) .parents
+pub event-slots : (K : ℕ) (served : Served K) → (es : List Event) (i : ℕ) → Each (λ e. length (e .parents) ≡ K) es → i < length es
+    → part (K * i) K (flat listsOf es) ≡ (getD es i blank) .parents
 unfolding part
-event-slots [] i w h = absurd (not-suc-le-zero h)
-event-slots (x ∷ es) zero w h = take-at (x .parents) (flat listsOf es) kinds (w .0)
-event-slots (x ∷ es) (suc i) w h =
-    let e : kinds * suc i ≡ length (x .parents) + kinds * i = omega (arith, w .0) in
-    rw (e, drop-append-add (x .parents) (flat listsOf es) (kinds * i)) (event-slots es i (w .1) (le-of-suc-le-suc h))
+event-slots K served [] i w h = absurd (not-suc-le-zero h)
+event-slots K served (x ∷ es) zero w h = rw (mul-zero K) (take-at (x .parents) (flat listsOf es) K (w .0))
+event-slots K served (x ∷ es) (suc i) w h =
+    let e : K * suc i ≡ length (x .parents) + K * i = omega (arith, w .0) in
+    rw (e, drop-append-add (x .parents) (flat listsOf es) (K * i)) (event-slots K served es i (w .1) (le-of-suc-le-suc h))
 
-slot-says : (es : List Event) (i k : ℕ) → Each (λ e. length (e .parents) ≡ kinds) es → i < length es → k < kinds
-    → getD (flat listsOf es) (kinds * i + k) [] ≡ getD ((getD es i blank) .parents) k []
+slot-says : (K : ℕ) (served : Served K) → (es : List Event) (i k : ℕ) → Each (λ e. length (e .parents) ≡ K) es → i < length es → k < K
+    → getD (flat listsOf es) (K * i + k) [] ≡ getD ((getD es i blank) .parents) k []
 unfolding part
-slot-says es i k w h l =
-    sym (getD-drop (kinds * i) (flat listsOf es) k []) ∙ sym (getD-take kinds (drop (kinds * i) (flat listsOf es)) k [] l)
-    ∙ ap (λ (ls : List (List ℕ)). getD ls k []) (event-slots es i w h)
+slot-says K served es i k w h l =
+    sym (getD-drop (K * i) (flat listsOf es) k []) ∙ sym (getD-take K (drop (K * i) (flat listsOf es)) k [] l)
+    ∙ ap (λ (ls : List (List ℕ)). getD ls k []) (event-slots K served es i w h)
 
 -- ── the archive's columns ────────────────────────────────────────────────────────────────────
 
-pub record Columns (A : Archive) (flags : List ℕ) (slots : List (List ℕ)) : Type 0 where
+pub record Columns (K : ℕ) (A : Archive) (flags : List ℕ) (slots : List (List ℕ)) : Type 0 where
   pub erased : map erasedOf (A .events) ≡ map flagged flags
-  pub wide : Each (λ e. length (e .parents) ≡ kinds) (A .events)
+  pub wide : Each (λ e. length (e .parents) ≡ K) (A .events)
   pub lists : flat listsOf (A .events) ≡ slots
 
 -- the new list of a slot
-abbrev pub slotList : Archive → ℕ → List ℕ
-slotList A s = listOf A (s % kinds) (s / kinds)
+abbrev pub slotList : (K : ℕ) → Archive → ℕ → List ℕ
+slotList K A s = listOf A (s % K) (s / K)
 
-pub slot-list : (A : Archive) (j k : ℕ) → k < kinds → slotList A (kinds * j + k) ≡ listOf A k j
-slot-list A j k l =
-    let r : (kinds * j + k) % kinds ≡ k = mul-add-mod-self-left kinds j k ∙ mod-eq-of-lt l in
-    let q : (kinds * j + k) / kinds ≡ j = mul-add-div (omega arith) j k ∙ ap (λ (x : ℕ). j + x) (div-eq-of-lt l) ∙ add-zero j in
-    ap₂ (listOf A) r q
+pub slot-list : (K : ℕ) (served : Served K) → (A : Archive) (j k : ℕ) → k < K → slotList K A (K * j + k) ≡ listOf A k j
+slot-list K served A j k l =
+    ap₂ (listOf A) (slot-kind K j k l) (slot-row K j k l)
 
 fold-same : (f g : List ℕ → ℕ → List ℕ) (acc ps : List ℕ) → Each (λ p. (a : List ℕ) → f a p ≡ g a p) ps → foldl f acc ps ≡ foldl g acc ps
 fold-same f g acc [] h = refl
 fold-same f g acc (p ∷ ps) h = rw (h .0 acc) (fold-same f g (g acc p) ps (h .1))
 
-lists-snoc : (start : ℕ) (flags numbers : List ℕ) (ls xs : List (List ℕ)) (y : List ℕ)
-    → newListsFrom start flags numbers ls (xs ++ (y ∷ []))
-    ≡ newListsFrom start flags numbers ls xs
-    ++ (newList start flags numbers (length (newListsFrom start flags numbers ls xs) % kinds) (newListsFrom start flags numbers ls xs) y ∷ [])
+lists-snoc : (K : ℕ) (served : Served K) → (start : ℕ) (flags numbers : List ℕ) (ls xs : List (List ℕ)) (y : List ℕ)
+    → newListsFrom K start flags numbers ls (xs ++ (y ∷ []))
+    ≡ newListsFrom K start flags numbers ls xs
+    ++ (newList K start flags numbers (length (newListsFrom K start flags numbers ls xs) % K) (newListsFrom K start flags numbers ls xs) y ∷ [])
 unfolding newListsFrom
-lists-snoc start flags numbers ls [] y = refl
-lists-snoc start flags numbers ls (x ∷ xs) y = lists-snoc start flags numbers (ls ++ (newList start flags numbers (length ls % kinds) ls x ∷ [])) xs y
+lists-snoc K served start flags numbers ls [] y = refl
+lists-snoc K served start flags numbers ls (x ∷ xs) y = lists-snoc K served start flags numbers (ls ++ (newList K start flags numbers (length ls % K) ls x ∷ [])) xs y
 
 either : (b : Bool) (x y : List ℕ) → cond b x y ≡ cond (not b) y x
 either true x y = refl
 either false x y = refl
 
--- a figure of each kind and place, summed slot by slot or kind by kind
-sum-slots : (f : ℕ → ℕ → ℕ) (n : ℕ) → sum (λ s. f (s % kinds) (s / kinds)) (upFrom 0 (kinds * n)) ≡ sum (λ k. sum (f k) (upFrom 0 n)) (upFrom 0 kinds)
+sum-block : (f g : ℕ → ℕ) (n a b : ℕ) → ((k : ℕ) → k < n → f (a + k) ≡ g (b + k)) → sum f (upFrom a n) ≡ sum g (upFrom b n)
 unfolding sum upFrom
-sum-slots f zero = refl
-sum-slots f (suc n) =
-    let e : kinds * suc n ≡ kinds * n + kinds = omega arith in
-    let both : (k : ℕ) → sum (f k) (upFrom 0 (suc n)) ≡ sum (f k) (upFrom 0 n) + f k n =
-    λ k. ap (sum (f k)) (upFrom-snoc 0 n) ∙ sum-append (f k) (upFrom 0 n) ((0 + n) ∷ []) ∙ ap (λ (j : ℕ). sum (f k) (upFrom 0 n) + (f k j + 0)) (zero-add n) ∙ omega arith in
-    let this : (k : ℕ) → k < kinds → f ((kinds * n + k) % kinds) ((kinds * n + k) / kinds) ≡ f k n =
-    λ k l. ap₂ f (mul-add-mod-self-left kinds n k ∙ mod-eq-of-lt l) (mul-add-div (omega arith) n k ∙ ap (λ (x : ℕ). n + x) (div-eq-of-lt l) ∙ add-zero n) in
-    let first : f ((0 + kinds * n) % kinds) ((0 + kinds * n) / kinds) ≡ f 0 n = ap (λ (j : ℕ). f (j % kinds) (j / kinds)) {x = 0 + kinds * n} {y = kinds * n + 0} (omega arith) ∙ this 0 (omega arith) in
-    let second : f (suc (0 + kinds * n) % kinds) (suc (0 + kinds * n) / kinds) ≡ f 1 n = ap (λ (j : ℕ). f (j % kinds) (j / kinds)) {x = suc (0 + kinds * n)} {y = kinds * n + 1} (omega arith) ∙ this 1 (omega arith) in
-    rw (e, upFrom-append 0 (kinds * n) kinds, sum-append (λ s. f (s % kinds) (s / kinds)) (upFrom 0 (kinds * n)) (upFrom (0 + kinds * n) kinds))
-    (omega (arith, sum-slots f n, both 0, both 1, first, second))
+sum-block f g zero a b h = refl
+sum-block f g (suc n) a b h =
+    let e : f a ≡ g b = rw (add-zero a, add-zero b) at (h 0 (omega arith)) in
+    omega (arith, e, sum-block f g n (suc a) (suc b) (λ k l. rw (suc-add, suc-add, ← add-suc, ← add-suc) (h (suc k) (omega arith))))
 
-module _ (A : Archive) (flags : List ℕ) (slots : List (List ℕ)) (c : Columns A flags slots) where
+-- a figure of each kind and place, summed slot by slot or kind by kind
+sum-slots : (K : ℕ) (served : Served K) → (f : ℕ → ℕ → ℕ) (n : ℕ) → sum (λ s. f (s % K) (s / K)) (upFrom 0 (K * n)) ≡ sum (λ k. sum (f k) (upFrom 0 n)) (upFrom 0 K)
+unfolding sum upFrom
+sum-slots K served f zero = rw (mul-zero K) (sym (sum-zero (upFrom 0 K)))
+sum-slots K served f (suc n) = whole (sum-slots K served f n)
+  where
+    one : (k : ℕ) → sum (f k) (upFrom 0 (suc n)) ≡ sum (f k) (upFrom 0 n) + f k n
+    one k = ap (sum (f k)) (upFrom-snoc 0 n) ∙ sum-append (f k) (upFrom 0 n) ((0 + n) ∷ []) ∙ ap (λ (j : ℕ). sum (f k) (upFrom 0 n) + (f k j + 0)) (zero-add n) ∙ omega arith
+
+    both : sum (λ k. sum (f k) (upFrom 0 (suc n))) (upFrom 0 K) ≡ sum (λ k. sum (f k) (upFrom 0 n)) (upFrom 0 K) + sum (λ k. f k n) (upFrom 0 K)
+    both =
+        sum-ext (λ k. sum (f k) (upFrom 0 (suc n))) (λ k. sum (f k) (upFrom 0 n) + f k n) (upFrom 0 K) (each-all _ one (upFrom 0 K))
+        ∙ sum-both (λ k. sum (f k) (upFrom 0 n)) (λ k. f k n) (upFrom 0 K)
+
+    row : sum (λ s. f (s % K) (s / K)) (upFrom (0 + K * n) K) ≡ sum (λ k. f k n) (upFrom 0 K)
+    row = sum-block (λ s. f (s % K) (s / K)) (λ k. f k n) K (0 + K * n) 0 (λ k l. rw (zero-add (K * n), zero-add k, slot-kind K n k l, slot-row K n k l))
+
+    whole : sum (λ s. f (s % K) (s / K)) (upFrom 0 (K * n)) ≡ sum (λ k. sum (f k) (upFrom 0 n)) (upFrom 0 K)
+        → sum (λ s. f (s % K) (s / K)) (upFrom 0 (K * suc n)) ≡ sum (λ k. sum (f k) (upFrom 0 (suc n))) (upFrom 0 K)
+    whole before =
+        let e : K * suc n ≡ K * n + K = omega arith in
+        rw (e, upFrom-append 0 (K * n) K, sum-append (λ s. f (s % K) (s / K)) (upFrom 0 (K * n)) (upFrom (0 + K * n) K)) (omega (arith, before, both, row))
+
+module _ (K : ℕ) (served : Served K) (A : Archive) (flags : List ℕ) (slots : List (List ℕ)) (c : Columns K A flags slots) where
   pub erased-says : (p : ℕ) → (at A p) .erased ≡ not (eqb (getD flags (p - A .start) 0) 0)
   unfolding at
   erased-says p = flag-says (A .events) flags (c .erased) (p - A .start)
@@ -163,8 +178,8 @@ module _ (A : Archive) (flags : List ℕ) (slots : List (List ℕ)) (c : Columns
   pub survivors-new : survivors flags ≡ count (A .events)
   survivors-new = survivors-say (A .events) flags (c .erased)
 
-  pub all-slots : length slots ≡ kinds * length (A .events)
-  all-slots = sym (ap length (c .lists)) ∙ slots-length (A .events) (c .wide)
+  pub all-slots : length slots ≡ K * length (A .events)
+  all-slots = sym (ap length (c .lists)) ∙ slots-length K served (A .events) (c .wide)
 
   module _ (v : Valid A) where
     memo-length : (k n : ℕ) → length (memo A k n) ≡ n
@@ -181,95 +196,95 @@ module _ (A : Archive) (flags : List ℕ) (slots : List (List ℕ)) (c : Columns
         ∙ memo-list k (suc i) i (omega arith)
 
     -- one parent: the same by slots and by events
-    parent-says : (i k s : ℕ) → k < kinds → s ≡ kinds * i + k → i < length (A .events) → (p : ℕ) → p < A .start + i → (acc : List ℕ)
-        → NewLists.addParent (A .start) flags (numbersFrom (A .start) flags) k (map (slotList A) (upFrom 0 s)) acc p ≡ addParent A (memo A k i) acc p
+    parent-says : (i k s : ℕ) → k < K → s ≡ K * i + k → i < length (A .events) → (p : ℕ) → p < A .start + i → (acc : List ℕ)
+        → NewLists.addParent K (A .start) flags (numbersFrom (A .start) flags) k (map (slotList K A) (upFrom 0 s)) acc p ≡ addParent A (memo A k i) acc p
     unfolding NewLists.addParent addParent
     parent-says i k s l e b p h acc = go (ltb p (A .start)) refl
       where
         past : A .start ≤ p
             → cond (eqb (getD flags (p - A .start) 0) 0) (add acc (getD (numbersFrom (A .start) flags) (p - A .start) 0))
-            (foldl add acc (getD (map (slotList A) (upFrom 0 s)) (kinds * (p - A .start) + k) []))
+            (foldl add acc (getD (map (slotList K A) (upFrom 0 s)) (K * (p - A .start) + k) []))
             ≡ cond ((at A p) .erased) (foldl add acc (getD (memo A k i) (p - A .start) [])) (add acc (renumber A p))
         past o =
-            let place : getD (map (slotList A) (upFrom 0 s)) (kinds * (p - A .start) + k) [] ≡ listOf A k (p - A .start) =
-            getD-map-upFrom (slotList A) 0 s (kinds * (p - A .start) + k) [] (omega arith)
-            ∙ ap (slotList A) (zero-add (kinds * (p - A .start) + k)) ∙ slot-list A (p - A .start) k l in
+            let place : getD (map (slotList K A) (upFrom 0 s)) (K * (p - A .start) + k) [] ≡ listOf A k (p - A .start) =
+            getD-map-upFrom (slotList K A) 0 s (K * (p - A .start) + k) [] (let under : p - A .start < i = omega arith in omega (arith, mul-le-mul-left K under))
+            ∙ ap (slotList K A) (zero-add (K * (p - A .start) + k)) ∙ slot-list K served A (p - A .start) k l in
             rw (numbers-new p o (omega arith), place, memo-list k i (p - A .start) (omega arith), erased-says p)
             (either (eqb (getD flags (p - A .start) 0) 0) (add acc (renumber A p)) (foldl add acc (listOf A k (p - A .start))))
 
         go : (b : Bool) → ltb p (A .start) ≡ b
-            → NewLists.addParent (A .start) flags (numbersFrom (A .start) flags) k (map (slotList A) (upFrom 0 s)) acc p ≡ addParent A (memo A k i) acc p
+            → NewLists.addParent K (A .start) flags (numbersFrom (A .start) flags) k (map (slotList K A) (upFrom 0 s)) acc p ≡ addParent A (memo A k i) acc p
         go true t = rw t
         go false t = rw t (past (ltb-false p (A .start) t))
 
     new-slot : (s : ℕ) → s < length slots
-        → newList (A .start) flags (numbersFrom (A .start) flags) (s % kinds) (map (slotList A) (upFrom 0 s)) (getD slots s []) ≡ slotList A s
+        → newList K (A .start) flags (numbersFrom (A .start) flags) (s % K) (map (slotList K A) (upFrom 0 s)) (getD slots s []) ≡ slotList K A s
     unfolding newList Valid parentsOf at
     new-slot s h =
-        let i : ℕ = s / kinds in
-        let k : ℕ = s % kinds in
-        let l : k < kinds = mod-lt s (omega arith) in
-        let e : s ≡ kinds * i + k = sym (div-add-mod s kinds) in
-        let b : i < length (A .events) = omega (arith, all-slots) in
+        let i : ℕ = s / K in
+        let k : ℕ = s % K in
+        let l : k < K = kind-under K s (served .some) in
+        let e : s ≡ K * i + k = sym (slot-parts K s) in
+        let b : i < length (A .events) = row-under K (length (A .events)) s (served .some) (omega (arith, all-slots)) in
         let q : A .start + i - A .start ≡ i = omega arith in
         let ps : getD slots s [] ≡ parentsOf k (at A (A .start + i)) =
-        ap₂ (λ (ls : List (List ℕ)) (j : ℕ). getD ls j []) (sym (c .lists)) e ∙ slot-says (A .events) i k (c .wide) b l
+        ap₂ (λ (ls : List (List ℕ)) (j : ℕ). getD ls j []) (sym (c .lists)) e ∙ slot-says K served (A .events) i k (c .wide) b l
         ∙ ap (λ (j : ℕ). getD ((getD (A .events) j blank) .parents) k []) (sym q) in
         rw ps
-        (fold-same (NewLists.addParent (A .start) flags (numbersFrom (A .start) flags) k (map (slotList A) (upFrom 0 s))) (addParent A (memo A k i)) []
+        (fold-same (NewLists.addParent K (A .start) flags (numbersFrom (A .start) flags) k (map (slotList K A) (upFrom 0 s))) (addParent A (memo A k i)) []
         (parentsOf k (at A (A .start + i)))
         (each-imp (λ p. p < A .start + i)
-        (λ p. (a : List ℕ) → NewLists.addParent (A .start) flags (numbersFrom (A .start) flags) k (map (slotList A) (upFrom 0 s)) a p ≡ addParent A (memo A k i) a p)
+        (λ p. (a : List ℕ) → NewLists.addParent K (A .start) flags (numbersFrom (A .start) flags) k (map (slotList K A) (upFrom 0 s)) a p ≡ addParent A (memo A k i) a p)
         (parentsOf k (at A (A .start + i))) (parent-says i k s l e b) (v k (A .start + i) (omega arith)))
         ∙ memo-next k i)
 
-    made : (s : ℕ) → s ≤ length slots → newListsFrom (A .start) flags (numbersFrom (A .start) flags) [] (take s slots) ≡ map (slotList A) (upFrom 0 s)
+    made : (s : ℕ) → s ≤ length slots → newListsFrom K (A .start) flags (numbersFrom (A .start) flags) [] (take s slots) ≡ map (slotList K A) (upFrom 0 s)
     unfolding newListsFrom upFrom
     made zero h = refl
     made (suc s) h =
         rw (
           take-suc slots s [] h,
-          lists-snoc (A .start) flags (numbersFrom (A .start) flags) [] (take s slots) (getD slots s []),
+          lists-snoc K served (A .start) flags (numbersFrom (A .start) flags) [] (take s slots) (getD slots s []),
           made s (omega arith),
-          length-map-upFrom (slotList A) 0 s,
+          length-map-upFrom (slotList K A) 0 s,
           new-slot s h,
         )
-        (sym (map-upFrom-snoc (slotList A) 0 s ∙ ap (λ (j : ℕ). map (slotList A) (upFrom 0 s) ++ (slotList A j ∷ [])) (zero-add s)))
+        (sym (map-upFrom-snoc (slotList K A) 0 s ∙ ap (λ (j : ℕ). map (slotList K A) (upFrom 0 s) ++ (slotList K A j ∷ [])) (zero-add s)))
 
     -- new lists, slot by slot
-    pub new-lists : newLists (A .start) flags slots ≡ map (slotList A) (upFrom 0 (kinds * length (A .events)))
+    pub new-lists : newLists K (A .start) flags slots ≡ map (slotList K A) (upFrom 0 (K * length (A .events)))
     unfolding newLists
     new-lists =
-        ap (newListsFrom (A .start) flags (numbersFrom (A .start) flags) []) (sym (take-length slots)) ∙ made (length slots) (omega arith)
-        ∙ ap (λ (n : ℕ). map (slotList A) (upFrom 0 n)) all-slots
+        ap (newListsFrom K (A .start) flags (numbersFrom (A .start) flags) []) (sym (take-length slots)) ∙ made (length slots) (omega arith)
+        ∙ ap (λ (n : ℕ). map (slotList K A) (upFrom 0 n)) all-slots
 
     -- slot kinds × i + k is the i-th list of kind k of the archive's tables
-    pub slot-new : (i k : ℕ) → i < length (A .events) → k < kinds → getD (newLists (A .start) flags slots) (kinds * i + k) [] ≡ getD (getD (tables A) k []) i []
+    pub slot-new : (i k : ℕ) → i < length (A .events) → k < K → getD (newLists K (A .start) flags slots) (K * i + k) [] ≡ getD (getD (tables K A) k []) i []
     unfolding tables
     slot-new i k h l =
-        rw (new-lists, getD-map-upFrom (λ j. memo A j (length (A .events))) 0 kinds k [] l, zero-add k, memo-list k (length (A .events)) i h)
-        (getD-map-upFrom (slotList A) 0 (kinds * length (A .events)) (kinds * i + k) [] (omega arith)
-        ∙ ap (slotList A) (zero-add (kinds * i + k)) ∙ slot-list A i k l)
+        rw (new-lists, getD-map-upFrom (λ j. memo A j (length (A .events))) 0 K k [] l, zero-add k, memo-list k (length (A .events)) i h)
+        (getD-map-upFrom (slotList K A) 0 (K * length (A .events)) (K * i + k) [] (slot-under K (length (A .events)) i k h l)
+        ∙ ap (slotList K A) (zero-add (K * i + k)) ∙ slot-list K served A i k l)
 
     -- the entries of all new lists (43)
-    pub entries-new : entries (tables A) ≡ length (joined (newLists (A .start) flags slots))
+    pub entries-new : entries (tables K A) ≡ length (joined (newLists K (A .start) flags slots))
     unfolding entries tables
     entries-new =
-        sum-map (sum length) (λ k. memo A k (length (A .events))) (upFrom 0 kinds)
+        sum-map (sum length) (λ k. memo A k (length (A .events))) (upFrom 0 K)
         ∙ sym (ap (λ (ls : List (List ℕ)). length (joined ls)) new-lists
-        ∙ length-joined (map (slotList A) (upFrom 0 (kinds * length (A .events))))
-        ∙ sum-map length (slotList A) (upFrom 0 (kinds * length (A .events)))
-        ∙ sum-slots (λ k i. length (listOf A k i)) (length (A .events))
+        ∙ length-joined (map (slotList K A) (upFrom 0 (K * length (A .events))))
+        ∙ sum-map length (slotList K A) (upFrom 0 (K * length (A .events)))
+        ∙ sum-slots K served (λ k i. length (listOf A k i)) (length (A .events))
         ∙ rows)
       where
         row : (k : ℕ) → sum (λ i. length (listOf A k i)) (upFrom 0 (length (A .events))) ≡ sum length (memo A k (length (A .events)))
         row k = sym (ap (sum length) (memo-right A k v (length (A .events))) ∙ sum-map length (listOf A k) (upFrom 0 (length (A .events))))
 
-        rows : sum (λ k. sum (λ i. length (listOf A k i)) (upFrom 0 (length (A .events)))) (upFrom 0 kinds)
-            ≡ sum (λ k. sum length (memo A k (length (A .events)))) (upFrom 0 kinds)
+        rows : sum (λ k. sum (λ i. length (listOf A k i)) (upFrom 0 (length (A .events)))) (upFrom 0 K)
+            ≡ sum (λ k. sum length (memo A k (length (A .events)))) (upFrom 0 K)
         rows =
-            sum-ext (λ k. sum (λ i. length (listOf A k i)) (upFrom 0 (length (A .events)))) (λ k. sum length (memo A k (length (A .events)))) (upFrom 0 kinds)
-            (each-all (λ k. sum (λ i. length (listOf A k i)) (upFrom 0 (length (A .events))) ≡ sum length (memo A k (length (A .events)))) row (upFrom 0 kinds))
+            sum-ext (λ k. sum (λ i. length (listOf A k i)) (upFrom 0 (length (A .events)))) (λ k. sum length (memo A k (length (A .events)))) (upFrom 0 K)
+            (each-all (λ k. sum (λ i. length (listOf A k i)) (upFrom 0 (length (A .events))) ≡ sum length (memo A k (length (A .events)))) row (upFrom 0 K))
 
 -- ── reparented survivors ─────────────────────────────────────────────────────────────────────
 
@@ -297,20 +312,20 @@ filter-survivors P R j n (x ∷ es) h =
     go false true e f h = rw (f, e, h)
     go false false e f h = rw (f, e) h
 
-module _ (A : Archive) (flags : List ℕ) (slots : List (List ℕ)) (c : Columns A flags slots) where
+module _ (K : ℕ) (served : Served K) (A : Archive) (flags : List ℕ) (slots : List (List ℕ)) (c : Columns K A flags slots) where
   passes-says : (p : ℕ) → isErased (A .start) flags p ≡ passes A p
   unfolding isErased passes
-  passes-says p = ap (cond (ltb p (A .start)) false) (sym (erased-says A flags slots c p))
+  passes-says p = ap (cond (ltb p (A .start)) false) (sym (erased-says K served A flags slots c p))
 
   reparented-says : (i : ℕ) → i < length (A .events)
-      → Reparented.isReparented (A .start) flags slots (0 + i) ≡ (not ((getD (A .events) i blank) .erased) && isReparented A (A .start + i))
+      → Reparented.isReparented K (A .start) flags slots (0 + i) ≡ (not ((getD (A .events) i blank) .erased) && isReparented A (A .start + i))
   unfolding Reparented.isReparented isReparented at
   reparented-says i h =
       let q : A .start + i - A .start ≡ i = omega arith in
       rw (
         zero-add i,
         ← c .lists,
-        event-slots (A .events) i (c .wide) h,
+        event-slots K served (A .events) i (c .wide) h,
         q,
         flag-says (A .events) flags (c .erased) i,
         any-same (isErased (A .start) flags) (passes A) passes-says (joined ((getD (A .events) i blank) .parents)),
@@ -322,8 +337,8 @@ module _ (A : Archive) (flags : List ℕ) (slots : List (List ℕ)) (c : Columns
       twice false = refl
 
   -- the reparented count is the archive's
-  pub reparented-new : Reparented.reparented (A .start) flags slots ≡ reparented A
+  pub reparented-new : Reparented.reparented K (A .start) flags slots ≡ reparented A
   unfolding Reparented.reparented reparented Cleaning.survivors
   reparented-new =
-      ap (λ (n : ℕ). length (filter (Reparented.isReparented (A .start) flags slots) (upFrom 0 n))) (sym (flags-length (A .events) flags (c .erased)))
-      ∙ filter-survivors (Reparented.isReparented (A .start) flags slots) (isReparented A) 0 (A .start) (A .events) reparented-says
+      ap (λ (n : ℕ). length (filter (Reparented.isReparented K (A .start) flags slots) (upFrom 0 n))) (sym (flags-length (A .events) flags (c .erased)))
+      ∙ filter-survivors (Reparented.isReparented K (A .start) flags slots) (isReparented A) 0 (A .start) (A .events) reparented-says

@@ -15,7 +15,7 @@ use Rattle.lists.proofs.Tests.{tested}
 use Rattle.lists.proofs.Each.{each-imp}
 use Rattle.lists.proofs.Flat.{map-ext, length-upFrom, getD-upFrom}
 use Rattle.lists.proofs.Filters.{each-below}
-use Rattle.columns.specs.Limits.{kinds}
+use Rattle.columns.specs.Limits.{Served}
 use Rattle.cover.specs.Chains.{Link, sortLinks}
 use Rattle.cleaning.specs.Archive.{Group, at}
 use Rattle.cleaning.specs.Cleaning.{rank, survivors}
@@ -69,36 +69,36 @@ groups-sorted n ls g (f ∷ fs) h =
 
 -- ── rows ─────────────────────────────────────────────────────────────────────────────────────
 
-module _ (h : Held) (r : Rows h) where
-  rank-held : (p : ℕ) → rank (archiveHeld h) p ≡ rankIn (h .erased) (p - h .sheet .start)
+module _ (K : ℕ) (served : Served K) (h : Held) (r : Rows K h) where
+  rank-held : (p : ℕ) → rank (archiveHeld K h) p ≡ rankIn (h .erased) (p - h .sheet .start)
   unfolding rank archiveHeld
-  rank-held p = sym (rank-counts ((archiveHeld h) .events) (p - h .sheet .start)) ∙ ap (λ es. rankIn es (p - h .sheet .start)) (events-erased h r)
+  rank-held p = sym (rank-counts ((archiveHeld K h) .events) (p - h .sheet .start)) ∙ ap (λ es. rankIn es (p - h .sheet .start)) (events-erased K served h r)
 
-  module _ (ts : List (List (List ℕ))) (w : length ts ≡ kinds) where
+  module _ (ts : List (List (List ℕ))) (w : length ts ≡ K) where
     new : List (List ℕ)
-    new = slotted (length ((archiveHeld h) .events)) ts
+    new = slotted (length ((archiveHeld K h) .events)) ts
 
-    row-new : (i : ℕ) → i < length (h .erased) → part (kinds * i) kinds new ≡ map (λ t. getD t i []) ts
+    row-new : (i : ℕ) → i < length (h .erased) → part (K * i) K new ≡ map (λ t. getD t i []) ts
     unfolding new
-    row-new i l = slotted-row (length ((archiveHeld h) .events)) ts w i (omega (arith, events-length h r))
+    row-new i l = slotted-row K served (length ((archiveHeld K h) .events)) ts w i (omega (arith, events-length K served h r))
 
     -- the lists of a survivor stand at its rank
     row-kept : (i : ℕ) → i < length (h .erased) → getD (h .erased) i false ≡ false
-        → part (kinds * rankIn (h .erased) i) kinds (keepSlots (h .erased) new) ≡ map (λ t. getD t i []) ts
+        → part (K * rankIn (h .erased) i) K (keepSlots K (h .erased) new) ≡ map (λ t. getD t i []) ts
     row-kept i l s =
         let n = length (h .erased) in
         let places = keep (h .erased) (upFrom 0 n) in
-        let f : ℕ → List (List ℕ) = λ j. part (kinds * j) kinds new in
-        rw (keep-slots (h .erased) new)
-        (block-at f kinds places (rankIn (h .erased) i) 0
-        (each-keep (λ j. length (f j) ≡ kinds) (h .erased) (upFrom 0 n)
-        (each-below (λ j. length (f j) ≡ kinds) n (λ j m. ap length (row-new j m) ∙ length-map ts (λ t. getD t j []) ∙ w)))
+        let f : ℕ → List (List ℕ) = λ j. part (K * j) K new in
+        rw (keep-slots K served (h .erased) new)
+        (block-at f K places (rankIn (h .erased) i) 0
+        (each-keep (λ j. length (f j) ≡ K) (h .erased) (upFrom 0 n)
+        (each-below (λ j. length (f j) ≡ K) n (λ j m. ap length (row-new j m) ∙ length-map ts (λ t. getD t j []) ∙ w)))
         (omega (arith, length-keep (h .erased) (upFrom 0 n) (length-upFrom 0 n), rank-below (h .erased) i l s))
         ∙ ap f (keep-at (h .erased) (upFrom 0 n) i 0 (length-upFrom 0 n) l s ∙ getD-upFrom 0 n i 0 l ∙ zero-add i)
         ∙ row-new i l)
 
     -- what follows a survivor stands at its rank
-    body-kept : (i : ℕ) → i < length (h .erased) → getD (h .erased) i false ≡ false → bodyAt (survivorSheet h new) (rankIn (h .erased) i) ≡ bodyAt (h .sheet) i
+    body-kept : (i : ℕ) → i < length (h .erased) → getD (h .erased) i false ≡ false → bodyAt (survivorSheet K h new) (rankIn (h .erased) i) ≡ bodyAt (h .sheet) i
     unfolding bodyAt survivorSheet
     body-kept i l s =
         let es = h .erased in
@@ -109,35 +109,35 @@ module _ (h : Held) (r : Rows h) where
         let unresolved = keep-references es i l s (h .sheet .start) (h .sheet .unresolved) (r .unresolved) in
         λ k. record { group = group k; tag = tag k; label = label k; root = root k; unresolved = unresolved k }
 
-    survivor-row : (p : ℕ) → Survives (h .sheet .start) ((archiveHeld h) .events) p
-        → kept (bodyAt (survivorSheet h new) (rank (archiveHeld h) p)) (parentsAt (survivorSheet h new) (rank (archiveHeld h) p)) ≡ keptIn (archiveHeld h) ts p
+    survivor-row : (p : ℕ) → Survives (h .sheet .start) ((archiveHeld K h) .events) p
+        → kept (bodyAt (survivorSheet K h new) (rank (archiveHeld K h) p)) (parentsAt K (survivorSheet K h new) (rank (archiveHeld K h) p)) ≡ keptIn (archiveHeld K h) ts p
     unfolding keptIn parentsAt survivorSheet at eventAt archiveHeld
     survivor-row p w′ =
         let i = p - h .sheet .start in
-        let l : i < length (h .erased) = omega (arith, w′ .0, events-length h r) in
-        let e = event-held h r i l in
+        let l : i < length (h .erased) = omega (arith, w′ .0, events-length K served h r) in
+        let e = event-held K served h r i l in
         let s : getD (h .erased) i false ≡ false = sym (ap (λ x. x .erased) e) ∙ w′ .1 in
         rw (rank-held p, e) (ap₂ kept (body-kept i l s) (row-kept i l s))
 
-    row-count : rowCount (survivorSheet h new) ≡ length (survivors (archiveHeld h))
+    row-count : rowCount (survivorSheet K h new) ≡ length (survivors (archiveHeld K h))
     unfolding survivorSheet
     row-count =
-        length-keep (h .erased) (h .sheet .tags) (r .tags) ∙ ap (λ es. length (filter not es)) (sym (events-erased h r))
-        ∙ count-flags ((archiveHeld h) .events) ∙ sym (length-survivors (archiveHeld h))
+        length-keep (h .erased) (h .sheet .tags) (r .tags) ∙ ap (λ es. length (filter not es)) (sym (events-erased K served h r))
+        ∙ count-flags ((archiveHeld K h) .events) ∙ sym (length-survivors (archiveHeld K h))
 
-    rows-held : (summaryOf (survivorSheet h new)) .rows ≡ map (keptIn (archiveHeld h) ts) (survivors (archiveHeld h))
+    rows-held : (summaryOf K (survivorSheet K h new)) .rows ≡ map (keptIn (archiveHeld K h) ts) (survivors (archiveHeld K h))
     unfolding summaryOf survivors archiveHeld
     rows-held =
-        let A = archiveHeld h in
-        let f : ℕ → Kept = λ i. kept (bodyAt (survivorSheet h new) i) (parentsAt (survivorSheet h new) i) in
+        let A = archiveHeld K h in
+        let f : ℕ → Kept = λ i. kept (bodyAt (survivorSheet K h new) i) (parentsAt K (survivorSheet K h new) i) in
         ap (λ n. map f (upFrom 0 n)) row-count ∙ ap (map f) (sym (map-rank-survivors A)) ∙ map-map f (rank A) (survivors A)
         ∙ map-ext (λ p. f (rank A p)) (keptIn A ts) (survivors A)
         (each-imp (Survives (A .start) (A .events)) (λ p. f (rank A p) ≡ keptIn A ts p) (survivors A) survivor-row (survive-from (A .start) (A .events)))
 
-pub summary-held : (h : Held) (ts : List (List (List ℕ))) → Rows h → length ts ≡ kinds
-    → summaryOf (survivorSheet h (slotted (length ((archiveHeld h) .events)) ts)) ≡ tabled (archiveHeld h) ts
+pub summary-held : (K : ℕ) (served : Served K) → (h : Held) (ts : List (List (List ℕ))) → Rows K h → length ts ≡ K
+    → summaryOf K (survivorSheet K h (slotted (length ((archiveHeld K h) .events)) ts)) ≡ tabled (archiveHeld K h) ts
 unfolding summaryOf tabled survivorSheet archiveHeld groupsOfSheet new
-summary-held h ts r w =
+summary-held K served h ts r w =
     let groups = groups-sorted (length (h .sheet .groups)) (h .sheet .links) 0 (h .sheet .groups) (omega arith) in
-    let rows = rows-held h r ts w in
+    let rows = rows-held K served h r ts w in
     λ k. record { start = h .sheet .start; subject = h .sheet .subject; groups = groups k; rows = rows k }

@@ -11,7 +11,7 @@ use borrow.Author.Tests.{ltb-true, leb-true, eqb-true, eq-eqb}
 use Rattle.lists.specs.Lists.{all, same, last, Each}
 use Rattle.lists.proofs.Tests.{both, all-each}
 use Rattle.lists.proofs.Each.{each-imp}
-use Rattle.columns.specs.Limits.{kinds, end64}
+use Rattle.columns.specs.Limits.{Served, end64, referenceKinds}
 use Rattle.columns.specs.Refusal.{refuse, firstIn}
 use Rattle.columns.specs.EdgeSet.{forward, reverse, inbound}
 use Rattle.columns.specs.Reading.{setRules}
@@ -28,14 +28,14 @@ use Rattle.cleaning.proofs.Sides.{SlotBelow, each-slot, forward-below}
 
 -- an unresolved record of a source: its child is a number of the source, its kind is one of the kinds
 abbrev pub RecordIn : Source → Unresolved → Type 0
-RecordIn s u = (s .first ≤ u .child) × (u .child < endOf s) × (u .kind < kinds)
+RecordIn s u = (s .first ≤ u .child) × (u .child < endOf s) × (u .kind < referenceKinds)
 
-pub record Sound (s : Source) : Type 0 where
+pub record Sound (K : ℕ) (s : Source) : Type 0 where
   pub subject : subjectOk (s .subject) ≡ true
   pub numbers : endOf s < end64
   pub depth : depthOk (s .depth) ≡ true
-  pub slots : length (s .forward) ≡ kinds * length (s .rows)
-  pub below : EachFrom (SlotBelow (s .first)) 0 (s .forward)
+  pub slots : length (s .forward) ≡ K * length (s .rows)
+  pub below : EachFrom (SlotBelow K (s .first)) 0 (s .forward)
   pub roots : Each (λ r. r .row < length (s .rows)) (s .roots)
   pub unresolved : Each (RecordIn s) (s .unresolved)
 
@@ -51,22 +51,22 @@ FollowsLast none t = t .group ≡ 0
 FollowsLast (some s) t = Follows s t
 
 -- sound sources, each taken after the one before it, the first after `before`
-abbrev pub Followed : Option Source → List Source → Type 0
-Followed before [] = Unit {0}
-Followed before (s ∷ ss) = Sound s × FollowsLast before s × Followed (some s) ss
+abbrev pub Followed : (K : ℕ) → Option Source → List Source → Type 0
+Followed K before [] = Unit {0}
+Followed K before (s ∷ ss) = Sound K s × FollowsLast before s × Followed K (some s) ss
 
 -- ── takings one after the other ──────────────────────────────────────────────────────────────
 
-followed-on : (before : Option Source) (s : Source) (ss ts : List Source) → Followed before (s ∷ ss) → Followed (last (s ∷ ss)) ts
-    → Followed before (s ∷ (ss ++ ts))
+followed-on : (K : ℕ) (served : Served K) → (before : Option Source) (s : Source) (ss ts : List Source) → Followed K before (s ∷ ss) → Followed K (last (s ∷ ss)) ts
+    → Followed K before (s ∷ (ss ++ ts))
 unfolding last
-followed-on before s [] ts h g = (h .0, h .1, g)
-followed-on before s (r ∷ rs) ts h g = (h .0, h .1, followed-on (some s) r rs ts (h .2) g)
+followed-on K served before s [] ts h g = (h .0, h .1, g)
+followed-on K served before s (r ∷ rs) ts h g = (h .0, h .1, followed-on K served (some s) r rs ts (h .2) g)
 
-pub followed-append : (ss ts : List Source) → Followed none ss → Followed (last ss) ts → Followed none (ss ++ ts)
+pub followed-append : (K : ℕ) (served : Served K) → (ss ts : List Source) → Followed K none ss → Followed K (last ss) ts → Followed K none (ss ++ ts)
 unfolding last
-followed-append [] ts h g = g
-followed-append (s ∷ ss) ts h g = followed-on none s ss ts h g
+followed-append K served [] ts h g = g
+followed-append K served (s ∷ ss) ts h g = followed-on K served none s ss ts h g
 
 -- ── the rules of a file ──────────────────────────────────────────────────────────────────────
 
@@ -93,11 +93,11 @@ there-read none = refl
 there-read (some c) = refl
 
 -- 24, 25, 26
-looks-back : (before : Option Source) (f : File) → groupFollows before f ≡ true → sourceFollows before f ≡ true → coverFollows before f ≡ true
-    → FollowsLast before (sourceOf f)
+looks-back : (K : ℕ) (served : Served K) → (before : Option Source) (f : File) → groupFollows before f ≡ true → sourceFollows before f ≡ true → coverFollows before f ≡ true
+    → FollowsLast before (sourceOf K f)
 unfolding sourceOf
-looks-back none f g s c = eqb-true (f .group) 0 g
-looks-back (some b) f g s c = let q = both (same (f .subject) (b .subject)) (eqb (f .first) (endOf b)) s in record {
+looks-back K served none f g s c = eqb-true (f .group) 0 g
+looks-back K served (some b) f g s c = let q = both (same (f .subject) (b .subject)) (eqb (f .first) (endOf b)) s in record {
   subject = same-eq (f .subject) (b .subject) (q .0);
   first = eqb-true (f .first) (endOf b) (q .1);
   group = elim (or-true-cases (eqb (f .group) (b .group)) (eqb (f .group) (b .group + 1)) g) [
@@ -107,16 +107,16 @@ looks-back (some b) f g s c = let q = both (same (f .subject) (b .subject)) (eqb
   cover = λ h. there-read (f .cover) ∙ beq-eq (isThere (f .cover)) (isThere (b .cover)) (rw (eq-eqb (f .group) (b .group) h) at c);
 }
 
-module _ (before : Option Source) (f : File) (e : fileRules before f ≡ none) where
+module _ (K : ℕ) (served : Served K) (before : Option Source) (f : File) (e : fileRules K before f ≡ none) where
   rules : Each (λ t. t ≡ none) (refuse SubjectLength (not (subjectOk (f .subject)))
       ∷ refuse NumberRange (not (numbersOk (f .first) (length (f .rows))))
       ∷ refuse DepthOrder (not (depthOk (f .depth)))
       ∷ refuse GroupOrder (not (groupFollows before f))
       ∷ refuse SourceOrder (not (sourceFollows before f))
       ∷ refuse CoverInSome (not (coverFollows before f))
-      ∷ setRules forward (f .first) (length (f .rows)) (fileEnd f) (f .forward)
-      ∷ setRules reverse (f .first) (length (f .rows)) (fileEnd f) (f .reverse)
-      ∷ setRules inbound (f .first) (length (f .rows)) (fileEnd f) (f .inbound)
+      ∷ setRules K forward (f .first) (length (f .rows)) (fileEnd f) (f .forward)
+      ∷ setRules K reverse (f .first) (length (f .rows)) (fileEnd f) (f .reverse)
+      ∷ setRules K inbound (f .first) (length (f .rows)) (fileEnd f) (f .inbound)
       ∷ refuse RootOutside (not (all (λ r. ltb (r .row) (length (f .rows))) (f .roots)))
       ∷ firstIn (unresolvedRules f) (f .unresolved)
       ∷ coverRules (f .cover)
@@ -127,44 +127,44 @@ module _ (before : Option Source) (f : File) (e : fileRules before f ≡ none) w
   pub cover-rules : coverRules (f .cover) ≡ none
   cover-rules = rules .1 .1 .1 .1 .1 .1 .1 .1 .1 .1 .1 .0
 
-  record-in : (u : Unresolved) → unresolvedRules f u ≡ none → RecordIn (sourceOf f) u
+  record-in : (u : Unresolved) → unresolvedRules f u ≡ none → RecordIn (sourceOf K f) u
   unfolding unresolvedRules inFile sourceOf
   record-in u r =
-      let q = each-none (refuse UnresolvedChild (not (inFile (f .first) (fileEnd f) (u .child))) ∷ refuse UnresolvedKind (not (ltb (u .kind) kinds)) ∷ []) r in
+      let q = each-none (refuse UnresolvedChild (not (inFile (f .first) (fileEnd f) (u .child))) ∷ refuse UnresolvedKind (not (ltb (u .kind) referenceKinds)) ∷ []) r in
       let i = both (leb (f .first) (u .child)) (ltb (u .child) (fileEnd f)) (passed UnresolvedChild (inFile (f .first) (fileEnd f) (u .child)) (q .0)) in
-      (leb-true (f .first) (u .child) (i .0), ltb-true (u .child) (fileEnd f) (i .1), ltb-true (u .kind) kinds (passed UnresolvedKind (ltb (u .kind) kinds) (q .1 .0)))
+      (leb-true (f .first) (u .child) (i .0), ltb-true (u .child) (fileEnd f) (i .1), ltb-true (u .kind) referenceKinds (passed UnresolvedKind (ltb (u .kind) referenceKinds) (q .1 .0)))
 
-  sound-source : Sound (sourceOf f)
+  sound-source : Sound K (sourceOf K f)
   unfolding sourceOf numbersOk
   sound-source = record {
     subject = passed SubjectLength (subjectOk (f .subject)) (rules .0);
     numbers = ltb-true (fileEnd f) end64 (passed NumberRange (ltb (fileEnd f) end64) (rules .1 .0));
     depth = passed DepthOrder (depthOk (f .depth)) (rules .1 .1 .0);
-    slots = each-slot forward (f .first) (length (f .rows)) (fileEnd f) (f .forward) (rules .1 .1 .1 .1 .1 .1 .0);
-    below = forward-below (f .first) (length (f .rows)) (fileEnd f) (f .forward) (rules .1 .1 .1 .1 .1 .1 .0);
+    slots = each-slot K served forward (f .first) (length (f .rows)) (fileEnd f) (f .forward) (rules .1 .1 .1 .1 .1 .1 .0);
+    below = forward-below K served (f .first) (length (f .rows)) (fileEnd f) (f .forward) (rules .1 .1 .1 .1 .1 .1 .0);
     roots = each-imp (λ r. ltb (r .row) (length (f .rows)) ≡ true) (λ r. r .row < length (f .rows)) (f .roots) (λ r t. ltb-true (r .row) (length (f .rows)) t)
         (all-each (λ r. ltb (r .row) (length (f .rows))) (f .roots)
         (passed RootOutside (all (λ r. ltb (r .row) (length (f .rows))) (f .roots)) (rules .1 .1 .1 .1 .1 .1 .1 .1 .1 .0)));
-    unresolved = each-imp (λ u. unresolvedRules f u ≡ none) (RecordIn (sourceOf f)) (f .unresolved) record-in
+    unresolved = each-imp (λ u. unresolvedRules f u ≡ none) (RecordIn (sourceOf K f)) (f .unresolved) record-in
         (each-none-in (unresolvedRules f) (f .unresolved) (rules .1 .1 .1 .1 .1 .1 .1 .1 .1 .1 .0));
   }
 
-  pub follows-last : FollowsLast before (sourceOf f)
+  pub follows-last : FollowsLast before (sourceOf K f)
   unfolding sourceOf
-  follows-last = looks-back before f
+  follows-last = looks-back K served before f
       (passed GroupOrder (groupFollows before f) (rules .1 .1 .1 .0))
       (passed SourceOrder (sourceFollows before f) (rules .1 .1 .1 .1 .0))
       (passed CoverInSome (coverFollows before f) (rules .1 .1 .1 .1 .1 .0))
 
-pub taken-followed : (before : Option Source) (fs : List File) → filesRules before fs ≡ none → Followed before (map sourceOf fs)
+pub taken-followed : (K : ℕ) (served : Served K) → (before : Option Source) (fs : List File) → filesRules K before fs ≡ none → Followed K before (map (sourceOf K) fs)
 unfolding filesRules
-taken-followed before [] e = tt
-taken-followed before (f ∷ fs) e =
-    let h = each-none (fileRules before f ∷ filesRules (some (sourceOf f)) fs ∷ []) e in
-    (sound-source before f (h .0), follows-last before f (h .0), taken-followed (some (sourceOf f)) fs (h .1 .0))
+taken-followed K served before [] e = tt
+taken-followed K served before (f ∷ fs) e =
+    let h = each-none (fileRules K before f ∷ filesRules K (some (sourceOf K f)) fs ∷ []) e in
+    (sound-source K served before f (h .0), follows-last K served before f (h .0), taken-followed K served (some (sourceOf K f)) fs (h .1 .0))
 
 -- the sources of an accepted taking follow those that the run has
-pub taking-followed : (ss : List Source) (fs : List File) → takeRules ss fs ≡ none → Followed (last ss) (map sourceOf fs)
+pub taking-followed : (K : ℕ) (served : Served K) → (ss : List Source) (fs : List File) → takeRules K ss fs ≡ none → Followed K (last ss) (map (sourceOf K) fs)
 unfolding takeRules
-taking-followed ss fs e =
-    taken-followed (last ss) fs (each-none (refuse OverRecords (overRecords ss fs) ∷ refuse OverNumbers (overNumbers ss fs) ∷ filesRules (last ss) fs ∷ []) e .1 .1 .0)
+taking-followed K served ss fs e =
+    taken-followed K served (last ss) fs (each-none (refuse OverRecords (overRecords ss fs) ∷ refuse OverNumbers (overNumbers ss fs) ∷ filesRules K (last ss) fs ∷ []) e .1 .1 .0)

@@ -5,6 +5,7 @@ use mathlib.Core.List.{map}
 use Prim.Native.Nat.{ℕ, zero, suc}
 use native.Mathlib.Omega.{arith}
 use lib.ListN.{length}
+use Rattle.columns.specs.Limits.{Served}
 use Rattle.lists.specs.Lists.{all, isEmpty, upFrom}
 use Rattle.cleaning.specs.Summary.{Summary}
 use Rattle.cleaning.specs.Writing.{graphOf, outputOf, outputs, groupNumbers}
@@ -16,28 +17,28 @@ use Rattle.cleaning.proofs.OutputLimits.{records-within, numbers-within
 use Rattle.cleaning.proofs.OutputFits.{files-fit}
 use Rattle.cleaning.proofs.Resolved.{groups-survive, few-entries}
 
-some-output : (S : Summary) → Good S → isEmpty (outputs S) ≡ false
+some-output : (K : ℕ) (served : Served K) → (S : Summary) → Good K S → isEmpty (outputs K S) ≡ false
 unfolding outputs isEmpty upFrom
-some-output S good = go (length (S .groups)) refl
+some-output K served S good = go (length (S .groups)) refl
   where
-    go : (n : ℕ) → n ≡ length (S .groups) → isEmpty (map (outputOf S) (upFrom 0 n)) ≡ false
+    go : (n : ℕ) → n ≡ length (S .groups) → isEmpty (map (outputOf K S) (upFrom 0 n)) ≡ false
     go zero e = absurd (omega (arith, good .some))
     go (suc n) e = refl
 
 -- neither 10 nor 15 is met in any group
-abbrev pub Writable : Summary → Type 0
-Writable S = (all (λ g. chainsRise (graphOf S g)) (groupNumbers S) ≡ true) × (all (λ g. spansFit (graphOf S g)) (groupNumbers S) ≡ true)
+abbrev pub Writable : (K : ℕ) → Summary → Type 0
+Writable K S = (all (λ g. chainsRise (graphOf S g)) (groupNumbers S) ≡ true) × (all (λ g. spansFit K (graphOf S g)) (groupNumbers S) ≡ true)
 
-pub cleanable-again : (S : Summary) → Good S → Writable S → Cleanable (outputs S)
-cleanable-again S good w =
-    let again = subst Writable (sym (summary-again S good)) w in record {
-      fits = files-fit S good (w .1);
-      files = some-output S good;
-      records = records-within S good;
-      numbers = numbers-within S good;
-      rules = files-rules S good;
-      newLists = rw (archive-again S good) (few-entries S good);
-      survivors = rw (archive-again S good) (groups-survive S good);
+pub cleanable-again : (K : ℕ) (served : Served K) → (S : Summary) → Good K S → Writable K S → Cleanable K (outputs K S)
+cleanable-again K served S good w =
+    let again = subst (Writable K) (sym (summary-again K served S good)) w in record {
+      fits = files-fit K served S good (w .1);
+      files = some-output K served S good;
+      records = records-within K served S good;
+      numbers = numbers-within K served S good;
+      rules = files-rules K served S good;
+      newLists = rw (archive-again K served S good) (few-entries K served S good);
+      survivors = rw (archive-again K served S good) (groups-survive K served S good);
       chains = again .0;
       spans = again .1;
     }

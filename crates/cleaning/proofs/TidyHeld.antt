@@ -12,7 +12,7 @@ use Rattle.lists.specs.Lists.{upFrom, Each}
 use Rattle.lists.specs.Order.{rising, notFalling}
 use Rattle.lists.proofs.Tests.{all-each, all-of}
 use Rattle.lists.proofs.Each.{each-imp, each-map, each-all, each-append}
-use Rattle.columns.specs.Limits.{kinds}
+use Rattle.columns.specs.Limits.{Served}
 use Rattle.columns.specs.Building.{inFile}
 use Rattle.cover.specs.Chains.{Link}
 use Rattle.archive.specs.File.{Unresolved, Root}
@@ -27,28 +27,28 @@ use Rattle.cleaning.proofs.HeldRows.{HeldLast, Ready, held-with}
 use Rattle.cleaning.proofs.Orderly.{Orderly, fit-append, fit-grown, label-there, fit-source}
 use Rattle.cleaning.proofs.Orders.{level-append, level-raise, level-same, rising-append, rising-shift}
 
-pub groups-below : (h : Held) → Tidy (h .sheet) → Each (λ g. g < length (h .sheet .groups)) (h .sheet .rowGroups)
-groups-below h t =
+pub groups-below : (K : ℕ) (served : Served K) → (h : Held) → Tidy K (h .sheet) → Each (λ g. g < length (h .sheet .groups)) (h .sheet .rowGroups)
+groups-below K served h t =
     let n = length (h .sheet .groups) in
     each-imp (λ g. ltb g n ≡ true) (λ g. g < n) (h .sheet .rowGroups) (λ g l. ltb-true g n l) (all-each (λ g. ltb g n) (h .sheet .rowGroups) (t .groupsKnown))
 
 -- ── a source more ────────────────────────────────────────────────────────────────────────────
 
-module _ (h : Held) (s : Source) (q : Ready h s) (d : Sound s) (o : Orderly s) (t : Tidy (h .sheet)) where
-  last : HeldLast s (heldWith h s)
-  last = held-with h s q d
+module _ (K : ℕ) (served : Served K) (h : Held) (s : Source) (q : Ready K h s) (d : Sound K s) (o : Orderly s) (t : Tidy K (h .sheet)) where
+  last : HeldLast K s (heldWith h s)
+  last = held-with K served h s q d
 
   groups-order : notFalling (h .sheet .rowGroups ++ map (λ r. s .group) (s .rows)) ≡ true
   unfolding notFalling
   groups-order =
       level-append 0 (s .group) (h .sheet .rowGroups) (map (λ r. s .group) (s .rows)) (t .groupOrder) (omega arith)
-      (each-imp (λ g. g < length (h .sheet .groups)) (λ g. g ≤ s .group) (h .sheet .rowGroups) (λ g l. omega (arith, q .last)) (groups-below h t))
+      (each-imp (λ g. g < length (h .sheet .groups)) (λ g. g ≤ s .group) (h .sheet .rowGroups) (λ g l. omega (arith, q .last)) (groups-below K served h t))
       (level-same (s .group) (s .rows))
 
   groups-known : Each (λ g. g < suc (s .group)) (h .sheet .rowGroups ++ map (λ r. s .group) (s .rows))
   groups-known =
       each-append (λ g. g < suc (s .group)) (h .sheet .rowGroups) (map (λ r. s .group) (s .rows))
-      (each-imp (λ g. g < length (h .sheet .groups)) (λ g. g < suc (s .group)) (h .sheet .rowGroups) (λ g l. omega (arith, q .last)) (groups-below h t))
+      (each-imp (λ g. g < length (h .sheet .groups)) (λ g. g < suc (s .group)) (h .sheet .rowGroups) (λ g l. omega (arith, q .last)) (groups-below K served h t))
       (each-map (λ g. g < suc (s .group)) (λ r. s .group) (s .rows) (each-all (λ r. s .group < suc (s .group)) (λ r. omega arith) (s .rows)))
 
   roots-order : rising (map (λ r. r .row) (h .sheet .roots ++ shifted (rowCount (h .sheet)) (s .roots))) ≡ true
@@ -89,7 +89,7 @@ module _ (h : Held) (s : Source) (q : Ready h s) (d : Sound s) (o : Orderly s) (
       (each-imp (λ l. l .group < length (h .sheet .groups)) (λ l. l .group ≤ s .group) (h .sheet .links) (λ l b. omega (arith, q .last)) (q .links)))
       (level-same (s .group) links))
 
-  pub tidy-with : Tidy ((heldWith h s) .sheet)
+  pub tidy-with : Tidy K ((heldWith h s) .sheet)
   unfolding heldWith sheetWith inFile
   tidy-with =
       let s′ = sheetWith (h .sheet) s in
@@ -99,7 +99,7 @@ module _ (h : Held) (s : Source) (q : Ready h s) (d : Sound s) (o : Orderly s) (
       record {
         eachGroup = eq-eqb (length (s′ .rowGroups)) n (r .groups ∙ sym (r .tags));
         eachLabel = eq-eqb (length (s′ .labels)) n (r .labels ∙ sym (r .tags));
-        eachList = eq-eqb (length (s′ .lists)) (kinds * n) (r .lists ∙ ap (λ m. kinds * m) (sym (r .tags)));
+        eachList = eq-eqb (length (s′ .lists)) (K * n) (r .lists ∙ ap (λ m. K * m) (sym (r .tags)));
         groupOrder = groups-order;
         groupsKnown = all-of (λ g. ltb g (length (s′ .groups))) (s′ .rowGroups)
             (each-imp (λ g. g < suc (s .group)) (λ g. ltb g (length (s′ .groups)) ≡ true) (s′ .rowGroups)
@@ -120,7 +120,7 @@ module _ (h : Held) (s : Source) (q : Ready h s) (d : Sound s) (o : Orderly s) (
         labelled =
             fit-append (s′ .groups) (h .sheet .rowGroups) (map (λ r. s .group) (s .rows)) (h .sheet .labels) (map (labelIn (s .cover)) (upFrom 0 (length (s .rows))))
             (fit-grown (s .group) (h .sheet .groups) (record { depth = s .depth; covered = isThere (s .cover) })
-            (h .sheet .rowGroups) (h .sheet .labels) (groups-below h t) (t .labelled))
+            (h .sheet .rowGroups) (h .sheet .labels) (groups-below K served h t) (t .labelled))
             (fit-source (s′ .groups) (s .group) (s .cover) 0 (s .rows) (last .covered)
             (λ j l. ap (λ i. isThere (labelIn (s .cover) i)) (zero-add j) ∙ label-there (length (s .rows)) (s .cover) j (o .labels) l));
       }

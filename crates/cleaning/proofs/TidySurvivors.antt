@@ -5,6 +5,7 @@ use mathlib.Core.Logic.{inl, inr}
 use mathlib.Core.List.{List, [], _∷_, _++_, map}
 use mathlib.Core.Option.{Option}
 use Prim.Native.Nat.{ℕ, zero, suc, _+_, _-_, _*_, _≤_, _<_}
+use native.Mathlib.Nat.{mul-le-mul-left}
 use native.Mathlib.Omega.{arith}
 use lib.Dec.{leb, ltb}
 use lib.ListN.{length, getD}
@@ -16,7 +17,7 @@ use Rattle.lists.proofs.Each.{each-imp, each-both, each-map, each-all, each-fla
 use Rattle.lists.proofs.Filters.{each-filter, filter-passes, each-below}
 use Rattle.lists.proofs.Flat.{length-upFrom}
 use Rattle.lists.proofs.Rising.{rises-lower, rises-rising, level-lower}
-use Rattle.columns.specs.Limits.{kinds}
+use Rattle.columns.specs.Limits.{Served}
 use Rattle.columns.specs.Reading.{Label}
 use Rattle.columns.specs.Building.{inFile}
 use Rattle.cover.specs.Chains.{Link, sortLinks}
@@ -147,17 +148,17 @@ module _ (f : ℕ → List Link) where
 
 -- ── the sheet of the survivors ───────────────────────────────────────────────────────────────
 
-module _ (h : Held) (r : Rows h) (t : Tidy (h .sheet)) (lists : List (List ℕ)) (w : length lists ≡ kinds * length (h .erased)) where
-  slots-kept : length (keepSlots (h .erased) lists) ≡ kinds * length (filter not (h .erased))
+module _ (K : ℕ) (served : Served K) (h : Held) (r : Rows K h) (t : Tidy K (h .sheet)) (lists : List (List ℕ)) (w : length lists ≡ K * length (h .erased)) where
+  slots-kept : length (keepSlots K (h .erased) lists) ≡ K * length (filter not (h .erased))
   slots-kept =
       let n = length (h .erased) in
-      let f : ℕ → List (List ℕ) = λ i. part (kinds * i) kinds lists in
-      rw (keep-slots (h .erased) lists)
-      (length-wide f kinds (keep (h .erased) (upFrom 0 n))
-      (each-keep (λ i. length (f i) ≡ kinds) (h .erased) (upFrom 0 n) (each-below _ n (λ i l. length-part (kinds * i) kinds lists (omega (arith, w)))))
-      ∙ ap (λ m. kinds * m) (length-keep (h .erased) (upFrom 0 n) (length-upFrom 0 n)))
+      let f : ℕ → List (List ℕ) = λ i. part (K * i) K lists in
+      rw (keep-slots K served (h .erased) lists)
+      (length-wide f K (keep (h .erased) (upFrom 0 n))
+      (each-keep (λ i. length (f i) ≡ K) (h .erased) (upFrom 0 n) (each-below _ n (λ i l. length-part (K * i) K lists (omega (arith, w, mul-le-mul-left K l)))))
+      ∙ ap (λ m. K * m) (length-keep (h .erased) (upFrom 0 n) (length-upFrom 0 n)))
 
-  pub tidy-survivors : Tidy (survivorSheet h lists)
+  pub tidy-survivors : Tidy K (survivorSheet K h lists)
   unfolding survivorSheet notFalling sortGroups inFile
   tidy-survivors =
       let s = h .sheet in
@@ -167,7 +168,7 @@ module _ (h : Held) (r : Rows h) (t : Tidy (h .sheet)) (lists : List (List ℕ))
       record {
         eachGroup = eq-eqb (length (keep es (s .rowGroups))) (length (keep es (s .tags))) (length-keep es (s .rowGroups) (r .groups) ∙ sym rows);
         eachLabel = eq-eqb (length (keep es (s .labels))) (length (keep es (s .tags))) (length-keep es (s .labels) (r .labels) ∙ sym rows);
-        eachList = eq-eqb (length (keepSlots es lists)) (kinds * length (keep es (s .tags))) (slots-kept ∙ ap (λ m. kinds * m) (sym rows));
+        eachList = eq-eqb (length (keepSlots K es lists)) (K * length (keep es (s .tags))) (slots-kept ∙ ap (λ m. K * m) (sym rows));
         groupOrder = level-keep 0 es (s .rowGroups) (t .groupOrder);
         groupsKnown = all-keep (λ g. ltb g (length (s .groups))) es (s .rowGroups) (t .groupsKnown);
         rootOrder = roots-rise es (s .roots) (t .rootOrder) (r .roots);

@@ -11,9 +11,10 @@ use lib.ListN.{length, getD, length-append, length-map}
 use lib.Seq.{ext-getD}
 use Rattle.lists.specs.Lists.{flat, filter, joined, mem, sum, upFrom}
 use Rattle.lists.specs.Order.{sort}
+use Rattle.lists.proofs.Slots.{slot-parts, row-under, kind-under}
 use Rattle.lists.proofs.Tests.{tested}
 use Rattle.lists.proofs.Flat.{length-flat, sum-append}
-use Rattle.columns.specs.Limits.{kinds}
+use Rattle.columns.specs.Limits.{Served}
 use Rattle.columns.specs.Questions.{listOf}
 use Rattle.columns.specs.Building.{inFile, childrenTo, slotTable, naming, reverseLists, inboundLists}
 use Rattle.columns.proofs.Turned.{length-table, list-table}
@@ -26,56 +27,56 @@ use Rattle.lists.proofs.Rising.{length-sort}
 -- ── tables ───────────────────────────────────────────────────────────────────────────────────
 
 -- the entries of a table, kind by kind
-table-entries : (f : ℕ → ℕ → List ℕ) (first rows : ℕ)
-    → sum length (slotTable f first rows) ≡ sum (λ k. sum (λ n. length (f n k)) (upFrom first rows)) (upFrom 0 kinds)
+table-entries : (K : ℕ) (served : Served K) → (f : ℕ → ℕ → List ℕ) (first rows : ℕ)
+    → sum length (slotTable K f first rows) ≡ sum (λ k. sum (λ n. length (f n k)) (upFrom first rows)) (upFrom 0 K)
 unfolding slotTable
-table-entries f first rows =
-    sum-flat length (λ n. map (f n) (upFrom 0 kinds)) (upFrom first rows)
-    ∙ sum-equal (λ n. sum length (map (f n) (upFrom 0 kinds))) (λ n. sum (λ k. length (f n k)) (upFrom 0 kinds))
-    (λ n. sum-map length (f n) (upFrom 0 kinds)) (upFrom first rows)
-    ∙ sum-swap (λ n k. length (f n k)) (upFrom first rows) (upFrom 0 kinds)
+table-entries K served f first rows =
+    sum-flat length (λ n. map (f n) (upFrom 0 K)) (upFrom first rows)
+    ∙ sum-equal (λ n. sum length (map (f n) (upFrom 0 K))) (λ n. sum (λ k. length (f n k)) (upFrom 0 K))
+    (λ n. sum-map length (f n) (upFrom 0 K)) (upFrom first rows)
+    ∙ sum-swap (λ n k. length (f n k)) (upFrom first rows) (upFrom 0 K)
 
 -- the list of the number and the kind of a slot
-list-slot : (first : ℕ) (lists : List (List ℕ)) (j : ℕ) → listOf first lists (j % kinds) (first + j / kinds) ≡ getD lists j []
+list-slot : (K : ℕ) (served : Served K) → (first : ℕ) (lists : List (List ℕ)) (j : ℕ) → listOf K first lists (j % K) (first + j / K) ≡ getD lists j []
 unfolding listOf
-list-slot first lists j =
-    rw (le-ltb (first + j / kinds) first (omega arith))
-    (ap (λ i. getD lists i []) {x = kinds * (first + j / kinds - first) + j % kinds} {y = j} (omega arith))
+list-slot K served first lists j =
+    rw (le-ltb (first + j / K) first (omega arith))
+    (ap (λ i. getD lists i []) {x = K * (first + j / K - first) + j % K} {y = j} (let z : first + j / K - first ≡ j / K = omega arith in rw z (slot-parts K j)))
 
 -- lists are the table of the lists of their numbers
-table-back : (first rows : ℕ) (lists : List (List ℕ)) → length lists ≡ kinds * rows → slotTable (λ n k. listOf first lists k n) first rows ≡ lists
-table-back first rows lists e =
-    let f : ℕ → ℕ → List ℕ = λ n k. listOf first lists k n in
-    ext-getD [] (slotTable f first rows) lists (length-table f first rows ∙ sym e)
-    (λ j h. sym (list-slot first (slotTable f first rows) j)
-    ∙ list-table f first rows (first + j / kinds) (j % kinds) (omega arith) (omega (arith, length-table f first rows)) (omega arith)
-    ∙ list-slot first lists j)
+table-back : (K : ℕ) (served : Served K) → (first rows : ℕ) (lists : List (List ℕ)) → length lists ≡ K * rows → slotTable K (λ n k. listOf K first lists k n) first rows ≡ lists
+table-back K served first rows lists e =
+    let f : ℕ → ℕ → List ℕ = λ n k. listOf K first lists k n in
+    ext-getD [] (slotTable K f first rows) lists (length-table K f first rows ∙ sym e)
+    (λ j h. sym (list-slot K served first (slotTable K f first rows) j)
+    ∙ list-table K f first rows (first + j / K) (j % K) (omega arith) (omega (arith, row-under K rows j (served .some) (omega (arith, length-table K f first rows)))) (kind-under K j (served .some))
+    ∙ list-slot K served first lists j)
 
 -- ── reverse lists ────────────────────────────────────────────────────────────────────────────
 
-pub reverse-entries : (first rows : ℕ) (lists : List (List ℕ)) → length lists ≡ kinds * rows
-    → sum length (reverseLists first rows lists) ≤ sum length lists
+pub reverse-entries : (K : ℕ) (served : Served K) → (first rows : ℕ) (lists : List (List ℕ)) → length lists ≡ K * rows
+    → sum length (reverseLists K first rows lists) ≤ sum length lists
 unfolding reverseLists naming
-reverse-entries first rows lists e =
+reverse-entries K served first rows lists e =
     omega (
       arith,
-      table-entries (naming first rows lists) first rows,
-      table-entries list first rows,
-      ap (sum length) (table-back first rows lists e),
-      sum-below (λ k. sum (λ n. length (naming first rows lists n k)) numbers) (λ k. sum (λ n. length (list n k)) numbers) one-kind (upFrom 0 kinds),
+      table-entries K served (naming K first rows lists) first rows,
+      table-entries K served list first rows,
+      ap (sum length) (table-back K served first rows lists e),
+      sum-below (λ k. sum (λ n. length (naming K first rows lists n k)) numbers) (λ k. sum (λ n. length (list n k)) numbers) one-kind (upFrom 0 K),
     )
   where
     list : ℕ → ℕ → List ℕ
-    list n k = listOf first lists k n
+    list n k = listOf K first lists k n
 
     numbers : List ℕ
     numbers = upFrom first rows
 
-    one-kind : (k : ℕ) → sum (λ n. length (naming first rows lists n k)) numbers ≤ sum (λ n. length (list n k)) numbers
+    one-kind : (k : ℕ) → sum (λ n. length (naming K first rows lists n k)) numbers ≤ sum (λ n. length (list n k)) numbers
     one-kind k =
         omega (
           arith,
-          sum-equal (λ n. length (naming first rows lists n k)) (λ n. sum (λ m. bit (mem n (list m k))) numbers)
+          sum-equal (λ n. length (naming K first rows lists n k)) (λ n. sum (λ m. bit (mem n (list m k))) numbers)
               (λ n. length-filter (λ m. mem n (list m k)) numbers) numbers,
           sum-swap (λ n m. bit (mem n (list m k))) numbers numbers,
           sum-below (λ m. sum (λ n. bit (mem n (list m k))) numbers) (λ m. length (list m k)) (λ m. members-counted (list m k) first rows) numbers,
@@ -97,27 +98,27 @@ length-children n k (e ∷ es) = elim (tested (isTo n k e)) [
 ]
 
 -- an edge is in one list
-one-list : (e : Edge) (first rows : ℕ) → sum (λ n. sum (λ k. bit (isTo n k e)) (upFrom 0 kinds)) (upFrom first rows) ≤ 1
-one-list e first rows =
+one-list : (K : ℕ) (served : Served K) → (e : Edge) (first rows : ℕ) → sum (λ n. sum (λ k. bit (isTo n k e)) (upFrom 0 K)) (upFrom first rows) ≤ 1
+one-list K served e first rows =
     omega (
       arith,
       equal-once (e .parent) first rows,
-      sum-below (λ n. sum (λ k. bit (isTo n k e)) (upFrom 0 kinds)) (λ n. bit (eqb (e .parent) n)) (λ n. of-kind (eqb (e .parent) n)) (upFrom first rows),
+      sum-below (λ n. sum (λ k. bit (isTo n k e)) (upFrom 0 K)) (λ n. bit (eqb (e .parent) n)) (λ n. of-kind (eqb (e .parent) n)) (upFrom first rows),
     )
   where
-    of-kind : (b : Bool) → sum (λ k. bit (b && eqb (e .kind) k)) (upFrom 0 kinds) ≤ bit b
-    of-kind true = equal-once (e .kind) 0 kinds
-    of-kind false = omega (arith, sum-zero (upFrom 0 kinds))
+    of-kind : (b : Bool) → sum (λ k. bit (b && eqb (e .kind) k)) (upFrom 0 K) ≤ bit b
+    of-kind true = equal-once (e .kind) 0 K
+    of-kind false = omega (arith, sum-zero (upFrom 0 K))
 
-pub inbound-entries : (first rows : ℕ) (es : List Edge) → sum length (inboundLists first rows (inboundColumns es)) ≤ length es
+pub inbound-entries : (K : ℕ) (served : Served K) → (first rows : ℕ) (es : List Edge) → sum length (inboundLists K first rows (inboundColumns es)) ≤ length es
 unfolding inboundLists inboundColumns
-inbound-entries first rows es =
+inbound-entries K served first rows es =
     omega (
       arith,
-      table-entries list first rows,
-      sum-equal (λ k. sum (λ n. length (list n k)) numbers) (λ k. sum (λ e. sum (λ n. bit (isTo n k e)) numbers) es) one-kind (upFrom 0 kinds),
-      sum-swap (λ k e. sum (λ n. bit (isTo n k e)) numbers) (upFrom 0 kinds) es,
-      sum-below (λ e. sum (λ k. sum (λ n. bit (isTo n k e)) numbers) (upFrom 0 kinds)) (λ e. 1) one-edge es,
+      table-entries K served list first rows,
+      sum-equal (λ k. sum (λ n. length (list n k)) numbers) (λ k. sum (λ e. sum (λ n. bit (isTo n k e)) numbers) es) one-kind (upFrom 0 K),
+      sum-swap (λ k e. sum (λ n. bit (isTo n k e)) numbers) (upFrom 0 K) es,
+      sum-below (λ e. sum (λ k. sum (λ n. bit (isTo n k e)) numbers) (upFrom 0 K)) (λ e. 1) one-edge es,
       sum-ones es,
     )
   where
@@ -135,8 +136,8 @@ inbound-entries first rows es =
         sum-equal (λ n. length (list n k)) (λ n. sum (λ e. bit (isTo n k e)) es) (λ n. length-sort (to n k) ∙ length-children n k es) numbers
         ∙ sum-swap (λ n e. bit (isTo n k e)) numbers es
 
-    one-edge : (e : Edge) → sum (λ k. sum (λ n. bit (isTo n k e)) numbers) (upFrom 0 kinds) ≤ 1
-    one-edge e = omega (arith, sum-swap (λ k n. bit (isTo n k e)) (upFrom 0 kinds) numbers, one-list e first rows)
+    one-edge : (e : Edge) → sum (λ k. sum (λ n. bit (isTo n k e)) numbers) (upFrom 0 K) ≤ 1
+    one-edge e = omega (arith, sum-swap (λ k n. bit (isTo n k e)) (upFrom 0 K) numbers, one-list K served e first rows)
 
 -- ── edges into some numbers ──────────────────────────────────────────────────────────────────
 

@@ -14,7 +14,7 @@ use Rattle.lists.specs.Lists.{flat, once, distinct, upFrom, Each}
 use Rattle.lists.proofs.Each.{each-imp, each-all, each-getD}
 use Rattle.lists.proofs.Flat.{flat-ext, map-ext}
 use Rattle.lists.proofs.Once.{once-distinct}
-use Rattle.columns.specs.Limits.{kinds}
+use Rattle.columns.specs.Limits.{Served}
 use Rattle.cover.specs.Chains.{Link}
 use Rattle.cover.proofs.Links.{sort-sorted}
 use Rattle.cleaning.specs.Archive.{Group, Archive, blank, at, parentsOf}
@@ -96,12 +96,12 @@ survivors-all S = survivors-from (S .start) (S .rows)
 
 -- ── rows stay ────────────────────────────────────────────────────────────────────────────────
 
-lists-row : (n i : ℕ) (rs : List Kept) → RowsFrom n rs → i < length rs → GoodLists (n + i) (getD rs i blankRow .parents)
-lists-row n i [] h l = absurd (not-suc-le-zero l)
-lists-row n zero (r ∷ rs) h l = rw (add-zero n) (h .0)
-lists-row n (suc i) (r ∷ rs) h l = let e : suc n + i ≡ n + suc i = omega arith in rw e at (lists-row (suc n) i rs (h .1) (le-of-suc-le-suc l))
+lists-row : (K : ℕ) (served : Served K) → (n i : ℕ) (rs : List Kept) → RowsFrom K n rs → i < length rs → GoodLists K (n + i) (getD rs i blankRow .parents)
+lists-row K served n i [] h l = absurd (not-suc-le-zero l)
+lists-row K served n zero (r ∷ rs) h l = rw (add-zero n) (h .0)
+lists-row K served n (suc i) (r ∷ rs) h l = let e : suc n + i ≡ n + suc i = omega arith in rw e at (lists-row K served (suc n) i rs (h .1) (le-of-suc-le-suc l))
 
-module _ (S : Summary) (good : Good S) (i : ℕ) (l : i < length (S .rows)) where
+module _ (K : ℕ) (served : Served K) (S : Summary) (good : Good K S) (i : ℕ) (l : i < length (S .rows)) where
   abbrev p : ℕ
   p = S .start + i
 
@@ -111,10 +111,10 @@ module _ (S : Summary) (good : Good S) (i : ℕ) (l : i < length (S .rows)) wher
   this-row : rowAt S p ≡ row
   this-row = ap (λ j. getD (S .rows) j blankRow) {x = S .start + i - S .start} {y = i} (omega arith)
 
-  pub parents-stay : (k : ℕ) → k < kinds → newParents (unerased S) k p ≡ getD (row .parents) k []
+  pub parents-stay : (k : ℕ) → k < K → newParents (unerased S) k p ≡ getD (row .parents) k []
   unfolding newParents parentsOf
   parents-stay k h =
-      let lists = lists-row (S .start) i (S .rows) (good .lists) l in
+      let lists = lists-row K served (S .start) i (S .rows) (good .lists) l in
       let inside : k < length (row .parents) = omega (arith, lists .each-kind) in
       let ps = getD (row .parents) k [] in
       let e : ends (unerased S) k p ≡ ps = ends-parents S k p ∙ ap (parentsOf k) (at-row S p ∙ ap eventOf this-row) in
@@ -124,12 +124,12 @@ module _ (S : Summary) (good : Good S) (i : ℕ) (l : i < length (S .rows)) wher
       (each-getD (λ qs. Each (λ q. q < p) qs) (row .parents) k [] (lists .below) inside))
       ∙ map-id ps)
 
-  row-stays : keptBy (unerased S) p ≡ row
+  row-stays : keptBy K (unerased S) p ≡ row
   unfolding keptBy
   row-stays =
-      let lists = lists-row (S .start) i (S .rows) (good .lists) l in
+      let lists = lists-row K served (S .start) i (S .rows) (good .lists) l in
       let new : ℕ → List ℕ = λ k. newParents (unerased S) k p in
-      let same : map new (upFrom 0 kinds) ≡ row .parents =
+      let same : map new (upFrom 0 K) ≡ row .parents =
       ap (λ n. map new (upFrom 0 n)) (sym (lists .each-kind))
       ∙ map-places new 0 (row .parents) [] (λ k h. ap new (zero-add k) ∙ parents-stay k (omega (arith, lists .each-kind))) in
       λ j. record { body = ap (λ e. e .body) (at-row S p ∙ ap eventOf this-row) j; parents = same j }
@@ -144,9 +144,9 @@ groups-stay : (gs : List Group) → Each GoodGroup gs → map groupSummary gs �
 groups-stay [] h = refl
 groups-stay (g ∷ gs) h = ap₂ (λ x xs. x ∷ xs) (λ i. record { depth = g .depth; links = links-stay (g .links) (h .0 .2) i }) (groups-stay gs (h .1))
 
-pub summary-unerased : (S : Summary) → Good S → summary (unerased S) ≡ S
+pub summary-unerased : (K : ℕ) (served : Served K) → (S : Summary) → Good K S → summary K (unerased S) ≡ S
 unfolding summary
-summary-unerased S good =
-    let rows : map (keptBy (unerased S)) (survivors (unerased S)) ≡ S .rows =
-    rw (survivors-all S) (map-places (keptBy (unerased S)) (S .start) (S .rows) blankRow (row-stays S good)) in
+summary-unerased K served S good =
+    let rows : map (keptBy K (unerased S)) (survivors (unerased S)) ≡ S .rows =
+    rw (survivors-all S) (map-places (keptBy K (unerased S)) (S .start) (S .rows) blankRow (row-stays K served S good)) in
     λ i. record { start = S .start; subject = S .subject; groups = groups-stay (S .groups) (good .groups) i; rows = rows i }

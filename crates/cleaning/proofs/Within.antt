@@ -8,6 +8,7 @@ use native.Mathlib.Omega.{arith}
 use lib.Dec.{ltb}
 use lib.ListN.{length, length-append, length-map}
 use borrow.Author.Tests.{ltb-true, ltb-false}
+use Rattle.columns.specs.Limits.{Served}
 use Rattle.lists.specs.Lists.{all, filter, joined, Each}
 use Rattle.lists.proofs.Tests.{tested, all-append}
 use Rattle.lists.proofs.Each.{each-imp}
@@ -18,7 +19,7 @@ use Rattle.cleaning.proofs.RowRules.{in-file, before-file, past-file}
 
 -- ── one range ────────────────────────────────────────────────────────────────────────────────
 
-module _ (low high : ℕ) where
+module _ (K : ℕ) (served : Served K) (low high : ℕ) where
   pub length-within : (lists : List (List ℕ)) → length (within low high lists) ≡ length lists
   unfolding within
   length-within lists = length-map lists (filter (inFile low high))
@@ -29,7 +30,7 @@ module _ (low high : ℕ) where
   joined-within [] = refl
   joined-within (l ∷ lists) = rw (joined-within lists, filter-append (inFile low high) l (joined lists))
 
-  pub count-within : (first : ℕ) (lists : List (List ℕ)) → setOf first (within low high lists) .count ≡ length (filter (inFile low high) (joined lists))
+  pub count-within : (first : ℕ) (lists : List (List ℕ)) → setOf K first (within low high lists) .count ≡ length (filter (inFile low high) (joined lists))
   unfolding setOf
   count-within first lists = ap length (joined-within lists)
 
@@ -73,10 +74,10 @@ module _ {A : Type 0} (p q : A → Bool) where
 
 -- ── deltas ───────────────────────────────────────────────────────────────────────────────────
 
-module _ (first : ℕ) where
+module _ (K : ℕ) (served : Served K) (first : ℕ) where
   -- the deltas of the slots from one on
   fitFrom : ℕ → List (List ℕ) → Bool
-  fitFrom slot lists = all fits63 (joined (deltasFrom first slot lists))
+  fitFrom slot lists = all fits63 (joined (deltasFrom K first slot lists))
 
   fit-none : (slot : ℕ) → fitFrom slot [] ≡ true
   unfolding deltasFrom joined all fitFrom
@@ -88,13 +89,13 @@ module _ (first : ℕ) where
   all-deltas event (n ∷ l) = rw (all-deltas event l)
 
   fit-cons : (slot : ℕ) (l : List ℕ) (lists : List (List ℕ))
-      → fitFrom slot (l ∷ lists) ≡ (all (λ n. fits63 (deltaOf (eventOf first slot) n)) l && fitFrom (suc slot) lists)
+      → fitFrom slot (l ∷ lists) ≡ (all (λ n. fits63 (deltaOf (eventOf K first slot) n)) l && fitFrom (suc slot) lists)
   unfolding deltasFrom joined fitFrom
-  fit-cons slot l lists = rw (all-append fits63 (map (deltaOf (eventOf first slot)) l) (joined (deltasFrom first (suc slot) lists)), all-deltas (eventOf first slot) l)
+  fit-cons slot l lists = rw (all-append fits63 (map (deltaOf (eventOf K first slot)) l) (joined (deltasFrom K first (suc slot) lists)), all-deltas (eventOf K first slot) l)
 
 -- ── two ranges that follow one another ───────────────────────────────────────────────────────
 
-module _ (mid high : ℕ) where
+module _ (K : ℕ) (served : Served K) (mid high : ℕ) where
   -- a number is below the bound or not
   halves : (l : List ℕ) → Each (λ n. n < high) l → Each (λ n. inFile mid high n ≡ not (inFile 0 mid n)) l
   halves l h = each-imp (λ n. n < high) (λ n. inFile mid high n ≡ not (inFile 0 mid n)) l half h
@@ -121,19 +122,19 @@ module _ (mid high : ℕ) where
 
   module _ (first : ℕ) where
     fit-halves : (slot : ℕ) (lists : List (List ℕ)) → Each (λ l. Each (λ n. n < high) l) lists
-        → (fitFrom first slot (within 0 mid lists) && fitFrom first slot (within mid high lists)) ≡ fitFrom first slot lists
+        → (fitFrom K served first slot (within 0 mid lists) && fitFrom K served first slot (within mid high lists)) ≡ fitFrom K served first slot lists
     unfolding within
-    fit-halves slot [] h = rw (fit-none first slot)
+    fit-halves slot [] h = rw (fit-none K served first slot)
     fit-halves slot (l ∷ lists) h =
-        let t : ℕ → Bool = λ n. fits63 (deltaOf (eventOf first slot) n) in
+        let t : ℕ → Bool = λ n. fits63 (deltaOf (eventOf K first slot) n) in
         rw (
-          fit-cons first slot (filter (inFile 0 mid) l) (within 0 mid lists),
-          fit-cons first slot (filter (inFile mid high) l) (within mid high lists),
-          fit-cons first slot l lists,
+          fit-cons K served first slot (filter (inFile 0 mid) l) (within 0 mid lists),
+          fit-cons K served first slot (filter (inFile mid high) l) (within mid high lists),
+          fit-cons K served first slot l lists,
           ← all-halves (inFile 0 mid) (inFile mid high) t l (halves l (h .0)),
           ← fit-halves (suc slot) lists (h .1),
         )
-        (four (all t (filter (inFile 0 mid) l)) (fitFrom first (suc slot) (within 0 mid lists)) (all t (filter (inFile mid high) l)) (fitFrom first (suc slot) (within mid high lists)))
+        (four (all t (filter (inFile 0 mid) l)) (fitFrom K served first (suc slot) (within 0 mid lists)) (all t (filter (inFile mid high) l)) (fitFrom K served first (suc slot) (within mid high lists)))
       where
         four : (a b c d : Bool) → ((a && b) && (c && d)) ≡ ((a && c) && (b && d))
         four true true c d = refl
@@ -143,6 +144,6 @@ module _ (mid high : ℕ) where
 
     -- the deltas of both ranges fit where all fit
     pub deltas-halves : (lists : List (List ℕ)) → Each (λ l. Each (λ n. n < high) l) lists
-        → (deltasFit first (within 0 mid lists) && deltasFit first (within mid high lists)) ≡ deltasFit first lists
+        → (deltasFit K first (within 0 mid lists) && deltasFit K first (within mid high lists)) ≡ deltasFit K first lists
     unfolding deltasFit fitFrom
     deltas-halves lists h = fit-halves 0 lists h

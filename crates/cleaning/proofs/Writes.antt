@@ -3,6 +3,7 @@ use mathlib.Core.Path.{ap, sym, subst, _∙_}
 use mathlib.Core.List.{List, [], _∷_, _++_, map, append-nil, append-assoc}
 use mathlib.Core.Option.{Option, none, some}
 use Prim.Native.Nat.{ℕ}
+use Rattle.columns.specs.Limits.{Served}
 use Rattle.lists.specs.Lists.{flat, Each}
 use Rattle.lists.proofs.Each.{each-append}
 use Rattle.columns.specs.Refusal as verdict
@@ -23,18 +24,18 @@ use Rattle.cleaning.specs.Step.{Call, takes, resolves, writes, maps, cou
 use Rattle.cleaning.specs.History.{Did, did, history, took, bytesWritten}
 use Rattle.cleaning.proofs.Invariant.{no-more}
 
-abbrev pub archiveFrom : List Source → Archive
-archiveFrom ss = archiveOf (record { sources = ss })
+abbrev pub archiveFrom : (K : ℕ) → List Source → Archive
+archiveFrom K ss = archiveOf K (record { sources = ss })
 
 -- ── no other call writes ─────────────────────────────────────────────────────────────────────
 
-module _ (P : Bytes → Type 0) where
-  taking-writes-nothing : (t : Taken) (b : List ℕ) (x : Parsed (List File)) → Each P (bytesWritten (did (takes b) ((takeMore t (takenFrom (t .sources) x)) .answer)))
+module _ (K : ℕ) (served : Served K) (P : Bytes → Type 0) where
+  taking-writes-nothing : (t : Taken) (b : List ℕ) (x : Parsed (List File)) → Each P (bytesWritten (did (takes b) ((takeMore t (takenFrom K (t .sources) x)) .answer)))
   unfolding unless
   taking-writes-nothing t b broken = tt
-  taking-writes-nothing t b (got fs q) = go (takeRules (t .sources) fs)
+  taking-writes-nothing t b (got fs q) = go (takeRules K (t .sources) fs)
     where
-      go : (r : Option Refusal) → Each P (bytesWritten (did (takes b) ((takeMore t (unless r (map sourceOf fs))) .answer)))
+      go : (r : Option Refusal) → Each P (bytesWritten (did (takes b) ((takeMore t (unless r (map (sourceOf K) fs))) .answer)))
       go none = tt
       go (some r) = tt
 
@@ -49,44 +50,40 @@ module _ (P : Bytes → Type 0) where
 -- ── every write of a list ────────────────────────────────────────────────────────────────────
 
 -- Q of the sources taken so far and what is written; J of a state and the sources taken so far; C of a call
-module _
-    (Q : List Source → Bytes → Type 0)
-    (J : State → List Source → Type 0)
-    (C : Call → Type 0)
-    (goes : (s : State) (c : Call) (ss : List Source) → C c → J s ss → J ((step s c) .state) (ss ++ took (did c ((step s c) .answer))))
+module _ (K : ℕ) (served : Served K) (Q : List Source → Bytes → Type 0) (J : State → List Source → Type 0) (C : Call → Type 0)
+    (goes : (s : State) (c : Call) (ss : List Source) → C c → J s ss → J ((step K s c) .state) (ss ++ took K (did c ((step K s c) .answer))))
     (writes-so : (t : Taken) (ts : List (List (List ℕ))) (ss : List Source) (room : ℕ) → J (resolved t ts) ss
-    → Each (Q ss) (bytesWritten (did (writes room) (writeInto room (written (tabled (archiveOf t) ts))))))
-  where
-    -- of the sources so far and those of what follows
-    abbrev Q-of : List Source → List Did → Bytes → Type 0
-    Q-of ss h w = Q (ss ++ flat took h) w
+    → Each (Q ss) (bytesWritten (did (writes room) (writeInto room (written K (tabled (archiveOf K t) ts)))))) where
+  -- of the sources so far and those of what follows
+  abbrev Q-of : List Source → List Did → Bytes → Type 0
+  Q-of ss h w = Q (ss ++ flat (took K) h) w
 
-    first-write : (s : State) (c : Call) (cs : List Call) (ss : List Source) → J s ss → Each (Q-of ss (history s (c ∷ cs))) (bytesWritten (did c ((step s c) .answer)))
-    unfolding step resolve
-    first-write (taking t) (takes b) cs ss j = taking-writes-nothing (Q-of ss (history (taking t) (takes b ∷ cs))) t b (parse b)
-    first-write (taking t) resolves cs ss j =
-        resolving-writes-nothing (Q-of ss (history (taking t) (resolves ∷ cs))) t (tables (archiveOf t)) (resolveRules t (archiveOf t) (tables (archiveOf t)))
-    first-write (taking t) (writes room) cs ss j = tt
-    first-write (taking t) (maps p) cs ss j = tt
-    first-write (taking t) counts cs ss j = tt
-    first-write (taking t) (lists room) cs ss j = tt
-    first-write (resolved t ts) (takes b) cs ss j = tt
-    first-write (resolved t ts) resolves cs ss j = tt
-    first-write (resolved t ts) (writes room) cs ss j =
-        subst (λ xs. Each (Q xs) (bytesWritten (did (writes room) (writeInto room (written (tabled (archiveOf t) ts))))))
-        (sym (ap (λ xs. ss ++ xs) (no-more t ts (writes room ∷ cs)) ∙ append-nil ss)) (writes-so t ts ss room j)
-    first-write (resolved t ts) (maps p) cs ss j = tt
-    first-write (resolved t ts) counts cs ss j = tt
-    first-write (resolved t ts) (lists room) cs ss j =
-        listing-writes-nothing (Q-of ss (history (resolved t ts) (lists room ∷ cs))) room (listed room (archiveOf t) (tabled (archiveOf t) ts))
-    first-write spoiled c cs ss j = tt
+  first-write : (s : State) (c : Call) (cs : List Call) (ss : List Source) → J s ss → Each (Q-of ss (history K s (c ∷ cs))) (bytesWritten (did c ((step K s c) .answer)))
+  unfolding step resolve
+  first-write (taking t) (takes b) cs ss j = taking-writes-nothing K served (Q-of ss (history K (taking t) (takes b ∷ cs))) t b (parse K b)
+  first-write (taking t) resolves cs ss j =
+      resolving-writes-nothing K served (Q-of ss (history K (taking t) (resolves ∷ cs))) t (tables K (archiveOf K t)) (resolveRules t (archiveOf K t) (tables K (archiveOf K t)))
+  first-write (taking t) (writes room) cs ss j = tt
+  first-write (taking t) (maps p) cs ss j = tt
+  first-write (taking t) counts cs ss j = tt
+  first-write (taking t) (lists room) cs ss j = tt
+  first-write (resolved t ts) (takes b) cs ss j = tt
+  first-write (resolved t ts) resolves cs ss j = tt
+  first-write (resolved t ts) (writes room) cs ss j =
+      subst (λ xs. Each (Q xs) (bytesWritten (did (writes room) (writeInto room (written K (tabled (archiveOf K t) ts))))))
+      (sym (ap (λ xs. ss ++ xs) (no-more K served t ts (writes room ∷ cs)) ∙ append-nil ss)) (writes-so t ts ss room j)
+  first-write (resolved t ts) (maps p) cs ss j = tt
+  first-write (resolved t ts) counts cs ss j = tt
+  first-write (resolved t ts) (lists room) cs ss j =
+      listing-writes-nothing K served (Q-of ss (history K (resolved t ts) (lists room ∷ cs))) room (listed K room (archiveOf K t) (tabled (archiveOf K t) ts))
+  first-write spoiled c cs ss j = tt
 
-    pub every-write : (s : State) (cs : List Call) (ss : List Source) → Each C cs → J s ss → Each (Q-of ss (history s cs)) (flat bytesWritten (history s cs))
-    unfolding history
-    every-write s [] ss e j = tt
-    every-write s (c ∷ cs) ss e j =
-        let d : Did = did c ((step s c) .answer) in
-        let h : List Did = history ((step s c) .state) cs in
-        each-append (Q-of ss (d ∷ h)) (bytesWritten d) (flat bytesWritten h) (first-write s c cs ss j)
-        (subst (λ xs. Each (Q xs) (flat bytesWritten h)) (append-assoc ss (took d) (flat took h))
-        (every-write ((step s c) .state) cs (ss ++ took d) (e .1) (goes s c ss (e .0) j)))
+  pub every-write : (s : State) (cs : List Call) (ss : List Source) → Each C cs → J s ss → Each (Q-of ss (history K s cs)) (flat bytesWritten (history K s cs))
+  unfolding history
+  every-write s [] ss e j = tt
+  every-write s (c ∷ cs) ss e j =
+      let d : Did = did c ((step K s c) .answer) in
+      let h : List Did = history K ((step K s c) .state) cs in
+      each-append (Q-of ss (d ∷ h)) (bytesWritten d) (flat bytesWritten h) (first-write s c cs ss j)
+      (subst (λ xs. Each (Q xs) (flat bytesWritten h)) (append-assoc ss (took K d) (flat (took K) h))
+      (every-write ((step K s c) .state) cs (ss ++ took K d) (e .1) (goes s c ss (e .0) j)))

@@ -8,7 +8,7 @@ use lib.Dec.{ltb}
 use lib.ListN.{length}
 use borrow.Author.Tests.{le-leb, le-ltb}
 use Rattle.lists.specs.Lists.{isEmpty, last}
-use Rattle.columns.specs.Limits.{maxNumbers}
+use Rattle.columns.specs.Limits.{Served, maxNumbers}
 use Rattle.columns.specs.Refusal.{unless, refuse}
 use Rattle.columns.specs.declared.refusal.Refusal.the-variants.{OverRecords, OverNumbers, GroupOrder, NoSurvivor}
 use Rattle.archive.specs.File.{File}
@@ -29,46 +29,46 @@ use Rattle.cleaning.proofs.Tabled.{tabled-summary}
 use Rattle.cleaning.proofs.Goodness.{not-empty}
 use Rattle.cleaning.proofs.WriteRules.{nothing-refused}
 
-module _ (fs : List File) (c : Cleanable fs) where
+module _ (K : ℕ) (served : Served K) (fs : List File) (c : Cleanable K fs) where
   -- ── the rules of each call ───────────────────────────────────────────────────────────────────
 
-  take-none : takeRules [] fs ≡ none
+  take-none : takeRules K [] fs ≡ none
   unfolding takeRules last
-  take-none = none-of (refuse OverRecords (overRecords [] fs) ∷ refuse OverNumbers (overNumbers [] fs) ∷ filesRules none fs ∷ [])
+  take-none = none-of (refuse OverRecords (overRecords [] fs) ∷ refuse OverNumbers (overNumbers [] fs) ∷ filesRules K none fs ∷ [])
       (fails OverRecords (overRecords [] fs) (c .records), (fails OverNumbers (overNumbers [] fs) (c .numbers), (c .rules, tt)))
 
-  resolve-none : resolveRules (record { sources = map sourceOf fs }) (archiveOfFiles fs) (tables (archiveOfFiles fs)) ≡ none
+  resolve-none : resolveRules (record { sources = map (sourceOf K) fs }) (archiveOfFiles K fs) (tables K (archiveOfFiles K fs)) ≡ none
   unfolding resolveRules
   resolve-none =
-      let few = ltb maxNumbers (entries (tables (archiveOfFiles fs))) in
-      none-of (refuse GroupOrder (isEmpty (map sourceOf fs)) ∷ refuse OverNumbers few ∷ refuse NoSurvivor (not (groupsSurvive (archiveOfFiles fs))) ∷ []) (
-        fails GroupOrder (isEmpty (map sourceOf fs)) (not-empty fs (c .files)),
+      let few = ltb maxNumbers (entries (tables K (archiveOfFiles K fs))) in
+      none-of (refuse GroupOrder (isEmpty (map (sourceOf K) fs)) ∷ refuse OverNumbers few ∷ refuse NoSurvivor (not (groupsSurvive (archiveOfFiles K fs))) ∷ []) (
+        fails GroupOrder (isEmpty (map (sourceOf K) fs)) (not-empty K served fs (c .files)),
         (
-          fails OverNumbers few (le-ltb maxNumbers (entries (tables (archiveOfFiles fs))) (c .newLists)),
-          (passes NoSurvivor (groupsSurvive (archiveOfFiles fs)) (c .survivors), tt),
+          fails OverNumbers few (le-ltb maxNumbers (entries (tables K (archiveOfFiles K fs))) (c .newLists)),
+          (passes NoSurvivor (groupsSurvive (archiveOfFiles K fs)) (c .survivors), tt),
         ),
       )
 
   -- ── the calls ────────────────────────────────────────────────────────────────────────────────
 
-  taken : step fresh (takes (encode fs)) ≡ outcome (taking (record { sources = map sourceOf fs })) done
+  taken : step K fresh (takes (encode fs)) ≡ outcome (taking (record { sources = map (sourceOf K) fs })) done
   unfolding step unless
-  taken = rw (parse-encode fs (c .fits), take-none)
+  taken = rw (parse-encode K fs (c .fits), take-none)
 
-  resolved-then : step (taking (record { sources = map sourceOf fs })) resolves ≡ outcome (resolved (record { sources = map sourceOf fs }) (tables (archiveOfFiles fs))) done
+  resolved-then : step K (taking (record { sources = map (sourceOf K) fs })) resolves ≡ outcome (resolved (record { sources = map (sourceOf K) fs }) (tables K (archiveOfFiles K fs))) done
   unfolding step resolve
   resolved-then = rw resolve-none
 
-  written-then : (room : ℕ) → length (cleaned (archiveOfFiles fs)) ≤ room
-      → (step (resolved (record { sources = map sourceOf fs }) (tables (archiveOfFiles fs))) (writes room)) .answer ≡ wrote (allOf (cleaned (archiveOfFiles fs)))
+  written-then : (room : ℕ) → length (cleaned K (archiveOfFiles K fs)) ≤ room
+      → (step K (resolved (record { sources = map (sourceOf K) fs }) (tables K (archiveOfFiles K fs))) (writes room)) .answer ≡ wrote (allOf (cleaned K (archiveOfFiles K fs)))
   unfolding step written unless cleaned
   written-then room l =
       rw (
-        tabled-summary (archiveOfFiles fs) (valid-sources (map sourceOf fs) (taken-followed none fs (c .rules))),
-        nothing-refused fs c,
-        le-leb (length (cleaned (archiveOfFiles fs))) room l,
+        tabled-summary K served (archiveOfFiles K fs) (valid-sources K served (map (sourceOf K) fs) (taken-followed K served none fs (c .rules))),
+        nothing-refused K served fs c,
+        le-leb (length (cleaned K (archiveOfFiles K fs))) room l,
       )
 
-pub accepted : Accepted
+pub accepted : (K : ℕ) (served : Served K) → Accepted K
 unfolding history Wrote
-accepted fs c room l = rw (taken fs c, resolved-then fs c, written-then fs c room l) (List·Memᴰ·head refl)
+accepted K served fs c room l = rw (taken K served fs c, resolved-then K served fs c, written-then K served fs c room l) (List·Memᴰ·head refl)

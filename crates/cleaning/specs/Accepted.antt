@@ -29,27 +29,27 @@ unfoldable pub chainsRise : Graph → Bool
 chainsRise g = labelsRise (g .labels)
 
 -- nor with 15: every event minus target is a number of signed 64 bits
-unfoldable pub spansFit : Graph → Bool
-spansFit g = deltasFit (granuleStart g) (forwardPart g) && (deltasFit (granuleStart g) (reversePart g) && deltasFit (granuleStart g) (inboundPart g))
+unfoldable pub spansFit : (K : ℕ) → Graph → Bool
+spansFit K g = deltasFit K (granuleStart g) (forwardPart K g) && (deltasFit K (granuleStart g) (reversePart K g) && deltasFit K (granuleStart g) (inboundPart K g))
 
 -- valid files within the limits, with a survivor in every group and neither 10 nor 15 at writing
-pub record Cleanable (fs : List File) : Type 0 where
-  pub fits : Each FileFits fs
+pub record Cleanable (K : ℕ) (fs : List File) : Type 0 where
+  pub fits : Each (FileFits K) fs
   pub files : isEmpty fs ≡ false
   pub records : overRecords [] fs ≡ false
   pub numbers : overNumbers [] fs ≡ false
-  pub rules : filesRules none fs ≡ none
-  pub newLists : entries (tables (archiveOfFiles fs)) ≤ maxNumbers
-  pub survivors : groupsSurvive (archiveOfFiles fs) ≡ true
-  pub chains : all (λ g. chainsRise (graphOf (summary (archiveOfFiles fs)) g)) (groupNumbers (summary (archiveOfFiles fs))) ≡ true
-  pub spans : all (λ g. spansFit (graphOf (summary (archiveOfFiles fs)) g)) (groupNumbers (summary (archiveOfFiles fs))) ≡ true
+  pub rules : filesRules K none fs ≡ none
+  pub newLists : entries (tables K (archiveOfFiles K fs)) ≤ maxNumbers
+  pub survivors : groupsSurvive (archiveOfFiles K fs) ≡ true
+  pub chains : all (λ g. chainsRise (graphOf (summary K (archiveOfFiles K fs)) g)) (groupNumbers (summary K (archiveOfFiles K fs))) ≡ true
+  pub spans : all (λ g. spansFit K (graphOf (summary K (archiveOfFiles K fs)) g)) (groupNumbers (summary K (archiveOfFiles K fs))) ≡ true
 
 -- such files are taken, resolved and written, as the cleaned archive
-abbrev pub Accepted : Type 0
-Accepted = (fs : List File) → Cleanable fs → (room : ℕ) → length (cleaned (archiveOfFiles fs)) ≤ room
-    → Wrote (history fresh (takes (encode fs) ∷ resolves ∷ writes room ∷ [])) (allOf (cleaned (archiveOfFiles fs)))
+abbrev pub Accepted : (K : ℕ) → Type 0
+Accepted K = (fs : List File) → Cleanable K fs → (room : ℕ) → length (cleaned K (archiveOfFiles K fs)) ≤ room
+    → Wrote (history K fresh (takes (encode fs) ∷ resolves ∷ writes room ∷ [])) (allOf (cleaned K (archiveOfFiles K fs)))
 
 -- a cleaned archive, taken again, is written as the same bytes
-abbrev pub Idempotent : Type 0
-Idempotent = (fs : List File) → Cleanable fs → (room : ℕ) → length (cleaned (archiveOfFiles fs)) ≤ room
-    → Wrote (history fresh (takes (cleaned (archiveOfFiles fs)) ∷ resolves ∷ writes room ∷ [])) (allOf (cleaned (archiveOfFiles fs)))
+abbrev pub Idempotent : (K : ℕ) → Type 0
+Idempotent K = (fs : List File) → Cleanable K fs → (room : ℕ) → length (cleaned K (archiveOfFiles K fs)) ≤ room
+    → Wrote (history K fresh (takes (cleaned K (archiveOfFiles K fs)) ∷ resolves ∷ writes room ∷ [])) (allOf (cleaned K (archiveOfFiles K fs)))

@@ -6,7 +6,6 @@ use Prim.Native.Nat.{ℕ, zero, suc, _+_, _-_, _*_}
 use lib.Dec.{ltb, eqb}
 use lib.ListN.{getD, getElem?}
 use Rattle.lists.specs.Lists.{flat, filter, part}
-use Rattle.columns.specs.Limits.{kinds}
 use Rattle.columns.specs.Reading.{Label}
 use Rattle.columns.specs.Building.{Depth}
 use Rattle.cover.specs.Chains.{Link}
@@ -65,13 +64,13 @@ bodyOf s i row = record {
 }
 
 -- the events of a source's rows from row i on
-unfoldable pub eventsFrom : Taken → Source → ℕ → List Row → List Event
-eventsFrom t s i [] = []
-eventsFrom t s i (row ∷ rows) =
-    record { erased = isErased t (s .first + i) row; body = bodyOf s i row; parents = part (kinds * i) kinds (s .forward) } ∷ eventsFrom t s (suc i) rows
+unfoldable pub eventsFrom : (K : ℕ) → Taken → Source → ℕ → List Row → List Event
+eventsFrom K t s i [] = []
+eventsFrom K t s i (row ∷ rows) =
+    record { erased = isErased t (s .first + i) row; body = bodyOf s i row; parents = part (K * i) K (s .forward) } ∷ eventsFrom K t s (suc i) rows
 
-abbrev pub eventsOf : Taken → List Event
-eventsOf t = flat (λ s. eventsFrom t s 0 (s .rows)) (t .sources)
+abbrev pub eventsOf : (K : ℕ) → Taken → List Event
+eventsOf K t = flat (λ s. eventsFrom K t s 0 (s .rows)) (t .sources)
 
 -- ── groups ───────────────────────────────────────────────────────────────────────────────────
 
@@ -134,8 +133,8 @@ abbrev pub subjectOf : List Source → List ℕ
 subjectOf [] = []
 subjectOf (s ∷ ss) = s .subject
 
-unfoldable pub archiveOf : Taken → Archive
-archiveOf t = record { start = startOf (t .sources); subject = subjectOf (t .sources); groups = groupsOf (t .sources); events = eventsOf t }
+unfoldable pub archiveOf : (K : ℕ) → Taken → Archive
+archiveOf K t = record { start = startOf (t .sources); subject = subjectOf (t .sources); groups = groupsOf (t .sources); events = eventsOf K t }
 
 -- no event: what a number outside the archive looks up
 abbrev pub blank : Event

@@ -86,15 +86,15 @@ heldOf ss = foldl heldWith nothing ss
 
 -- ── the archive that is held ─────────────────────────────────────────────────────────────────
 
-unfoldable pub eventAt : Held → ℕ → Event
-eventAt h i = record { erased = getD (h .erased) i false; body = bodyAt (h .sheet) i; parents = parentsAt (h .sheet) i }
+unfoldable pub eventAt : (K : ℕ) → Held → ℕ → Event
+eventAt K h i = record { erased = getD (h .erased) i false; body = bodyAt (h .sheet) i; parents = parentsAt K (h .sheet) i }
 
-unfoldable pub archiveHeld : Held → Archive
-archiveHeld h = record {
+unfoldable pub archiveHeld : (K : ℕ) → Held → Archive
+archiveHeld K h = record {
   start = h .sheet .start;
   subject = h .sheet .subject;
   groups = groupsOfSheet (h .sheet);
-  events = map (eventAt h) (upFrom 0 (rowCount (h .sheet)));
+  events = map (eventAt K h) (upFrom 0 (rowCount (h .sheet)));
 }
 
 -- ── taking: 42, 43, and what a file looks back at ────────────────────────────────────────────
@@ -142,10 +142,10 @@ lookBack s =
     cond (isEmpty (s .groups)) none (some (ending g (s .subject) (s .start + rowCount s) ((getD (s .groups) g noFacts) .covered)))
 
 -- 42, 43, then file by file
-unfoldable pub holdRules : Held → List File → Option Refusal
-holdRules h fs = firstOf (refuse OverRecords (recordsOver h fs) ∷ refuse OverNumbers (numbersOver h fs) ∷ filesRules (lookBack (h .sheet)) fs ∷ [])
+unfoldable pub holdRules : (K : ℕ) → Held → List File → Option Refusal
+holdRules K h fs = firstOf (refuse OverRecords (recordsOver h fs) ∷ refuse OverNumbers (numbersOver h fs) ∷ filesRules K (lookBack (h .sheet)) fs ∷ [])
 
 -- what a run holds with an archive more; 23 comes first
-abbrev pub holdMore : Held → Parsed (List File) → Verdict Held
-holdMore h broken = refused RecordBroken
-holdMore h (got fs end) = unless (holdRules h fs) (foldl heldWith h (map sourceOf fs))
+abbrev pub holdMore : (K : ℕ) → Held → Parsed (List File) → Verdict Held
+holdMore K h broken = refused RecordBroken
+holdMore K h (got fs end) = unless (holdRules K h fs) (foldl heldWith h (map (sourceOf K) fs))

@@ -16,34 +16,34 @@ pub data Did : Type 0 where
   did : Call → Answer → Did
 
 -- each call gets the run as the last one left it
-unfoldable pub history : State → List Call → List Did
-history s [] = []
-history s (c ∷ cs) = did c ((step s c) .answer) ∷ history ((step s c) .state) cs
+unfoldable pub history : (K : ℕ) → State → List Call → List Did
+history K s [] = []
+history K s (c ∷ cs) = did c ((step K s c) .answer) ∷ history K ((step K s c) .state) cs
 
 abbrev pub filesIn : Parsed (List File) → List File
 filesIn broken = []
 filesIn (got fs end) = fs
 
 -- the archive of files taken by a fresh run, and that of bytes
-abbrev pub archiveOfFiles : List File → Archive
-archiveOfFiles fs = archiveOf (record { sources = map sourceOf fs })
+abbrev pub archiveOfFiles : (K : ℕ) → List File → Archive
+archiveOfFiles K fs = archiveOf K (record { sources = map (sourceOf K) fs })
 
-abbrev pub archiveOfBytes : List ℕ → Archive
-archiveOfBytes b = archiveOfFiles (filesIn (parse b))
+abbrev pub archiveOfBytes : (K : ℕ) → List ℕ → Archive
+archiveOfBytes K b = archiveOfFiles K (filesIn (parse K b))
 
 -- the sources of an accepted taking
-abbrev pub took : Did → List Source
-took (did (takes b) done) = map sourceOf (filesIn (parse b))
-took (did (takes b) (refused r)) = []
-took (did (takes b) (wrote w)) = []
-took (did (takes b) (told n)) = []
-took (did (takes b) (counted n)) = []
-took (did (takes b) (printed t)) = []
-took (did resolves a) = []
-took (did (writes room) a) = []
-took (did (maps p) a) = []
-took (did counts a) = []
-took (did (lists room) a) = []
+abbrev pub took : (K : ℕ) → Did → List Source
+took K (did (takes b) done) = map (sourceOf K) (filesIn (parse K b))
+took K (did (takes b) (refused r)) = []
+took K (did (takes b) (wrote w)) = []
+took K (did (takes b) (told n)) = []
+took K (did (takes b) (counted n)) = []
+took K (did (takes b) (printed t)) = []
+took K (did resolves a) = []
+took K (did (writes room) a) = []
+took K (did (maps p) a) = []
+took K (did counts a) = []
+took K (did (lists room) a) = []
 
 -- what an accepted write has written
 abbrev pub bytesWritten : Did → List Bytes
@@ -55,13 +55,13 @@ bytesWritten (did c (counted n)) = []
 bytesWritten (did c (printed t)) = []
 
 -- the archive of a list: the files of its accepted takings, in order, in however many calls
-unfoldable pub archiveIn : List Did → Archive
-archiveIn h = archiveOf (record { sources = flat took h })
+unfoldable pub archiveIn : (K : ℕ) → List Did → Archive
+archiveIn K h = archiveOf K (record { sources = flat (took K) h })
 
 -- an accepted write of a list gave w
 unfoldable pub Wrote : List Did → Bytes → Type 0
 Wrote h w = List·Memᴰ w (flat bytesWritten h)
 
 -- the cleaned archive of document 01's rules
-unfoldable pub cleaned : Archive → List ℕ
-cleaned A = bytesOf (summary A)
+unfoldable pub cleaned : (K : ℕ) → Archive → List ℕ
+cleaned K A = bytesOf K (summary K A)

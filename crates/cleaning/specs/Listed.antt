@@ -37,6 +37,6 @@ listingNeed A fs = 46 * length (A .events) + (filesNeed fs + 32)
 -- ── the listing ──────────────────────────────────────────────────────────────────────────────
 
 -- building's rules, then 41; otherwise the text
-unfoldable pub listed : ℕ → Archive → Summary → Verdict (List ℕ)
-listed room A S =
-    unless (firstOf (writeRules S ∷ refuse SliceShort (ltb room (listingNeed A (outputs S))) ∷ [])) (listingText A (outputs S))
+unfoldable pub listed : (K : ℕ) → ℕ → Archive → Summary → Verdict (List ℕ)
+listed K room A S =
+    unless (firstOf (writeRules K S ∷ refuse SliceShort (ltb room (listingNeed A (outputs K S))) ∷ [])) (listingText A (outputs K S))

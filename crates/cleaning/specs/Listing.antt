@@ -31,27 +31,27 @@ writing onRefusal onWrite (Refusal.refused r) = onRefusal r
 writing onRefusal onWrite (Refusal.accepted w) = onWrite w
 
 -- a resolved run written: `onWrite` has the archive, its output files and the bytes written
-abbrev pub writingFrom : (Refusal → List ℕ) → (Archive → List File → List ℕ → List ℕ) → State → List ℕ
-writingFrom onRefusal onWrite (taking t) = []
-writingFrom onRefusal onWrite (resolved t ts) =
-    let A = archiveOf t in let S = tabled A ts in writing onRefusal (onWrite A (outputs S)) (written S)
-writingFrom onRefusal onWrite spoiled = []
+abbrev pub writingFrom : (K : ℕ) → (Refusal → List ℕ) → (Archive → List File → List ℕ → List ℕ) → State → List ℕ
+writingFrom K onRefusal onWrite (taking t) = []
+writingFrom K onRefusal onWrite (resolved t ts) =
+    let A = archiveOf K t in let S = tabled A ts in writing onRefusal (onWrite A (outputs K S)) (written K S)
+writingFrom K onRefusal onWrite spoiled = []
 
 -- an archive taken alone by a fresh run, resolved and written
-unfoldable pub cleaning : (Refusal → List ℕ) → (Archive → List File → List ℕ → List ℕ) → List ℕ → List ℕ
-cleaning onRefusal onWrite b =
-    let first = step fresh (takes b) in
-    let second = step (first .state) resolves in
-    afterwards onRefusal (first .answer) (afterwards onRefusal (second .answer) (writingFrom onRefusal onWrite (second .state)))
+unfoldable pub cleaning : (K : ℕ) → (Refusal → List ℕ) → (Archive → List File → List ℕ → List ℕ) → List ℕ → List ℕ
+cleaning K onRefusal onWrite b =
+    let first = step K fresh (takes b) in
+    let second = step K (first .state) resolves in
+    afterwards onRefusal (first .answer) (afterwards onRefusal (second .answer) (writingFrom K onRefusal onWrite (second .state)))
 
 -- what the listing program prints of its input: `refused N` alone, or the listing; over 65,536 bytes are 41 whatever they hold
-unfoldable pub listing : List ℕ → List ℕ
+unfoldable pub listing : (K : ℕ) → List ℕ → List ℕ
 unfolding computes cleaning
-listing b =
-    let lines = cleaning refusedLine (λ A fs w. listingText A fs) b in
+listing K b =
+    let lines = cleaning K refusedLine (λ A fs w. listingText A fs) b in
     cond (ltb maxListed (length b)) (refusedLine SliceShort) lines
 
 -- the cleaned archive of an archive taken alone; nothing where any step refuses
-unfoldable pub cleanedBytes : List ℕ → List ℕ
+unfoldable pub cleanedBytes : (K : ℕ) → List ℕ → List ℕ
 unfolding computes cleaning
-cleanedBytes b = cleaning (λ r. []) (λ A fs w. w) b
+cleanedBytes K b = cleaning K (λ r. []) (λ A fs w. w) b

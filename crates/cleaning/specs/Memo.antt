@@ -6,7 +6,6 @@ use Prim.Native.Nat.{ℕ, zero, suc, _+_, _-_}
 use lib.Dec.{ltb}
 use lib.ListN.{length, getD}
 use Rattle.lists.specs.Lists.{add, upFrom}
-use Rattle.columns.specs.Limits.{kinds}
 use Rattle.cleaning.specs.Archive.{Archive, at, parentsOf}
 use Rattle.cleaning.specs.Cleaning.{renumber}
 
@@ -23,5 +22,5 @@ memo A k zero = []
 memo A k (suc n) = let t = memo A k n in t ++ (foldl (addParent A t) [] (parentsOf k (at A (A .start + n))) ∷ [])
 
 -- the new lists of all events, kind by kind
-unfoldable pub tables : Archive → List (List (List ℕ))
-tables A = map (λ k. memo A k (length (A .events))) (upFrom 0 kinds)
+unfoldable pub tables : (K : ℕ) → Archive → List (List (List ℕ))
+tables K A = map (λ k. memo A k (length (A .events))) (upFrom 0 K)

@@ -4,7 +4,6 @@ use mathlib.Core.Path.{_≡_}
 use Prim.Native.Nat.{ℕ, _<_}
 use lib.ListN.{length}
 use Rattle.lists.specs.Lists.{once, Each}
-use Rattle.columns.specs.Limits.{kinds}
 use Rattle.archive.specs.Reader.{got}
 use Rattle.archive.specs.Parse.{parse}
 use Rattle.cleaning.specs.Archive.{Archive, at, parentsOf}
@@ -21,10 +20,10 @@ pub record NewParents (A B : Archive) (p k : ℕ) : Type 0 where
   pub held : parentsOf k (at B (renumber A p)) ≡ map (renumber A) (once ends)
 
 -- bytes that hold an archive of as many events as A has survivors, each with its new parents
-pub record Renewed (A : Archive) (bytes : List ℕ) : Type 0 where
-  pub archive : parse bytes ≡ got (filesIn (parse bytes)) (length bytes)
-  pub events : length ((archiveOfBytes bytes) .events) ≡ length (survivors A)
-  pub parents : (p k : ℕ) → List·Memᴰ p (survivors A) → k < kinds → NewParents A (archiveOfBytes bytes) p k
+pub record Renewed (K : ℕ) (A : Archive) (bytes : List ℕ) : Type 0 where
+  pub archive : parse K bytes ≡ got (filesIn (parse K bytes)) (length bytes)
+  pub events : length ((archiveOfBytes K bytes) .events) ≡ length (survivors A)
+  pub parents : (p k : ℕ) → List·Memᴰ p (survivors A) → k < K → NewParents A (archiveOfBytes K bytes) p k
 
 -- a taking is given bytes
 abbrev pub OfBytes : Call → Type 0
@@ -35,5 +34,5 @@ OfBytes (maps p) = Unit {0}
 OfBytes counts = Unit {0}
 OfBytes (lists room) = Unit {0}
 
-abbrev pub ParentsWritten : Type 0
-ParentsWritten = (cs : List Call) → Each OfBytes cs → (w : Bytes) → Wrote (history fresh cs) w → Renewed (archiveIn (history fresh cs)) (w .bytes)
+abbrev pub ParentsWritten : (K : ℕ) → Type 0
+ParentsWritten K = (cs : List Call) → Each OfBytes cs → (w : Bytes) → Wrote (history K fresh cs) w → Renewed K (archiveIn K (history K fresh cs)) (w .bytes)

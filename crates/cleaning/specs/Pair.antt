@@ -3,6 +3,7 @@
 use mathlib.Core.Bool.{true, false}
 use mathlib.Core.List.{List, [], _∷_}
 use mathlib.Core.Path.{_≡_}
+use Rattle.columns.specs.Limits.{kinds}
 use Rattle.archive.specs.File.{File}
 use Rattle.archive.specs.Encode.{encode}
 use Rattle.cleaning.specs.Step.{Call, takes, resolves, writes, Bytes, allOf, fresh}
@@ -27,9 +28,9 @@ cleaningOf f = takes (encode (f ∷ [])) ∷ resolves ∷ writes 400 ∷ []
 -- the premises of the claim hold of two lists of calls that take different archives, and both lists write the same
 pub record Meets (cs ds : List Call) (w : Bytes) : Type 0 where
   pub differ : cs ≡ ds → ⊥
-  pub alike : Alike (archiveIn (history fresh cs)) (archiveIn (history fresh ds))
-  pub left : Wrote (history fresh cs) w
-  pub right : Wrote (history fresh ds) w
+  pub alike : Alike kinds (archiveIn kinds (history kinds fresh cs)) (archiveIn kinds (history kinds fresh ds))
+  pub left : Wrote (history kinds fresh cs) w
+  pub right : Wrote (history kinds fresh ds) w
 
 abbrev pub PairMeets : Type 0
-PairMeets = Meets (cleaningOf workedFile) (cleaningOf otherFile) (allOf (cleanedBytes (encode (workedFile ∷ []))))
+PairMeets = Meets (cleaningOf workedFile) (cleaningOf otherFile) (allOf (cleanedBytes kinds (encode (workedFile ∷ []))))

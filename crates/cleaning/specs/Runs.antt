@@ -59,11 +59,11 @@ abbrev pub resolveInto : Held → Sheet → Option Refusal → RunOutcome
 resolveInto h s none = runOutcome (resolved h s) done
 resolveInto h s (some r) = runOutcome (taking h) (refused r)
 
-unfoldable pub resolveHeld : Held → RunOutcome
-resolveHeld h =
-    let A = archiveHeld h in
-    let ts = tables A in
-    resolveInto h (survivorSheet h (slotted (length (A .events)) ts)) (heldRules h A ts)
+unfoldable pub resolveHeld : (K : ℕ) → Held → RunOutcome
+resolveHeld K h =
+    let A = archiveHeld K h in
+    let ts = tables K A in
+    resolveInto h (survivorSheet K h (slotted (length (A .events)) ts)) (heldRules h A ts)
 
 -- ── every call ───────────────────────────────────────────────────────────────────────────────
 
@@ -71,17 +71,17 @@ abbrev pub takeInto : Held → Verdict Held → RunOutcome
 takeInto h (Refusal.refused r) = runOutcome (taking h) (refused r)
 takeInto h (Refusal.accepted more) = runOutcome (taking more) done
 
-unfoldable pub runStep : RunState → Call → RunOutcome
-runStep (taking h) (takes b) = takeInto h (holdMore h (parse b))
-runStep (taking h) resolves = resolveHeld h
-runStep (taking h) (writes room) = runOutcome (taking h) (refused OutOfTurn)
-runStep (taking h) (maps p) = runOutcome (taking h) (refused OutOfTurn)
-runStep (taking h) counts = runOutcome (taking h) (refused OutOfTurn)
-runStep (taking h) (lists room) = runOutcome (taking h) (refused OutOfTurn)
-runStep (resolved h s) (takes b) = runOutcome (resolved h s) (refused OutOfTurn)
-runStep (resolved h s) resolves = runOutcome (resolved h s) (refused OutOfTurn)
-runStep (resolved h s) (writes room) = runOutcome (resolved h s) (writeInto room (written (summaryOf s)))
-runStep (resolved h s) (maps p) = runOutcome (resolved h s) (told (mapped (archiveHeld h) p))
-runStep (resolved h s) counts = runOutcome (resolved h s) (counted (reparented (archiveHeld h)))
-runStep (resolved h s) (lists room) = runOutcome (resolved h s) (listInto (listed room (archiveHeld h) (summaryOf s)))
-runStep spoiled c = runOutcome spoiled (refused OutOfTurn)
+unfoldable pub runStep : (K : ℕ) → RunState → Call → RunOutcome
+runStep K (taking h) (takes b) = takeInto h (holdMore K h (parse K b))
+runStep K (taking h) resolves = resolveHeld K h
+runStep K (taking h) (writes room) = runOutcome (taking h) (refused OutOfTurn)
+runStep K (taking h) (maps p) = runOutcome (taking h) (refused OutOfTurn)
+runStep K (taking h) counts = runOutcome (taking h) (refused OutOfTurn)
+runStep K (taking h) (lists room) = runOutcome (taking h) (refused OutOfTurn)
+runStep K (resolved h s) (takes b) = runOutcome (resolved h s) (refused OutOfTurn)
+runStep K (resolved h s) resolves = runOutcome (resolved h s) (refused OutOfTurn)
+runStep K (resolved h s) (writes room) = runOutcome (resolved h s) (writeInto room (written K (summaryOf K s)))
+runStep K (resolved h s) (maps p) = runOutcome (resolved h s) (told (mapped (archiveHeld K h) p))
+runStep K (resolved h s) counts = runOutcome (resolved h s) (counted (reparented (archiveHeld K h)))
+runStep K (resolved h s) (lists room) = runOutcome (resolved h s) (listInto (listed K room (archiveHeld K h) (summaryOf K s)))
+runStep K spoiled c = runOutcome spoiled (refused OutOfTurn)

@@ -9,7 +9,7 @@ use lib.Dec.{ltb, eqb}
 use lib.ListN.{length, getD}
 use Rattle.lists.specs.Lists.{flat, joined, starts, part, upFrom, all, filter}
 use Rattle.lists.specs.Order.{rising, notFalling}
-use Rattle.columns.specs.Limits.{kinds, edgeSets, maxRecords, maxGroups, maxNumbers, maxSubject}
+use Rattle.columns.specs.Limits.{edgeSets, maxRecords, maxGroups, maxNumbers, maxSubject, referenceKinds}
 use Rattle.columns.specs.Refusal.{refuse, firstOf, firstIn}
 use Rattle.columns.specs.Reading.{Label, Labels}
 use Rattle.columns.specs.Building.{Graph, Built, subjectOk, depthOk, seqsRise, reverseLists, deltasFit, buildRules, builtOf, inFile}
@@ -38,10 +38,10 @@ labelsFit fs (g ∷ gs) [] = false
 labelsFit fs (g ∷ gs) (l ∷ ls) = Bool·beq (isThere l) ((getD fs g noFacts) .covered) && labelsFit fs gs ls
 
 -- columns of one length; groups, roots, children and links in order, none outside; labels where covers are
-pub record Tidy (s : Sheet) : Type 0 where
+pub record Tidy (K : ℕ) (s : Sheet) : Type 0 where
   pub eachGroup : eqb (length (s .rowGroups)) (rowCount s) ≡ true
   pub eachLabel : eqb (length (s .labels)) (rowCount s) ≡ true
-  pub eachList : eqb (length (s .lists)) (kinds * rowCount s) ≡ true
+  pub eachList : eqb (length (s .lists)) (K * rowCount s) ≡ true
   pub groupOrder : notFalling (s .rowGroups) ≡ true
   pub groupsKnown : all (λ g. ltb g (length (s .groups))) (s .rowGroups) ≡ true
   pub rootOrder : rising (map (λ r. r .row) (s .roots)) ≡ true
@@ -93,8 +93,8 @@ abbrev pub sectionTags : Sheet → ℕ → List ℕ
 sectionTags s g = part (sectionStart s g) (sectionRows s g) (s .tags)
 
 -- the parents of the rows, slot by slot
-abbrev pub sectionLists : Sheet → ℕ → List (List ℕ)
-sectionLists s g = part (kinds * sectionStart s g) (kinds * sectionRows s g) (s .lists)
+abbrev pub sectionLists : (K : ℕ) → Sheet → ℕ → List (List ℕ)
+sectionLists K s g = part (K * sectionStart s g) (K * sectionRows s g) (s .lists)
 
 abbrev pub sectionLabels : Sheet → ℕ → List Label
 sectionLabels s g = flat labelList (part (sectionStart s g) (sectionRows s g) (s .labels))
@@ -111,25 +111,25 @@ abbrev pub sectionLinks : Sheet → ℕ → List Link
 sectionLinks s g = map (λ l. l .link) (between (λ l. l .group) g (suc g) (s .links))
 
 -- the edges of a row into the numbers from `first` up to `end`
-unfoldable pub rowEdges : Sheet → ℕ → ℕ → ℕ → List Edge
-rowEdges s first end i = edgesInto first end (s .start + i) 0 (parentsAt s i)
+unfoldable pub rowEdges : (K : ℕ) → Sheet → ℕ → ℕ → ℕ → List Edge
+rowEdges K s first end i = edgesInto first end (s .start + i) 0 (parentsAt K s i)
 
 -- the rows of other groups, in order
 unfoldable pub otherRows : Sheet → ℕ → List ℕ
 otherRows s g = upFrom 0 (sectionStart s g) ++ upFrom (sectionStart s (suc g)) (rowCount s - sectionStart s (suc g))
 
-abbrev pub sectionEdges : Sheet → ℕ → List Edge
-sectionEdges s g = flat (rowEdges s (sectionFirst s g) (sectionEnd s g)) (otherRows s g)
+abbrev pub sectionEdges : (K : ℕ) → Sheet → ℕ → List Edge
+sectionEdges K s g = flat (rowEdges K s (sectionFirst s g) (sectionEnd s g)) (otherRows s g)
 
 -- ── children ─────────────────────────────────────────────────────────────────────────────────
 
 -- the children of every row, slot by slot, out of all groups
-unfoldable pub childLists : Sheet → List (List ℕ)
-childLists s = reverseLists (s .start) (rowCount s) (s .lists)
+unfoldable pub childLists : (K : ℕ) → Sheet → List (List ℕ)
+childLists K s = reverseLists K (s .start) (rowCount s) (s .lists)
 
 -- those of group g's rows
-abbrev pub sectionChildren : Sheet → ℕ → List (List ℕ)
-sectionChildren s g = part (kinds * sectionStart s g) (kinds * sectionRows s g) (childLists s)
+abbrev pub sectionChildren : (K : ℕ) → Sheet → ℕ → List (List ℕ)
+sectionChildren K s g = part (K * sectionStart s g) (K * sectionRows s g) (childLists K s)
 
 -- ── files ────────────────────────────────────────────────────────────────────────────────────
 
@@ -143,17 +143,17 @@ coverWhere true ls links = some (record { labels = labelColumns ls; ranges = ran
 coverWhere false ls links = none
 
 -- what building is given of a group
-unfoldable pub sectionGraph : Sheet → ℕ → Graph
-sectionGraph s g = record {
+unfoldable pub sectionGraph : (K : ℕ) → Sheet → ℕ → Graph
+sectionGraph K s g = record {
   subject = s .subject;
   first = sectionFirst s g;
   rows = sectionRows s g;
-  offsets = starts 0 (sectionLists s g);
-  targets = joined (sectionLists s g);
+  offsets = starts 0 (sectionLists K s g);
+  targets = joined (sectionLists K s g);
   unresolved = unresolvedColumns (sectionUnresolved s g);
   depth = (factsOf s g) .depth;
   labels = labelsWhere ((factsOf s g) .covered) (sectionLabels s g);
-  inbound = inboundColumns (sectionEdges s g);
+  inbound = inboundColumns (sectionEdges K s g);
   granuleFirst = 0;
   granuleRows = sectionRows s g;
 }
@@ -178,27 +178,27 @@ sectionFileOf s g b = record {
 }
 
 -- the output file of a group
-unfoldable pub sectionFile : Sheet → ℕ → File
-sectionFile s g = sectionFileOf s g (builtOf (sectionGraph s g))
+unfoldable pub sectionFile : (K : ℕ) → Sheet → ℕ → File
+sectionFile K s g = sectionFileOf s g (builtOf K (sectionGraph K s g))
 
 -- of building's rules those that a run's survivors can break, in building's order
-unfoldable pub sectionFaults : Sheet → ℕ → Option Refusal
-sectionFaults s g =
+unfoldable pub sectionFaults : (K : ℕ) → Sheet → ℕ → Option Refusal
+sectionFaults K s g =
     firstOf (refuse SubjectLength (not (subjectOk (s .subject)))
-    ∷ refuse UnresolvedKind (not (all (λ u. ltb (u .kind) kinds) (sectionUnresolved s g)))
+    ∷ refuse UnresolvedKind (not (all (λ u. ltb (u .kind) referenceKinds) (sectionUnresolved s g)))
     ∷ refuse DepthOrder (not (depthOk ((factsOf s g) .depth)))
     ∷ refuse SeqNotRising (not (seqsRise [] (sectionLabels s g)))
-    ∷ refuse DeltaRange (not (deltasFit (sectionFirst s g) (sectionLists s g)))
-    ∷ refuse DeltaRange (not (deltasFit (sectionFirst s g) (sectionChildren s g)))
+    ∷ refuse DeltaRange (not (deltasFit K (sectionFirst s g) (sectionLists K s g)))
+    ∷ refuse DeltaRange (not (deltasFit K (sectionFirst s g) (sectionChildren K s g)))
     ∷ [])
 
 -- building's rules, group by group
-unfoldable pub sectionRules : Sheet → Option Refusal
-sectionRules s = firstIn (λ g. buildRules (sectionGraph s g)) (upFrom 0 (length (s .groups)))
+unfoldable pub sectionRules : (K : ℕ) → Sheet → Option Refusal
+sectionRules K s = firstIn (λ g. buildRules K (sectionGraph K s g)) (upFrom 0 (length (s .groups)))
 
 -- the archive's bytes
-unfoldable pub sectionBytes : Sheet → List ℕ
-sectionBytes s = encode (map (sectionFile s) (upFrom 0 (length (s .groups))))
+unfoldable pub sectionBytes : (K : ℕ) → Sheet → List ℕ
+sectionBytes K s = encode (map (sectionFile K s) (upFrom 0 (length (s .groups))))
 
 -- ── room ─────────────────────────────────────────────────────────────────────────────────────
 
@@ -207,15 +207,15 @@ sectionBytes s = encode (map (sectionFile s) (upFrom 0 (length (s .groups))))
 abbrev pub bareSize : ℕ
 bareSize = 6 * 6 + (31 + maxSubject) + edgeSets * (4 + 8) + 4 * 4
 
--- 65: what a row adds. Its offsets in each set, whether it is erased and its tag, its label
-abbrev pub rowSize : ℕ
-rowSize = edgeSets * (kinds * 8) + (1 + 8) + (4 + 4)
+-- what a row adds (65 for two kinds): its offsets in each set, whether it is erased and its tag, its label
+abbrev pub rowSize : (K : ℕ) → ℕ
+rowSize K = edgeSets * (K * 8) + (1 + 8) + (4 + 4)
 
 -- room for so many files, rows, unresolved records, roots, ranges, links and entries of all sets
-abbrev pub roomFor : ℕ → ℕ → ℕ → ℕ → ℕ → ℕ → ℕ → ℕ
-roomFor files rows unresolved roots ranges links entries =
-    files * bareSize + (rows * rowSize + (unresolved * 13 + (roots * 16 + (ranges * 12 + (links * 16 + entries * 8)))))
+abbrev pub roomFor : (K : ℕ) → ℕ → ℕ → ℕ → ℕ → ℕ → ℕ → ℕ → ℕ
+roomFor K files rows unresolved roots ranges links entries =
+    files * bareSize + (rows * rowSize K + (unresolved * 13 + (roots * 16 + (ranges * 12 + (links * 16 + entries * 8)))))
 
 -- room for an archive whose every count is at its limit. An entry of the new lists is in a forward set, and once more in a reverse or inbound set
-abbrev pub maxArchiveSize : ℕ
-maxArchiveSize = roomFor maxGroups maxRecords maxRecords maxRecords maxRecords maxRecords (maxNumbers + maxNumbers)
+abbrev pub maxArchiveSize : (K : ℕ) → ℕ
+maxArchiveSize K = roomFor K maxGroups maxRecords maxRecords maxRecords maxRecords maxRecords (maxNumbers + maxNumbers)

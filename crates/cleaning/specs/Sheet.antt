@@ -7,7 +7,6 @@ use Prim.Native.Nat.{ℕ, _+_, _*_}
 use lib.Dec.{eqb}
 use lib.ListN.{length, getD}
 use Rattle.lists.specs.Lists.{filter, part, upFrom}
-use Rattle.columns.specs.Limits.{kinds}
 use Rattle.columns.specs.Reading.{Label}
 use Rattle.columns.specs.Building.{Depth}
 use Rattle.cover.specs.Chains.{Link}
@@ -53,8 +52,8 @@ bodyAt s i = record {
 }
 
 -- the i-th row's parents, a list for each kind
-unfoldable pub parentsAt : Sheet → ℕ → List (List ℕ)
-parentsAt s i = part (kinds * i) kinds (s .lists)
+unfoldable pub parentsAt : (K : ℕ) → Sheet → ℕ → List (List ℕ)
+parentsAt K s i = part (K * i) K (s .lists)
 
 -- the links of a group, in order
 unfoldable pub linksOf : List GroupLink → ℕ → List Link
@@ -69,10 +68,10 @@ unfoldable pub groupsOfSheet : Sheet → List Group
 groupsOfSheet s = groupsFrom (s .links) 0 (s .groups)
 
 -- the summary that a sheet of survivors holds
-unfoldable pub summaryOf : Sheet → Summary
-summaryOf s = record {
+unfoldable pub summaryOf : (K : ℕ) → Sheet → Summary
+summaryOf K s = record {
   start = s .start;
   subject = s .subject;
   groups = groupsOfSheet s;
-  rows = map (λ i. kept (bodyAt s i) (parentsAt s i)) (upFrom 0 (rowCount s));
+  rows = map (λ i. kept (bodyAt s i) (parentsAt K s i)) (upFrom 0 (rowCount s));
 }

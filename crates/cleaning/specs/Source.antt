@@ -35,15 +35,15 @@ coverRead none = none
 coverRead (some c) = some (record { labels = labelsOf (c .labels .chains) (c .labels .seqs); ranges = length (c .ranges); links = storedLinks (c .links) })
 
 -- a file with its columns read
-unfoldable pub sourceOf : File → Source
-sourceOf f = record {
+unfoldable pub sourceOf : (K : ℕ) → File → Source
+sourceOf K f = record {
   first = f .first;
   group = f .group;
   subject = f .subject;
   depth = f .depth;
-  forward = slotsOf (f .first) (f .forward);
-  reverse = slotsOf (f .first) (f .reverse);
-  inbound = slotsOf (f .first) (f .inbound);
+  forward = slotsOf K (f .first) (f .forward);
+  reverse = slotsOf K (f .first) (f .reverse);
+  inbound = slotsOf K (f .first) (f .inbound);
   rows = f .rows;
   unresolved = f .unresolved;
   roots = f .roots;

@@ -84,20 +84,20 @@ abbrev pub listInto : Verdict (List ℕ) → Answer
 listInto (Refusal.refused r) = refused r
 listInto (Refusal.accepted t) = printed (allOf t)
 
-unfoldable pub resolve : Taken → Outcome
-resolve t = let A = archiveOf t in let ts = tables A in resolveBy t ts (resolveRules t A ts)
+unfoldable pub resolve : (K : ℕ) → Taken → Outcome
+resolve K t = let A = archiveOf K t in let ts = tables K A in resolveBy t ts (resolveRules t A ts)
 
-unfoldable pub step : State → Call → Outcome
-step (taking t) (takes b) = takeMore t (takenFrom (t .sources) (parse b))
-step (taking t) resolves = resolve t
-step (taking t) (writes room) = outcome (taking t) (refused OutOfTurn)
-step (taking t) (maps p) = outcome (taking t) (refused OutOfTurn)
-step (taking t) counts = outcome (taking t) (refused OutOfTurn)
-step (taking t) (lists room) = outcome (taking t) (refused OutOfTurn)
-step (resolved t ts) (takes b) = outcome (resolved t ts) (refused OutOfTurn)
-step (resolved t ts) resolves = outcome (resolved t ts) (refused OutOfTurn)
-step (resolved t ts) (writes room) = outcome (resolved t ts) (writeInto room (written (tabled (archiveOf t) ts)))
-step (resolved t ts) (maps p) = outcome (resolved t ts) (told (mapped (archiveOf t) p))
-step (resolved t ts) counts = outcome (resolved t ts) (counted (reparented (archiveOf t)))
-step (resolved t ts) (lists room) = outcome (resolved t ts) (listInto (listed room (archiveOf t) (tabled (archiveOf t) ts)))
-step spoiled c = outcome spoiled (refused OutOfTurn)
+unfoldable pub step : (K : ℕ) → State → Call → Outcome
+step K (taking t) (takes b) = takeMore t (takenFrom K (t .sources) (parse K b))
+step K (taking t) resolves = resolve K t
+step K (taking t) (writes room) = outcome (taking t) (refused OutOfTurn)
+step K (taking t) (maps p) = outcome (taking t) (refused OutOfTurn)
+step K (taking t) counts = outcome (taking t) (refused OutOfTurn)
+step K (taking t) (lists room) = outcome (taking t) (refused OutOfTurn)
+step K (resolved t ts) (takes b) = outcome (resolved t ts) (refused OutOfTurn)
+step K (resolved t ts) resolves = outcome (resolved t ts) (refused OutOfTurn)
+step K (resolved t ts) (writes room) = outcome (resolved t ts) (writeInto room (written K (tabled (archiveOf K t) ts)))
+step K (resolved t ts) (maps p) = outcome (resolved t ts) (told (mapped (archiveOf K t) p))
+step K (resolved t ts) counts = outcome (resolved t ts) (counted (reparented (archiveOf K t)))
+step K (resolved t ts) (lists room) = outcome (resolved t ts) (listInto (listed K room (archiveOf K t) (tabled (archiveOf K t) ts)))
+step K spoiled c = outcome spoiled (refused OutOfTurn)

@@ -4,7 +4,6 @@ use mathlib.Core.Option.{Option, none, some}
 use Prim.Native.Nat.{ℕ, _-_}
 use lib.ListN.{getD}
 use Rattle.lists.specs.Lists.{upFrom}
-use Rattle.columns.specs.Limits.{kinds}
 use Rattle.cover.specs.Chains.{Link, sortLinks}
 use Rattle.cleaning.specs.Archive.{Body, Group, Archive, at}
 use Rattle.cleaning.specs.Cleaning.{newParents, survivors}
@@ -35,12 +34,12 @@ abbrev pub summaryWith : (ℕ → Kept) → Archive → Summary
 summaryWith rowOf A = record { start = A .start; subject = A .subject; groups = map groupSummary (A .groups); rows = map rowOf (survivors A) }
 
 -- the row of a survivor by the routes
-unfoldable pub keptBy : Archive → ℕ → Kept
-keptBy A p = kept ((at A p) .body) (map (λ k. newParents A k p) (upFrom 0 kinds))
+unfoldable pub keptBy : (K : ℕ) → Archive → ℕ → Kept
+keptBy K A p = kept ((at A p) .body) (map (λ k. newParents A k p) (upFrom 0 K))
 
 -- an archive cleaned, by the routes
-unfoldable pub summary : Archive → Summary
-summary A = summaryWith (keptBy A) A
+unfoldable pub summary : (K : ℕ) → Archive → Summary
+summary K A = summaryWith (keptBy K A) A
 
 -- the row of a survivor out of tables that hold every event's new lists, kind by kind
 unfoldable pub keptIn : Archive → List (List (List ℕ)) → ℕ → Kept

@@ -5,7 +5,6 @@ use mathlib.Core.List.{List, [], _∷_, _++_, map}
 use Prim.Native.Nat.{ℕ, _+_, _-_, _*_}
 use lib.ListN.{length, getD, take}
 use Rattle.lists.specs.Lists.{flat, filter, part, upFrom}
-use Rattle.columns.specs.Limits.{kinds}
 use Rattle.cover.specs.Chains.{sortLinks}
 use Rattle.archive.specs.File.{Unresolved, Root}
 use Rattle.cleaning.specs.Sheet.{GroupLink, Sheet, linksOf}
@@ -22,8 +21,8 @@ unfoldable pub rankIn : List Bool → ℕ → ℕ
 rankIn es i = length (filter not (take i es))
 
 -- the lists of the rows that are not erased, slot by slot
-unfoldable pub keepSlots : List Bool → List (List ℕ) → List (List ℕ)
-keepSlots es lists = flat (λ i. cond (getD es i false) [] (part (kinds * i) kinds lists)) (upFrom 0 (length es))
+unfoldable pub keepSlots : (K : ℕ) → List Bool → List (List ℕ) → List (List ℕ)
+keepSlots K es lists = flat (λ i. cond (getD es i false) [] (part (K * i) K lists)) (upFrom 0 (length es))
 
 -- the records of survivors, their children under new numbers
 unfoldable pub keepUnresolved : ℕ → List Bool → List Unresolved → List Unresolved
@@ -39,15 +38,15 @@ unfoldable pub sortGroups : ℕ → List GroupLink → List GroupLink
 sortGroups n ls = flat (λ g. map (λ l. record { group = g; link = l }) (sortLinks (linksOf ls g))) (upFrom 0 n)
 
 -- the survivors of what is held, with every event's new lists slot by slot
-unfoldable pub survivorSheet : Held → List (List ℕ) → Sheet
-survivorSheet h lists = let s = h .sheet in record {
+unfoldable pub survivorSheet : (K : ℕ) → Held → List (List ℕ) → Sheet
+survivorSheet K h lists = let s = h .sheet in record {
   start = s .start;
   subject = s .subject;
   groups = s .groups;
   rowGroups = keep (h .erased) (s .rowGroups);
   tags = keep (h .erased) (s .tags);
   labels = keep (h .erased) (s .labels);
-  lists = keepSlots (h .erased) lists;
+  lists = keepSlots K (h .erased) lists;
   unresolved = keepUnresolved (s .start) (h .erased) (s .unresolved);
   roots = keepRoots (h .erased) (s .roots);
   links = sortGroups (length (s .groups)) (s .links);

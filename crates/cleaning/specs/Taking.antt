@@ -6,7 +6,7 @@ use Prim.Native.Nat.{ℕ, _+_}
 use lib.Dec.{ltb, eqb}
 use lib.ListN.{length}
 use Rattle.lists.specs.Lists.{all, sum, same, once, last}
-use Rattle.columns.specs.Limits.{maxRecords, maxGroups, maxNumbers, kinds}
+use Rattle.columns.specs.Limits.{maxRecords, maxGroups, maxNumbers, referenceKinds}
 use Rattle.columns.specs.Refusal.{Verdict, refused, unless, refuse, firstOf, firstIn}
 use Rattle.columns.specs.EdgeSet.{forward, reverse, inbound}
 use Rattle.columns.specs.Reading.{setRules}
@@ -78,7 +78,7 @@ fileEnd f = f .first + length (f .rows)
 -- 6 and 7 of an unresolved record
 unfoldable pub unresolvedRules : File → Unresolved → Option Refusal
 unresolvedRules f u =
-    firstOf (refuse UnresolvedChild (not (inFile (f .first) (fileEnd f) (u .child))) ∷ refuse UnresolvedKind (not (ltb (u .kind) kinds)) ∷ [])
+    firstOf (refuse UnresolvedChild (not (inFile (f .first) (fileEnd f) (u .child))) ∷ refuse UnresolvedKind (not (ltb (u .kind) referenceKinds)) ∷ [])
 
 -- 22 of a cover
 abbrev pub coverRules : Option CoverColumns → Option Refusal
@@ -86,34 +86,34 @@ coverRules none = none
 coverRules (some c) = firstOf (rangeRules (c .ranges) ∷ linkRules (c .links) ∷ [])
 
 -- 1, 3, 8, 24, 25, 26, 17 to 19 set by set, 16, 6 and 7 record by record, 22; `before` is the source taken last
-unfoldable pub fileRules : Option Source → File → Option Refusal
-fileRules before f =
+unfoldable pub fileRules : (K : ℕ) → Option Source → File → Option Refusal
+fileRules K before f =
     firstOf (refuse SubjectLength (not (subjectOk (f .subject)))
     ∷ refuse NumberRange (not (numbersOk (f .first) (length (f .rows))))
     ∷ refuse DepthOrder (not (depthOk (f .depth)))
     ∷ refuse GroupOrder (not (groupFollows before f))
     ∷ refuse SourceOrder (not (sourceFollows before f))
     ∷ refuse CoverInSome (not (coverFollows before f))
-    ∷ setRules forward (f .first) (length (f .rows)) (fileEnd f) (f .forward)
-    ∷ setRules reverse (f .first) (length (f .rows)) (fileEnd f) (f .reverse)
-    ∷ setRules inbound (f .first) (length (f .rows)) (fileEnd f) (f .inbound)
+    ∷ setRules K forward (f .first) (length (f .rows)) (fileEnd f) (f .forward)
+    ∷ setRules K reverse (f .first) (length (f .rows)) (fileEnd f) (f .reverse)
+    ∷ setRules K inbound (f .first) (length (f .rows)) (fileEnd f) (f .inbound)
     ∷ refuse RootOutside (not (all (λ r. ltb (r .row) (length (f .rows))) (f .roots)))
     ∷ firstIn (unresolvedRules f) (f .unresolved)
     ∷ coverRules (f .cover)
     ∷ [])
 
 -- file after file, each looking back at the one before it
-unfoldable pub filesRules : Option Source → List File → Option Refusal
-filesRules before [] = none
-filesRules before (f ∷ fs) = firstOf (fileRules before f ∷ filesRules (some (sourceOf f)) fs ∷ [])
+unfoldable pub filesRules : (K : ℕ) → Option Source → List File → Option Refusal
+filesRules K before [] = none
+filesRules K before (f ∷ fs) = firstOf (fileRules K before f ∷ filesRules K (some (sourceOf K f)) fs ∷ [])
 
 -- ── taking ───────────────────────────────────────────────────────────────────────────────────
 
 -- 42, 43, then file by file; a refused taking takes nothing
-unfoldable pub takeRules : List Source → List File → Option Refusal
-takeRules ss fs = firstOf (refuse OverRecords (overRecords ss fs) ∷ refuse OverNumbers (overNumbers ss fs) ∷ filesRules (last ss) fs ∷ [])
+unfoldable pub takeRules : (K : ℕ) → List Source → List File → Option Refusal
+takeRules K ss fs = firstOf (refuse OverRecords (overRecords ss fs) ∷ refuse OverNumbers (overNumbers ss fs) ∷ filesRules K (last ss) fs ∷ [])
 
 -- the sources of an archive that a run with sources `ss` is given; 23 comes first
-abbrev pub takenFrom : List Source → Parsed (List File) → Verdict (List Source)
-takenFrom ss broken = refused RecordBroken
-takenFrom ss (got fs end) = unless (takeRules ss fs) (map sourceOf fs)
+abbrev pub takenFrom : (K : ℕ) → List Source → Parsed (List File) → Verdict (List Source)
+takenFrom K ss broken = refused RecordBroken
+takenFrom K ss (got fs end) = unless (takeRules K ss fs) (map (sourceOf K) fs)

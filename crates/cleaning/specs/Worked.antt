@@ -5,6 +5,7 @@ use mathlib.Core.Option.{none, some}
 use Prim.Native.Nat.{ℕ, _+_, _-_, _^_}
 use lib.IntN.{ℤ, pos, negsuc}
 use lib.ListN.{length}
+use Rattle.columns.specs.Limits.{kinds}
 use Rattle.lists.specs.Lists.{joined, starts}
 use Rattle.lists.specs.Text.{text}
 use Rattle.columns.specs.Refusal.{Verdict, refused, accepted, numberOf}
@@ -34,9 +35,9 @@ plainFile first rows lists = record {
   group = 0;
   subject = text "room";
   depth = none;
-  forward = setOf first lists;
-  reverse = setOf first (map (λ l. []) lists);
-  inbound = setOf first (map (λ l. []) lists);
+  forward = setOf kinds first lists;
+  reverse = setOf kinds first (map (λ l. []) lists);
+  inbound = setOf kinds first (map (λ l. []) lists);
   rows = rows;
   unresolved = [];
   roots = [];
@@ -130,16 +131,16 @@ told f (accepted x) = f x
 
 -- the prev walk from 101 in the worked run's output
 unfoldable pub workedWalk : ℕ → Verdict Walked
-workedWalk limit = let f = outputOf (summary (archiveOf (record { sources = sourceOf workedFile ∷ [] }))) 0 in walk 100 2 102 (f .forward) 0 limit 101 []
+workedWalk limit = let f = outputOf kinds (summary kinds (archiveOf kinds (record { sources = sourceOf kinds workedFile ∷ [] }))) 0 in walk kinds 100 2 102 (f .forward) 0 limit 101 []
 
 -- four columns that hold stored from chains and zeros
 abbrev pub storedColumns : List ℕ → LinkColumns
 storedColumns chains = record { fromChains = chains; fromSeqs = map (λ c. 0) chains; toChains = map (λ c. 0) chains; toSeqs = map (λ c. 0) chains }
 
 unfoldable pub answerOf : Question → Reply
-answerOf (lists fs) = prints (listing (encode fs))
+answerOf (lists fs) = prints (listing kinds (encode fs))
 answerOf (walks limit) = told (λ w. walkOf (w .levels) (w .count)) (workedWalk limit)
-answerOf (builds g) = told (λ b. sets (b .forward ∷ b .reverse ∷ b .inbound ∷ [])) (build g [])
+answerOf (builds g) = told (λ b. sets (b .forward ∷ b .reverse ∷ b .inbound ∷ [])) (build kinds g [])
 answerOf (window r low high) = told yes (mayHoldChain (r ∷ []) (r .chain) low high)
 answerOf (stores chains) = column (differences 0 chains)
 answerOf (readsStored chains) = told (λ c. column (map (λ l. l .fromChain) (c .links))) (readCover [] (storedColumns chains) [])

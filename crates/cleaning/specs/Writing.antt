@@ -147,27 +147,27 @@ fileOfRows subject g group rs b = record {
 }
 
 -- the output file of a group: no erased rows, its sets made from the new lists, ranges of the survivors' labels
-unfoldable pub outputOf : Summary → ℕ → File
-outputOf S g = fileOfRows (S .subject) g (groupAt S g) (rowsIn S g) (builtOf (graphOf S g))
+unfoldable pub outputOf : (K : ℕ) → Summary → ℕ → File
+outputOf K S g = fileOfRows (S .subject) g (groupAt S g) (rowsIn S g) (builtOf K (graphOf S g))
 
 -- the numbers of the groups
 abbrev pub groupNumbers : Summary → List ℕ
 groupNumbers S = upFrom 0 (length (S .groups))
 
 -- the output files, groups rising
-unfoldable pub outputs : Summary → List File
-outputs S = map (outputOf S) (groupNumbers S)
+unfoldable pub outputs : (K : ℕ) → Summary → List File
+outputs K S = map (outputOf K S) (groupNumbers S)
 
 -- ── writing ──────────────────────────────────────────────────────────────────────────────────
 
 -- building's rules, group by group
-unfoldable pub writeRules : Summary → Option Refusal
-writeRules S = firstIn (λ g. buildRules (graphOf S g)) (groupNumbers S)
+unfoldable pub writeRules : (K : ℕ) → Summary → Option Refusal
+writeRules K S = firstIn (λ g. buildRules K (graphOf S g)) (groupNumbers S)
 
 -- the archive's bytes: the records of one output file for each group
-unfoldable pub bytesOf : Summary → List ℕ
-bytesOf S = encode (outputs S)
+unfoldable pub bytesOf : (K : ℕ) → Summary → List ℕ
+bytesOf K S = encode (outputs K S)
 
 -- what writing answers but for the room that it is lent
-unfoldable pub written : Summary → Verdict (List ℕ)
-written S = unless (writeRules S) (bytesOf S)
+unfoldable pub written : (K : ℕ) → Summary → Verdict (List ℕ)
+written K S = unless (writeRules K S) (bytesOf K S)

@@ -16,7 +16,7 @@ use Rattle.lists.proofs.Tests.{tested, any-append}
 use Rattle.lists.proofs.Once.{or-is-false}
 use Rattle.lists.proofs.Slices.{sets-front}
 use Rattle.lists.proofs.Flat.{joined-few}
-use Rattle.columns.specs.Limits.{kinds, maxNumbers}
+use Rattle.columns.specs.Limits.{maxNumbers}
 use Rattle.columns.specs.Refusal.{unless, firstOf, Lent, short, limits}
 use Rattle.columns.specs.EdgeSet.{EdgeSet, cut, fromTo, offsetsForm}
 use Rattle.columns.specs.Reading.{soundFrom, slotsOf, setRules, setLengths, decodeSet}
@@ -29,7 +29,7 @@ use Rattle.columns.specs.declared.refusal.Counted.the-variants.{Entries,
 use Rattle.columns.specs.declared.refusal.Refusal.{Refusal}
 use Rattle.columns.specs.declared.refusal.Refusal.the-variants.{OffsetsForm, DeltaCount, TargetSide, OverRecords, OverNumbers, SliceShort}
 use Rattle.columns.proofs.FirstBroken.{each-none, not-refused, passed}
-use Rattle.columns.proofs.Offsets.{form-climbs}
+use Rattle.columns.proofs.Offsets.{form-climbs, form-length}
 use Rattle.columns.proofs.Few.{few-targets}
 use Rattle.columns.proofs.Told.{last-rule, told-kept, told}
 
@@ -94,30 +94,30 @@ module _ (rows : ℕ) (over short : Bool) where
       in-limits g = rw (le-ltb 1024 rows h, f, g)
 
 -- one set that is lent by itself
-module _ (set first rows end count : ℕ) (offsets : List ℕ) (deltas : List ℤ) (out : ℕ) where
+module _ (K : ℕ) (set first rows end count : ℕ) (offsets : List ℕ) (deltas : List ℤ) (out : ℕ) where
   module _ (over : Bool) (k : Ruling) (f : over ≡ any (ltb maxNumbers) (length offsets ∷ length deltas ∷ []))
       (e : k ≡ ruling (limitsOf rows over (ltb out 4096))) where
     limits-are : limits (rows ∷ []) (setLengths (columnsOf count offsets deltas)) (room out) ≡ limitsOf rows over (ltb out 4096)
     unfolding limits limitsOf setLengths short any
     limits-are = rw (f, or-false (ltb out 4096))
 
-    pub lent-kept : k ≡ Kept → (q : Ruling) → q ≡ ruling (setRules set first rows end (columnsOf count offsets deltas))
-        → q ≡ ruling (lentRules set first rows end (columnsOf count offsets deltas) (room out))
+    pub lent-kept : k ≡ Kept → (q : Ruling) → q ≡ ruling (setRules K set first rows end (columnsOf count offsets deltas))
+        → q ≡ ruling (lentRules K set first rows end (columnsOf count offsets deltas) (room out))
     unfolding lentRules
-    lent-kept h q g = then-rest k _ _ (e ∙ ap ruling (sym limits-are)) h q (g ∙ ap ruling (sym (last-rule (setRules set first rows end (columnsOf count offsets deltas)))))
+    lent-kept h q g = then-rest k _ _ (e ∙ ap ruling (sym limits-are)) h q (g ∙ ap ruling (sym (last-rule (setRules K set first rows end (columnsOf count offsets deltas)))))
 
-    pub lent-broken : (why : Refusal) → k ≡ Broken why → Broken why ≡ ruling (lentRules set first rows end (columnsOf count offsets deltas) (room out))
+    pub lent-broken : (why : Refusal) → k ≡ Broken why → Broken why ≡ ruling (lentRules K set first rows end (columnsOf count offsets deltas) (room out))
     unfolding lentRules
     lent-broken why h = then-broken k _ _ (e ∙ ap ruling (sym limits-are)) why h
 
 -- a reverse set and an inbound set
-module _ (first rows end rc : ℕ) (ro : List ℕ) (rd : List ℤ) (ic : ℕ) (io : List ℕ) (id : List ℤ) where
-  module _ (k : Ruling) (e : k ≡ ruling (setRules 1 first rows end (columnsOf rc ro rd))) where
-    pub both-kept : k ≡ Kept → (q : Ruling) → q ≡ ruling (setRules 2 first rows end (columnsOf ic io id)) → q ≡ ruling (bothRules first rows end (columnsOf rc ro rd) (columnsOf ic io id))
+module _ (K : ℕ) (first rows end rc : ℕ) (ro : List ℕ) (rd : List ℤ) (ic : ℕ) (io : List ℕ) (id : List ℤ) where
+  module _ (k : Ruling) (e : k ≡ ruling (setRules K 1 first rows end (columnsOf rc ro rd))) where
+    pub both-kept : k ≡ Kept → (q : Ruling) → q ≡ ruling (setRules K 2 first rows end (columnsOf ic io id)) → q ≡ ruling (bothRules K first rows end (columnsOf rc ro rd) (columnsOf ic io id))
     unfolding bothRules
-    both-kept h q g = then-rest k _ _ e h q (g ∙ ap ruling (sym (last-rule (setRules 2 first rows end (columnsOf ic io id)))))
+    both-kept h q g = then-rest k _ _ e h q (g ∙ ap ruling (sym (last-rule (setRules K 2 first rows end (columnsOf ic io id)))))
 
-    pub both-broken : (why : Refusal) → k ≡ Broken why → Broken why ≡ ruling (bothRules first rows end (columnsOf rc ro rd) (columnsOf ic io id))
+    pub both-broken : (why : Refusal) → k ≡ Broken why → Broken why ≡ ruling (bothRules K first rows end (columnsOf rc ro rd) (columnsOf ic io id))
     unfolding bothRules
     both-broken why h = then-broken k _ _ e why h
 
@@ -141,8 +141,8 @@ pub few-deltas : (s : EdgeSet) → any (ltb maxNumbers) (setLengths s) ≡ false
 unfolding setLengths
 few-deltas s e = ltb-false maxNumbers (length (s .deltas)) (any-kept (ltb maxNumbers) _ _ (any-kept (ltb maxNumbers) _ _ e .1) .0)
 
-module _ (set first rows end : ℕ) (s : EdgeSet) (e : setRules set first rows end s ≡ none) where
-  pub kept-form : offsetsForm rows (s .count) (s .offsets) ≡ true
+module _ (K : ℕ) (set first rows end : ℕ) (s : EdgeSet) (e : setRules K set first rows end s ≡ none) where
+  pub kept-form : offsetsForm K rows (s .count) (s .offsets) ≡ true
   unfolding setRules
   kept-form = passed OffsetsForm _ (each-none _ e .0)
 
@@ -154,45 +154,47 @@ module _ (set first rows end : ℕ) (s : EdgeSet) (e : setRules set first rows e
         eqb-true _ _ (not-false _ (rw (lt-ltb 0 (s .count) h) at p))
 
     pub kept-climbs : fromTo 0 (length (s .deltas)) (s .offsets) ≡ true
-    kept-climbs = rw kept-count (form-climbs rows (s .count) (s .offsets) kept-form)
+    kept-climbs = rw kept-count (form-climbs K rows (s .count) (s .offsets) kept-form)
 
-    pub kept-sides : soundFrom set first end 0 (cut (s .offsets) (s .deltas)) ≡ true
+    pub kept-sides : soundFrom K set first end 0 (cut (s .offsets) (s .deltas)) ≡ true
     unfolding setRules
     kept-sides =
-        let p : ltb 0 (s .count) && not (soundFrom set first end 0 (cut (s .offsets) (s .deltas))) ≡ false = not-refused TargetSide _ (each-none _ e .1 .1 .0) in
+        let p : ltb 0 (s .count) && not (soundFrom K set first end 0 (cut (s .offsets) (s .deltas))) ≡ false = not-refused TargetSide _ (each-none _ e .1 .1 .0) in
         not-false _ (rw (lt-ltb 0 (s .count) h) at p)
 
   -- such a set has no more targets than a column holds numbers
-  pub slots-few : length (s .deltas) ≤ maxNumbers → length (joined (slotsOf first s)) ≤ maxNumbers
+  pub slots-few : length (s .deltas) ≤ maxNumbers → length (joined (slotsOf K first s)) ≤ maxNumbers
   unfolding slotsOf
   slots-few f =
-      let n = few-targets first (s .count) (s .deltas) (s .offsets) (form-climbs rows (s .count) (s .offsets) kept-form) in
+      let n = few-targets K first (s .count) (s .deltas) (s .offsets) (form-climbs K rows (s .count) (s .offsets) kept-form) in
       elim (tested (ltb 0 (s .count))) [
         | inl t ↦ omega (arith, n, kept-count (ltb-true 0 (s .count) t))
         | inr t ↦ omega (arith, n, ltb-false 0 (s .count) t)
       ]
 
-module _ (first : ℕ) (s : EdgeSet) (r : Readable first s) where
-  pub readable-few : length (joined (slotsOf first s)) ≤ maxNumbers
-  readable-few = slots-few (r .set) first (r .rows) (r .end) s (r .kept) (r .few)
+module _ (K : ℕ) (first : ℕ) (s : EdgeSet) (r : Readable K first s) where
+  pub readable-few : length (joined (slotsOf K first s)) ≤ maxNumbers
+  readable-few = slots-few K (r .set) first (r .rows) (r .end) s (r .kept) (r .few)
 
-  pub list-few : (kind number : ℕ) → length (listOf first (slotsOf first s) kind number) ≤ maxNumbers
+  pub list-few : (kind number : ℕ) → length (listOf K first (slotsOf K first s) kind number) ≤ maxNumbers
   unfolding listOf
-  list-few kind number = elim (tested (ltb number first)) [ inl e ↦ rw e (omega arith) | inr e ↦ rw e (omega (arith, joined-few (slotsOf first s) (kinds * (number - first) + kind), readable-few)) ]
+  list-few kind number = elim (tested (ltb number first)) [ inl e ↦ rw e (omega arith) | inr e ↦ rw e (omega (arith, joined-few (slotsOf K first s) (K * (number - first) + kind), readable-few)) ]
 
-pub edged : (first count : ℕ) (offsets : List ℕ) (deltas : List ℤ) → Readable first (columnsOf count offsets deltas) → (count ≡ 0 → ⊥) → Edged first offsets deltas
-edged first count offsets deltas r h =
+pub edged : (K : ℕ) → (first count : ℕ) (offsets : List ℕ) (deltas : List ℤ) → Readable K first (columnsOf count offsets deltas) → (count ≡ 0 → ⊥) → Edged K first offsets deltas
+edged K first count offsets deltas r h =
     let s = columnsOf count offsets deltas in
     record {
       set = r .set;
       end = r .end;
-      climbs = kept-climbs (r .set) first (r .rows) (r .end) s (r .kept) (omega arith);
-      sides = kept-sides (r .set) first (r .rows) (r .end) s (r .kept) (omega arith);
+      rows = r .rows;
+      whole = form-length K (r .rows) count offsets (kept-form K (r .set) first (r .rows) (r .end) s (r .kept));
+      climbs = kept-climbs K (r .set) first (r .rows) (r .end) s (r .kept) (omega arith);
+      sides = kept-sides K (r .set) first (r .rows) (r .end) s (r .kept) (omega arith);
       few = r .few;
     }
 
-module _ (set first rows end : ℕ) (s : EdgeSet) (lent : List Lent) (k : Ruling) (e : k ≡ ruling (lentRules set first rows end s lent)) where
-  pub readable : k ≡ Kept → Readable first s
+module _ (K : ℕ) (set first rows end : ℕ) (s : EdgeSet) (lent : List Lent) (k : Ruling) (e : k ≡ ruling (lentRules K set first rows end s lent)) where
+  pub readable : k ≡ Kept → Readable K first s
   unfolding lentRules
   readable h =
       let p = each-none _ (told-kept _ e h) in
@@ -204,7 +206,7 @@ module _ (set first rows end : ℕ) (s : EdgeSet) (lent : List Lent) (k : Ruling
         few = few-deltas s (few-numbers _ _ lent (p .0));
       }
 
-module _ (set first rows end : ℕ) (s : EdgeSet) (n : ℕ) (k : Ruling) (e : k ≡ ruling (lentRules set first rows end s (room n))) (h : k ≡ Kept) where
+module _ (K : ℕ) (set first rows end : ℕ) (s : EdgeSet) (n : ℕ) (k : Ruling) (e : k ≡ ruling (lentRules K set first rows end s (room n))) (h : k ≡ Kept) where
   pub lent-room : maxNumbers ≤ n
   unfolding lentRules
   lent-room = room-kept _ _ n (each-none _ (told-kept _ e h) .0)
@@ -234,21 +236,21 @@ unfolding inOne unless
 in-one none lists = refl
 in-one (some r) lists = refl
 
-module _ (set first rows end : ℕ) (s : EdgeSet) (old : List ℕ) (k : Ruling) (e : k ≡ ruling (lentRules set first rows end s (room (length old)))) where
-  decoded : inOne (decodeSet set first rows end s (room (length old))) ≡ unless (lentRules set first rows end s (room (length old))) (joined (slotsOf first s))
+module _ (K : ℕ) (set first rows end : ℕ) (s : EdgeSet) (old : List ℕ) (k : Ruling) (e : k ≡ ruling (lentRules K set first rows end s (room (length old)))) where
+  decoded : inOne (decodeSet K set first rows end s (room (length old))) ≡ unless (lentRules K set first rows end s (room (length old))) (joined (slotsOf K first s))
   unfolding decodeSet lentRules
   decoded = in-one _ _
 
-  pub set-counted : k ≡ Kept → (n : ℕ) → n ≡ length (joined (slotsOf first s)) → Entries n ≡ countedOf (inOne (decodeSet set first rows end s (room (length old))))
+  pub set-counted : k ≡ Kept → (n : ℕ) → n ≡ length (joined (slotsOf K first s)) → Entries n ≡ countedOf (inOne (decodeSet K set first rows end s (room (length old))))
   set-counted h n f = rw decoded (list-counted k _ _ old e h n f)
 
-  pub set-written : k ≡ Kept → (out : List ℕ) → out ≡ sets old 0 (joined (slotsOf first s)) → out ≡ writtenOver old (inOne (decodeSet set first rows end s (room (length old))))
+  pub set-written : k ≡ Kept → (out : List ℕ) → out ≡ sets old 0 (joined (slotsOf K first s)) → out ≡ writtenOver old (inOne (decodeSet K set first rows end s (room (length old))))
   set-written h out f =
-      let n = lent-room set first rows end s (length old) k e h in
-      rw decoded (list-written k _ _ old e h (omega (arith, n, readable-few first s (readable set first rows end s (room (length old)) k e h))) out f)
+      let n = lent-room K set first rows end s (length old) k e h in
+      rw decoded (list-written k _ _ old e h (omega (arith, n, readable-few K first s (readable K set first rows end s (room (length old)) k e h))) out f)
 
-  pub set-refused : (why : Refusal) → k ≡ Broken why → Refused why ≡ countedOf (inOne (decodeSet set first rows end s (room (length old))))
-  set-refused why h = rw decoded (list-refused k _ (joined (slotsOf first s)) old e why h)
+  pub set-refused : (why : Refusal) → k ≡ Broken why → Refused why ≡ countedOf (inOne (decodeSet K set first rows end s (room (length old))))
+  set-refused why h = rw decoded (list-refused k _ (joined (slotsOf K first s)) old e why h)
 
-  pub set-as-was : (why : Refusal) → k ≡ Broken why → old ≡ writtenOver old (inOne (decodeSet set first rows end s (room (length old))))
-  set-as-was why h = rw decoded (list-as-was k _ (joined (slotsOf first s)) old e why h)
+  pub set-as-was : (why : Refusal) → k ≡ Broken why → old ≡ writtenOver old (inOne (decodeSet K set first rows end s (room (length old))))
+  set-as-was why h = rw decoded (list-as-was k _ (joined (slotsOf K first s)) old e why h)

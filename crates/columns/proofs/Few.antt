@@ -16,17 +16,17 @@ use Rattle.lists.proofs.Slices.{slice-short}
 use Rattle.columns.specs.EdgeSet.{cut, cutFrom, fromTo, eventOf, targetOf}
 use Rattle.columns.specs.Reading.{targetsFrom}
 
-module _ (first high : ℕ) (deltas : List ℤ) where
-  few-from : (s a : ℕ) (bs : List ℕ) → climbsTo high a bs ≡ true → a + length (joined (targetsFrom first s (cutFrom a bs deltas))) ≤ high
+module _ (K : ℕ) (first high : ℕ) (deltas : List ℤ) where
+  few-from : (s a : ℕ) (bs : List ℕ) → climbsTo high a bs ≡ true → a + length (joined (targetsFrom K first s (cutFrom a bs deltas))) ≤ high
   unfolding climbsTo targetsFrom cutFrom joined
   few-from s a [] e = let k : a ≡ high = eqb-true a high e in omega arith
   few-from s a (b ∷ bs) e =
       let p = both (leb a b) (climbsTo high b bs) e in
-      let x = map (targetOf (eventOf first s)) (slice a b deltas) in
+      let x = map (targetOf (eventOf K first s)) (slice a b deltas) in
       let l : length x ≤ b - a = rw length-map (slice-short a b deltas) in
-      omega (arith, length-append x (joined (targetsFrom first (suc s) (cutFrom b bs deltas))), leb-true a b (p .0), few-from (suc s) b bs (p .1))
+      omega (arith, length-append x (joined (targetsFrom K first (suc s) (cutFrom b bs deltas))), leb-true a b (p .0), few-from (suc s) b bs (p .1))
 
-  pub few-targets : (offsets : List ℕ) → fromTo 0 high offsets ≡ true → length (joined (targetsFrom first 0 (cut offsets deltas))) ≤ high
+  pub few-targets : (offsets : List ℕ) → fromTo 0 high offsets ≡ true → length (joined (targetsFrom K first 0 (cut offsets deltas))) ≤ high
   unfolding cut fromTo
   few-targets [] e = absurd (false≢true e)
   few-targets (o ∷ os) e = omega (arith, few-from 0 o os (both (eqb o 0) (climbsTo high o os) e .1))

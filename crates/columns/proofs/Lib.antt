@@ -10,3 +10,4 @@ pub mod Targets
 pub mod Within
 pub mod Deltas
 pub mod Sections
+pub mod Served

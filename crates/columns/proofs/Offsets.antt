@@ -14,7 +14,6 @@ use Rattle.lists.specs.Lists.{joined, starts}
 use Rattle.lists.specs.Order.{climbsTo}
 use Rattle.lists.proofs.Tests.{both}
 use Rattle.lists.proofs.Slices.{slice-rest}
-use Rattle.columns.specs.Limits.{kinds}
 use Rattle.columns.specs.EdgeSet.{cutFrom, cut, fromTo, offsetsForm}
 
 -- ── climbing ─────────────────────────────────────────────────────────────────────────────────
@@ -126,10 +125,10 @@ module _ (high : ℕ) (offsets : List ℕ) (e : fromTo 0 high offsets ≡ true) 
     inside = omega (arith, at-slot slot h .1)
 
 -- a column with as many entries as offsets of the form say
-pub form-climbs : (rows count : ℕ) (offsets : List ℕ) → offsetsForm rows count offsets ≡ true → fromTo 0 count offsets ≡ true
+pub form-climbs : (K : ℕ) → (rows count : ℕ) (offsets : List ℕ) → offsetsForm K rows count offsets ≡ true → fromTo 0 count offsets ≡ true
 unfolding offsetsForm
-form-climbs rows count offsets e = both (eqb (length offsets) (kinds * rows + 1)) _ e .1
+form-climbs K rows count offsets e = both (eqb (length offsets) (K * rows + 1)) _ e .1
 
-pub form-length : (rows count : ℕ) (offsets : List ℕ) → offsetsForm rows count offsets ≡ true → length offsets ≡ kinds * rows + 1
+pub form-length : (K : ℕ) → (rows count : ℕ) (offsets : List ℕ) → offsetsForm K rows count offsets ≡ true → length offsets ≡ K * rows + 1
 unfolding offsetsForm
-form-length rows count offsets e = eqb-true _ _ (both (eqb (length offsets) (kinds * rows + 1)) _ e .0)
+form-length K rows count offsets e = eqb-true _ _ (both (eqb (length offsets) (K * rows + 1)) _ e .0)

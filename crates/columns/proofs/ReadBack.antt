@@ -14,7 +14,7 @@ use Rattle.lists.specs.Lists.{all, joined, starts, Each}
 use Rattle.lists.specs.Order.{climbsTo}
 use Rattle.lists.proofs.Cut.{starts-climb}
 use Rattle.lists.proofs.Flat.{length-starts}
-use Rattle.columns.specs.Limits.{kinds, end64}
+use Rattle.columns.specs.Limits.{end64}
 use Rattle.columns.specs.Refusal.{unless, accepted, firstOf}
 use Rattle.columns.specs.EdgeSet.{fromTo, offsetsForm, cutFrom, cut, eventOf, deltaOf, isNumber, toNumber, targetOf, allowed, sound, deltasFrom, setOf}
 use Rattle.columns.specs.Reading.{soundFrom, targetsFrom, slotsOf, setRules, readSet}
@@ -61,75 +61,75 @@ unfolding fromTo climbsTo starts joined
 starts-from [] = refl
 starts-from (l ∷ ls) = starts-climb 0 (0 + length l) (length (l ++ joined ls)) ls (omega arith) (omega (arith, length-append l (joined ls)))
 
-pub starts-form : (rows : ℕ) (ls : List (List ℕ)) → length ls ≡ kinds * rows → offsetsForm rows (length (joined ls)) (starts 0 ls) ≡ true
+pub starts-form : (K : ℕ) → (rows : ℕ) (ls : List (List ℕ)) → length ls ≡ K * rows → offsetsForm K rows (length (joined ls)) (starts 0 ls) ≡ true
 unfolding offsetsForm
-starts-form rows ls e = rw (length-starts 0 ls, eq-eqb (suc (length ls)) (kinds * rows + 1) (omega arith)) (starts-from ls)
+starts-form K rows ls e = rw (length-starts 0 ls, eq-eqb (suc (length ls)) (K * rows + 1) (omega arith)) (starts-from ls)
 
 -- ── the deltas of lists ──────────────────────────────────────────────────────────────────────
 
-starts-deltas : (a first slot : ℕ) (lists : List (List ℕ)) → starts a (deltasFrom first slot lists) ≡ starts a lists
+starts-deltas : (K : ℕ) → (a first slot : ℕ) (lists : List (List ℕ)) → starts a (deltasFrom K first slot lists) ≡ starts a lists
 unfolding starts deltasFrom
-starts-deltas a first slot [] = refl
-starts-deltas a first slot (ts ∷ lists) = rw (length-map ts (deltaOf (eventOf first slot)), starts-deltas (a + length ts) first (suc slot) lists)
+starts-deltas K a first slot [] = refl
+starts-deltas K a first slot (ts ∷ lists) = rw (length-map ts (deltaOf (eventOf K first slot)), starts-deltas K (a + length ts) first (suc slot) lists)
 
-length-deltas : (first slot : ℕ) (lists : List (List ℕ)) → length (joined (deltasFrom first slot lists)) ≡ length (joined lists)
+length-deltas : (K : ℕ) → (first slot : ℕ) (lists : List (List ℕ)) → length (joined (deltasFrom K first slot lists)) ≡ length (joined lists)
 unfolding joined deltasFrom
-length-deltas first slot [] = refl
-length-deltas first slot (ts ∷ lists) = simp (length-append, length-map, length-deltas first (suc slot) lists)
+length-deltas K first slot [] = refl
+length-deltas K first slot (ts ∷ lists) = simp (length-append, length-map, length-deltas K first (suc slot) lists)
 
-pub set-count : (first : ℕ) (lists : List (List ℕ)) → length (setOf first lists .deltas) ≡ setOf first lists .count
+pub set-count : (K : ℕ) → (first : ℕ) (lists : List (List ℕ)) → length (setOf K first lists .deltas) ≡ setOf K first lists .count
 unfolding setOf
-set-count first lists = length-deltas first 0 lists
+set-count K first lists = length-deltas K first 0 lists
 
-targets-deltas : (first slot : ℕ) (lists : List (List ℕ)) → targetsFrom first slot (deltasFrom first slot lists) ≡ lists
+targets-deltas : (K : ℕ) → (first slot : ℕ) (lists : List (List ℕ)) → targetsFrom K first slot (deltasFrom K first slot lists) ≡ lists
 unfolding targetsFrom deltasFrom
-targets-deltas first slot [] = refl
-targets-deltas first slot (ts ∷ lists) = rw (one ts, targets-deltas first (suc slot) lists)
+targets-deltas K first slot [] = refl
+targets-deltas K first slot (ts ∷ lists) = rw (one ts, targets-deltas K first (suc slot) lists)
   where
-    one : (ts : List ℕ) → map (targetOf (eventOf first slot)) (map (deltaOf (eventOf first slot)) ts) ≡ ts
+    one : (ts : List ℕ) → map (targetOf (eventOf K first slot)) (map (deltaOf (eventOf K first slot)) ts) ≡ ts
     one [] = refl
-    one (t ∷ ts) = rw (target-delta (eventOf first slot) t, one ts)
+    one (t ∷ ts) = rw (target-delta (eventOf K first slot) t, one ts)
 
-cut-set : (first : ℕ) (lists : List (List ℕ)) → cut (starts 0 lists) (joined (deltasFrom first 0 lists)) ≡ deltasFrom first 0 lists
-cut-set first lists = rw (← starts-deltas 0 first 0 lists) (cut-joined (deltasFrom first 0 lists))
+cut-set : (K : ℕ) → (first : ℕ) (lists : List (List ℕ)) → cut (starts 0 lists) (joined (deltasFrom K first 0 lists)) ≡ deltasFrom K first 0 lists
+cut-set K first lists = rw (← starts-deltas K 0 first 0 lists) (cut-joined (deltasFrom K first 0 lists))
 
 -- ── reading ──────────────────────────────────────────────────────────────────────────────────
 
 -- every list of the slots from `slot` on names only targets on the set's side, and every number has 64 bits
-abbrev pub AllowedFrom : ℕ → ℕ → ℕ → ℕ → List (List ℕ) → Type 0
-AllowedFrom set first end slot [] = Unit {0}
-AllowedFrom set first end slot (ts ∷ lists) =
-    (eventOf first slot < end64) × Each (λ t. (allowed set end (eventOf first slot) t ≡ true) × (t < end64)) ts × AllowedFrom set first end (suc slot) lists
+abbrev pub AllowedFrom : (K : ℕ) → ℕ → ℕ → ℕ → ℕ → List (List ℕ) → Type 0
+AllowedFrom K set first end slot [] = Unit {0}
+AllowedFrom K set first end slot (ts ∷ lists) =
+    (eventOf K first slot < end64) × Each (λ t. (allowed set end (eventOf K first slot) t ≡ true) × (t < end64)) ts × AllowedFrom K set first end (suc slot) lists
 
 all-sound : (set end event : ℕ) (ts : List ℕ) → Each (λ t. (allowed set end event t ≡ true) × (t < end64)) ts → all (sound set end event) (map (deltaOf event) ts) ≡ true
 unfolding all
 all-sound set end event [] h = refl
 all-sound set end event (t ∷ ts) h = rw (sound-delta set end event t, lt-ltb t end64 (h .0 .1), h .0 .0) (all-sound set end event ts (h .1))
 
-pub sound-deltas : (set first end slot : ℕ) (lists : List (List ℕ)) → AllowedFrom set first end slot lists → soundFrom set first end slot (deltasFrom first slot lists) ≡ true
+pub sound-deltas : (K : ℕ) → (set first end slot : ℕ) (lists : List (List ℕ)) → AllowedFrom K set first end slot lists → soundFrom K set first end slot (deltasFrom K first slot lists) ≡ true
 unfolding soundFrom deltasFrom
-sound-deltas set first end slot [] h = refl
-sound-deltas set first end slot (ts ∷ lists) h =
-    rw (lt-ltb (eventOf first slot) end64 (h .0), all-sound set end (eventOf first slot) ts (h .1)) (sound-deltas set first end (suc slot) lists (h .2))
+sound-deltas K set first end slot [] h = refl
+sound-deltas K set first end slot (ts ∷ lists) h =
+    rw (lt-ltb (eventOf K first slot) end64 (h .0), all-sound set end (eventOf K first slot) ts (h .1)) (sound-deltas K set first end (suc slot) lists (h .2))
 
 -- a set gives its lists back
-pub slots-set : (first : ℕ) (lists : List (List ℕ)) → slotsOf first (setOf first lists) ≡ lists
+pub slots-set : (K : ℕ) → (first : ℕ) (lists : List (List ℕ)) → slotsOf K first (setOf K first lists) ≡ lists
 unfolding slotsOf setOf
-slots-set first lists = rw (cut-set first lists) (targets-deltas first 0 lists)
+slots-set K first lists = rw (cut-set K first lists) (targets-deltas K first 0 lists)
 
-module _ (set first rows end : ℕ) (lists : List (List ℕ)) (full : length lists ≡ kinds * rows) (side : AllowedFrom set first end 0 lists) where
-  pub set-rules : setRules set first rows end (setOf first lists) ≡ none
+module _ (K : ℕ) (set first rows end : ℕ) (lists : List (List ℕ)) (full : length lists ≡ K * rows) (side : AllowedFrom K set first end 0 lists) where
+  pub set-rules : setRules K set first rows end (setOf K first lists) ≡ none
   unfolding setRules setOf firstOf
   set-rules =
       rw (
-        starts-form rows lists full,
-        length-deltas first 0 lists,
+        starts-form K rows lists full,
+        length-deltas K first 0 lists,
         eq-eqb (length (joined lists)) (length (joined lists)) refl,
-        cut-set first lists,
-        sound-deltas set first end 0 lists side,
+        cut-set K first lists,
+        sound-deltas K set first end 0 lists side,
         and-false (ltb 0 (length (joined lists))),
       )
 
-  pub read-set : readSet set first rows end (setOf first lists) ≡ accepted lists
+  pub read-set : readSet K set first rows end (setOf K first lists) ≡ accepted lists
   unfolding readSet unless
-  read-set = rw (set-rules, slots-set first lists)
+  read-set = rw (set-rules, slots-set K first lists)

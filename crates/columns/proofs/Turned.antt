@@ -16,84 +16,83 @@ use Rattle.lists.proofs.Each.{each-all, each-map, each-flat}
 use Rattle.lists.proofs.Flat.{length-upFrom, getD-upFrom, length-map-upFrom, getD-map-upFrom}
 use Rattle.lists.proofs.Cut.{length-blocks, getD-blocks}
 use Rattle.lists.proofs.Rising.{filter-rising, upFrom-rising, distinct-rising, mem-filter, mem-upFrom, mem-sort, sort-level}
-use Rattle.columns.specs.Limits.{kinds}
 use Rattle.columns.specs.Questions.{listOf}
 use Rattle.columns.specs.Building.{InboundColumns, inFile, childrenTo, slotTable, naming, reverseLists, inboundLists}
 
 -- ── a table of lists ─────────────────────────────────────────────────────────────────────────
 
 -- the lists of one number, a list for each kind
-abbrev row : (ℕ → ℕ → List ℕ) → ℕ → List (List ℕ)
-row f n = map (f n) (upFrom 0 kinds)
+abbrev row : (K : ℕ) → (ℕ → ℕ → List ℕ) → ℕ → List (List ℕ)
+row K f n = map (f n) (upFrom 0 K)
 
-module _ (f : ℕ → ℕ → List ℕ) (first rows : ℕ) where
-  row-wide : (n : ℕ) → length (row f n) ≡ kinds
-  row-wide n = length-map-upFrom (f n) 0 kinds
+module _ (K : ℕ) (f : ℕ → ℕ → List ℕ) (first rows : ℕ) where
+  row-wide : (n : ℕ) → length (row K f n) ≡ K
+  row-wide n = length-map-upFrom (f n) 0 K
 
-  pub length-table : length (slotTable f first rows) ≡ kinds * rows
+  pub length-table : length (slotTable K f first rows) ≡ K * rows
   unfolding slotTable
-  length-table = length-blocks (row f) kinds row-wide (upFrom first rows) ∙ ap (λ n. kinds * n) (length-upFrom first rows)
+  length-table = length-blocks (row K f) K row-wide (upFrom first rows) ∙ ap (λ n. K * n) (length-upFrom first rows)
 
-  pub list-table : (n k : ℕ) → first ≤ n → n < first + rows → k < kinds → listOf first (slotTable f first rows) k n ≡ f n k
+  pub list-table : (n k : ℕ) → first ≤ n → n < first + rows → k < K → listOf K first (slotTable K f first rows) k n ≡ f n k
   unfolding listOf slotTable
   list-table n k l h j =
       let place : getD (upFrom first rows) (n - first) 0 ≡ n = getD-upFrom first rows (n - first) 0 (omega arith) ∙ omega arith in
       rw (
         le-ltb n first l,
-        getD-blocks (row f) kinds row-wide (upFrom first rows) (n - first) k 0 [] (omega (arith, length-upFrom first rows)) j,
+        getD-blocks (row K f) K row-wide (upFrom first rows) (n - first) k 0 [] (omega (arith, length-upFrom first rows)) j,
         place,
-        getD-map-upFrom (f n) 0 kinds k [] j,
+        getD-map-upFrom (f n) 0 K k [] j,
       ) (ap (f n) (omega arith))
 
-  pub each-table : (P : List ℕ → Type 0) → ((n k : ℕ) → P (f n k)) → Each P (slotTable f first rows)
+  pub each-table : (P : List ℕ → Type 0) → ((n k : ℕ) → P (f n k)) → Each P (slotTable K f first rows)
   unfolding slotTable
   each-table P h =
-      each-flat P (row f) (upFrom first rows)
-      (each-all (λ n. Each P (row f n)) (λ n. each-map P (f n) (upFrom 0 kinds) (each-all (λ k. P (f n k)) (h n) (upFrom 0 kinds))) (upFrom first rows))
+      each-flat P (row K f) (upFrom first rows)
+      (each-all (λ n. Each P (row K f n)) (λ n. each-map P (f n) (upFrom 0 K) (each-all (λ k. P (f n k)) (h n) (upFrom 0 K))) (upFrom first rows))
 
-list-before : (first : ℕ) (lists : List (List ℕ)) (k n : ℕ) → ltb n first ≡ true → listOf first lists k n ≡ []
+list-before : (K : ℕ) → (first : ℕ) (lists : List (List ℕ)) (k n : ℕ) → ltb n first ≡ true → listOf K first lists k n ≡ []
 unfolding listOf
-list-before first lists k n h = rw h
+list-before K first lists k n h = rw h
 
 -- what each list of a table and the empty list are, the list of any number is
-list-each : (P : List ℕ → Type 0) (first : ℕ) (lists : List (List ℕ)) (k n : ℕ) → P [] → Each P lists → P (listOf first lists k n)
+list-each : (K : ℕ) → (P : List ℕ → Type 0) (first : ℕ) (lists : List (List ℕ)) (k n : ℕ) → P [] → Each P lists → P (listOf K first lists k n)
 unfolding listOf
-list-each P first lists k n empty each = go (ltb n first)
+list-each K P first lists k n empty each = go (ltb n first)
   where
     at : (ls : List (List ℕ)) (i : ℕ) → Each P ls → P (getD ls i [])
     at [] i h = empty
     at (l ∷ ls) zero h = h .0
     at (l ∷ ls) (suc i) h = at ls i (h .1)
 
-    go : (b : Bool) → P (cond b [] (getD lists (kinds * (n - first) + k) []))
+    go : (b : Bool) → P (cond b [] (getD lists (K * (n - first) + k) []))
     go true = empty
-    go false = at lists (kinds * (n - first) + k) each
+    go false = at lists (K * (n - first) + k) each
 
 -- ── reverse lists ────────────────────────────────────────────────────────────────────────────
 
-module _ (first rows : ℕ) (lists : List (List ℕ)) (k n : ℕ) where
+module _ (K : ℕ) (first rows : ℕ) (lists : List (List ℕ)) (k n : ℕ) where
   -- the reverse list of a number of the file holds the events of the file whose list names the number
-  pub turned-events : k < kinds → first ≤ n → n < first + rows → (e : ℕ)
-      → mem e (listOf first (reverseLists first rows lists) k n) ≡ (inFile first (first + rows) e && mem n (listOf first lists k e))
+  pub turned-events : k < K → first ≤ n → n < first + rows → (e : ℕ)
+      → mem e (listOf K first (reverseLists K first rows lists) k n) ≡ (inFile first (first + rows) e && mem n (listOf K first lists k e))
   unfolding reverseLists naming inFile
   turned-events j l h e =
-      rw (list-table (naming first rows lists) first rows n k l h j, mem-filter e (λ event. mem n (listOf first lists k event)) (upFrom first rows), mem-upFrom e first rows)
+      rw (list-table K (naming K first rows lists) first rows n k l h j, mem-filter e (λ event. mem n (listOf K first lists k event)) (upFrom first rows), mem-upFrom e first rows)
 
-  pub turned : k < kinds → first ≤ n → n < first + rows → (e : ℕ) → e < first + rows
-      → mem e (listOf first (reverseLists first rows lists) k n) ≡ mem n (listOf first lists k e)
+  pub turned : k < K → first ≤ n → n < first + rows → (e : ℕ) → e < first + rows
+      → mem e (listOf K first (reverseLists K first rows lists) k n) ≡ mem n (listOf K first lists k e)
   unfolding inFile mem
   turned j l h e b =
       turned-events j l h e ∙ elim (tested (ltb e first)) [
-        | inl t ↦ rw (lt-leb first e (ltb-true e first t), list-before first lists k e t)
+        | inl t ↦ rw (lt-leb first e (ltb-true e first t), list-before K first lists k e t)
         | inr t ↦ rw (le-leb first e (ltb-false e first t), lt-ltb e (first + rows) b)
       ]
 
-  pub turned-rising : rising (listOf first (reverseLists first rows lists) k n) ≡ true
+  pub turned-rising : rising (listOf K first (reverseLists K first rows lists) k n) ≡ true
   unfolding reverseLists naming rising
   turned-rising =
-      list-each (λ l. rising l ≡ true) first (reverseLists first rows lists) k n refl
-      (each-table (naming first rows lists) first rows (λ l. rising l ≡ true)
-      (λ m j. filter-rising (λ event. mem m (listOf first lists j event)) (upFrom first rows) (upFrom-rising first rows)))
+      list-each K (λ l. rising l ≡ true) first (reverseLists K first rows lists) k n refl
+      (each-table K (naming K first rows lists) first rows (λ l. rising l ≡ true)
+      (λ m j. filter-rising (λ event. mem m (listOf K first lists j event)) (upFrom first rows) (upFrom-rising first rows)))
 
 -- ── inbound lists ────────────────────────────────────────────────────────────────────────────
 
@@ -137,26 +136,26 @@ module _ (child parent kind : ℕ) where
       go true rest h = rw h (or-true (eqb child c))
       go false rest h = h
 
-module _ (first rows : ℕ) (e : InboundColumns) (k n : ℕ) where
+module _ (K : ℕ) (first rows : ℕ) (e : InboundColumns) (k n : ℕ) where
   -- a number is in the inbound list of a number of the file exactly if such an edge is given
-  pub inbound-edges : k < kinds → first ≤ n → n < first + rows → (c : ℕ) → (mem c (listOf first (inboundLists first rows e) k n) ≡ true) ↔ GivenEdge e c n k
+  pub inbound-edges : k < K → first ≤ n → n < first + rows → (c : ℕ) → (mem c (listOf K first (inboundLists K first rows e) k n) ≡ true) ↔ GivenEdge e c n k
   unfolding inboundLists
   inbound-edges j l h c =
       rw (
-        list-table (λ number kind. sort (childrenTo number kind (e .children) (e .parents) (e .kindsGiven))) first rows n k l h j,
+        list-table K (λ number kind. sort (childrenTo number kind (e .children) (e .parents) (e .kindsGiven))) first rows n k l h j,
         mem-sort c (childrenTo n k (e .children) (e .parents) (e .kindsGiven)),
       )
       (child-edge c n k (e .children) (e .parents) (e .kindsGiven), λ g. edge-child c n k (e .children) (e .parents) (e .kindsGiven) (g .0) (g .1) (g .2) (g .3))
 
-  pub inbound-level : notFalling (listOf first (inboundLists first rows e) k n) ≡ true
+  pub inbound-level : notFalling (listOf K first (inboundLists K first rows e) k n) ≡ true
   unfolding inboundLists notFalling levelAbove
   inbound-level =
-      list-each (λ l. notFalling l ≡ true) first (inboundLists first rows e) k n refl
-      (each-table _ first rows (λ l. notFalling l ≡ true) (λ m j. sort-level (childrenTo m j (e .children) (e .parents) (e .kindsGiven))))
+      list-each K (λ l. notFalling l ≡ true) first (inboundLists K first rows e) k n refl
+      (each-table K _ first rows (λ l. notFalling l ≡ true) (λ m j. sort-level (childrenTo m j (e .children) (e .parents) (e .kindsGiven))))
 
   -- where no edge is given twice the list rises
-  pub inbound-rising : all distinct (inboundLists first rows e) ≡ true → rising (listOf first (inboundLists first rows e) k n) ≡ true
+  pub inbound-rising : all distinct (inboundLists K first rows e) ≡ true → rising (listOf K first (inboundLists K first rows e) k n) ≡ true
   unfolding distinct
   inbound-rising d =
-      distinct-rising (listOf first (inboundLists first rows e) k n) inbound-level
-      (list-each (λ l. distinct l ≡ true) first (inboundLists first rows e) k n refl (all-each distinct (inboundLists first rows e) d))
+      distinct-rising (listOf K first (inboundLists K first rows e) k n) inbound-level
+      (list-each K (λ l. distinct l ≡ true) first (inboundLists K first rows e) k n refl (all-each distinct (inboundLists K first rows e) d))

@@ -96,55 +96,55 @@ all-filter q f p (x ∷ xs) h =
     let b = both (q (f x)) (all q (map f xs)) h in
     elim (tested (p x)) [ inl e ↦ rw (e, b .0) (all-filter q f p xs (b .1)) | inr e ↦ rw e (all-filter q f p xs (b .1)) ]
 
-within-reach : (low high first slot : ℕ) (ls : List (List ℕ)) → all fits63 (joined (deltasFrom first slot ls)) ≡ true → all fits63 (joined (deltasFrom first slot (within low high ls))) ≡ true
+within-reach : (K : ℕ) → (low high first slot : ℕ) (ls : List (List ℕ)) → all fits63 (joined (deltasFrom K first slot ls)) ≡ true → all fits63 (joined (deltasFrom K first slot (within low high ls))) ≡ true
 unfolding within joined deltasFrom
-within-reach low high first slot [] h = h
-within-reach low high first slot (l ∷ ls) h =
-    let f = deltaOf (eventOf first slot) in
-    let b = both (all fits63 (map f l)) (all fits63 (joined (deltasFrom first (suc slot) ls))) (rw (all-append fits63 (map f l) (joined (deltasFrom first (suc slot) ls))) at h) in
-    rw (all-append fits63 (map f (filter (inFile low high) l)) (joined (deltasFrom first (suc slot) (within low high ls))), all-filter fits63 f (inFile low high) l (b .0))
-    (within-reach low high first (suc slot) ls (b .1))
+within-reach K low high first slot [] h = h
+within-reach K low high first slot (l ∷ ls) h =
+    let f = deltaOf (eventOf K first slot) in
+    let b = both (all fits63 (map f l)) (all fits63 (joined (deltasFrom K first (suc slot) ls))) (rw (all-append fits63 (map f l) (joined (deltasFrom K first (suc slot) ls))) at h) in
+    rw (all-append fits63 (map f (filter (inFile low high) l)) (joined (deltasFrom K first (suc slot) (within low high ls))), all-filter fits63 f (inFile low high) l (b .0))
+    (within-reach K low high first (suc slot) ls (b .1))
 
-pub within-fits : (low high first : ℕ) (ls : List (List ℕ)) → deltasFit first ls ≡ true → deltasFit first (within low high ls) ≡ true
+pub within-fits : (K : ℕ) → (low high first : ℕ) (ls : List (List ℕ)) → deltasFit K first ls ≡ true → deltasFit K first (within low high ls) ≡ true
 unfolding deltasFit
-within-fits low high first ls h = within-reach low high first 0 ls h
+within-fits K low high first ls h = within-reach K low high first 0 ls h
 
 -- ── the rows of a section ────────────────────────────────────────────────────────────────────
 
-module _ (low high from n : ℕ) (offsets targets : List ℕ) where
+module _ (K : ℕ) (low high from n : ℕ) (offsets targets : List ℕ) where
   -- no more numbers than the table has
-  pub section-few : fromTo 0 (length targets) offsets ≡ true → length (joined (rowsWithin low high from n offsets targets)) ≤ length targets
+  pub section-few : fromTo 0 (length targets) offsets ≡ true → length (joined (rowsWithin K low high from n offsets targets)) ≤ length targets
   section-few e =
       let z : length (joined (cut offsets targets)) ≡ length targets = rw (joined-cut targets offsets e) in
-      omega (arith, within-few low high (part (2 * from) (2 * n) (cut offsets targets)), part-few (2 * from) (2 * n) (cut offsets targets))
+      omega (arith, within-few low high (part (K * from) (K * n) (cut offsets targets)), part-few (K * from) (K * n) (cut offsets targets))
 
-  module _ (h : 2 * (from + n) < length offsets) where
-    pub section-long : length (rowsWithin low high from n offsets targets) ≡ 2 * n
+  module _ (h : K * (from + n) < length offsets) where
+    pub section-long : length (rowsWithin K low high from n offsets targets) ≡ K * n
     unfolding within part
     section-long = rw length-map (simp (length-take, length-drop) (omega (arith, cut-length offsets targets)))
 
     module _ (q : ℕ) where
-      pub section-over : 2 * n ≤ q → drop q (rowsWithin low high from n offsets targets) ≡ []
-      section-over k = drop-of-length-le (rowsWithin low high from n offsets targets) {i = q} (omega (arith, section-long))
+      pub section-over : K * n ≤ q → drop q (rowsWithin K low high from n offsets targets) ≡ []
+      section-over k = drop-of-length-le (rowsWithin K low high from n offsets targets) {i = q} (omega (arith, section-long))
 
-      pub section-left : q < 2 * n → drop q (rowsWithin low high from n offsets targets)
-          ≡ filter (inFile low high) (getD (cut offsets targets) (2 * from + q) []) ∷ drop (q + 1) (rowsWithin low high from n offsets targets)
+      pub section-left : q < K * n → drop q (rowsWithin K low high from n offsets targets)
+          ≡ filter (inFile low high) (getD (cut offsets targets) (K * from + q) []) ∷ drop (q + 1) (rowsWithin K low high from n offsets targets)
       unfolding within part
       section-left k =
-          drop-cons (rowsWithin low high from n offsets targets) q [] (omega (arith, section-long))
+          drop-cons (rowsWithin K low high from n offsets targets) q [] (omega (arith, section-long))
           ∙ rw (
-            getD-map (filter (inFile low high)) (take (2 * n) (drop (2 * from) (cut offsets targets))) q (simp (length-take, length-drop) (omega (arith, cut-length offsets targets))),
-            getD-take (2 * n) (drop (2 * from) (cut offsets targets)) q [] k,
-            getD-drop (2 * from) (cut offsets targets) q [],
+            getD-map (filter (inFile low high)) (take (K * n) (drop (K * from) (cut offsets targets))) q (simp (length-take, length-drop) (omega (arith, cut-length offsets targets))),
+            getD-take (K * n) (drop (K * from) (cut offsets targets)) q [] k,
+            getD-drop (K * from) (cut offsets targets) q [],
             add-one,
           )
 
-      pub deltas-left : (first : ℕ) → q < 2 * n → joined (deltasFrom first q (drop q (rowsWithin low high from n offsets targets)))
-          ≡ deltasWithin low high (first + q / 2) (getD (cut offsets targets) (2 * from + q) [])
-          ++ joined (deltasFrom first (q + 1) (drop (q + 1) (rowsWithin low high from n offsets targets)))
+      pub deltas-left : (first : ℕ) → q < K * n → joined (deltasFrom K first q (drop q (rowsWithin K low high from n offsets targets)))
+          ≡ deltasWithin low high (first + q / K) (getD (cut offsets targets) (K * from + q) [])
+          ++ joined (deltasFrom K first (q + 1) (drop (q + 1) (rowsWithin K low high from n offsets targets)))
       unfolding joined deltasFrom deltasWithin
       deltas-left first k = rw (section-left k, add-one)
 
-      pub deltas-over : (first : ℕ) → 2 * n ≤ q → joined (deltasFrom first q (drop q (rowsWithin low high from n offsets targets))) ≡ []
+      pub deltas-over : (first : ℕ) → K * n ≤ q → joined (deltasFrom K first q (drop q (rowsWithin K low high from n offsets targets))) ≡ []
       unfolding joined deltasFrom
       deltas-over first k = rw (section-over k)

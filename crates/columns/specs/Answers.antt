@@ -63,12 +63,12 @@ limitsOf rows over short =
     firstOf (refuse OverRecords (any (ltb maxRecords) (rows ∷ [])) ∷ refuse OverNumbers over ∷ refuse SliceShort short ∷ [])
 
 -- the limits and the rules of one set that is lent by itself
-unfoldable pub lentRules : ℕ → ℕ → ℕ → ℕ → EdgeSet → List Lent → Option Refusal
-lentRules set first rows end s lent = firstOf (limits (rows ∷ []) (setLengths s) lent ∷ setRules set first rows end s ∷ [])
+unfoldable pub lentRules : (K : ℕ) → ℕ → ℕ → ℕ → ℕ → EdgeSet → List Lent → Option Refusal
+lentRules K set first rows end s lent = firstOf (limits (rows ∷ []) (setLengths s) lent ∷ setRules K set first rows end s ∷ [])
 
 -- the rules of the two sets that children come from
-unfoldable pub bothRules : ℕ → ℕ → ℕ → EdgeSet → EdgeSet → Option Refusal
-bothRules first rows end r i = firstOf (setRules reverse first rows end r ∷ setRules inbound first rows end i ∷ [])
+unfoldable pub bothRules : (K : ℕ) → ℕ → ℕ → ℕ → EdgeSet → EdgeSet → Option Refusal
+bothRules K first rows end r i = firstOf (setRules K reverse first rows end r ∷ setRules K inbound first rows end i ∷ [])
 
 -- what is answered of rules: the first that is broken, if one is
 abbrev pub ruling : Option Refusal → Ruling

@@ -8,7 +8,7 @@ use lib.IntN.{ℤ, pos, negsuc}
 use lib.ListN.{length, getElem?}
 use Rattle.lists.specs.Lists.{all, flat, filter, mem, distinct, part, upFrom, joined}
 use Rattle.lists.specs.Order.{sort}
-use Rattle.columns.specs.Limits.{kinds, maxSubject, end64}
+use Rattle.columns.specs.Limits.{maxSubject, end64, referenceKinds}
 use Rattle.columns.specs.Refusal.{Verdict, unless, refuse, firstOf, firstIn, Lent, limits}
 use Rattle.columns.specs.EdgeSet.{EdgeSet, offsetsForm, cut, eventOf, deltaOf, deltasFrom, setOf}
 use Rattle.columns.specs.Reading.{Label, Labels, labelsOf, labelLengths}
@@ -89,9 +89,9 @@ parentRules event seen (p ∷ ps) =
     firstOf (refuse ParentNotEarlier (leb event p) ∷ refuse ParentTwice (mem p seen) ∷ parentRules event (p ∷ seen) ps ∷ [])
 
 -- row by row, kinds rising
-unfoldable pub slotRules : ℕ → ℕ → List (List ℕ) → Option Refusal
-slotRules first slot [] = none
-slotRules first slot (ps ∷ lists) = firstOf (parentRules (eventOf first slot) [] ps ∷ slotRules first (suc slot) lists ∷ [])
+unfoldable pub slotRules : (K : ℕ) → ℕ → ℕ → List (List ℕ) → Option Refusal
+slotRules K first slot [] = none
+slotRules K first slot (ps ∷ lists) = firstOf (parentRules (eventOf K first slot) [] ps ∷ slotRules K first (suc slot) lists ∷ [])
 
 -- a number of the file
 unfoldable pub inFile : ℕ → ℕ → ℕ → Bool
@@ -101,7 +101,7 @@ inFile first end n = leb first n && ltb n end
 unfoldable pub unresolvedRules : ℕ → ℕ → Option ℕ → Option ℕ → Option ℕ → Option Refusal
 unresolvedRules first end child kind flag =
     firstOf (refuse UnresolvedChild (not (has (inFile first end) child))
-    ∷ refuse UnresolvedKind (not (has (λ k. ltb k kinds) kind && has (eqb 0) flag))
+    ∷ refuse UnresolvedKind (not (has (λ k. ltb k referenceKinds) kind && has (eqb 0) flag))
     ∷ [])
 
 unfoldable pub allUnresolvedRules : Graph → Option Refusal
@@ -140,15 +140,15 @@ labelsRules rows (some c) =
 -- ── 11 to 13: inbound edges ──────────────────────────────────────────────────────────────────
 
 -- an inbound edge: its child is at or past the file's end (11), its parent is in the file and its kind is one of the kinds (12)
-unfoldable pub inboundRules : ℕ → ℕ → Option ℕ → Option ℕ → Option ℕ → Option Refusal
-inboundRules first end child parent kind =
+unfoldable pub inboundRules : (K : ℕ) → ℕ → ℕ → Option ℕ → Option ℕ → Option ℕ → Option Refusal
+inboundRules K first end child parent kind =
     firstOf (refuse InboundChild (not (has (leb end) child))
-    ∷ refuse InboundParent (not (has (inFile first end) parent && has (λ k. ltb k kinds) kind))
+    ∷ refuse InboundParent (not (has (inFile first end) parent && has (λ k. ltb k K) kind))
     ∷ [])
 
-unfoldable pub allInboundRules : Graph → Option Refusal
-allInboundRules g = let e = g .inbound in
-    firstIn (λ i. inboundRules (g .first) (endOf g) (getElem? (e .children) i) (getElem? (e .parents) i) (getElem? (e .kindsGiven) i))
+unfoldable pub allInboundRules : (K : ℕ) → Graph → Option Refusal
+allInboundRules K g = let e = g .inbound in
+    firstIn (λ i. inboundRules K (g .first) (endOf g) (getElem? (e .children) i) (getElem? (e .parents) i) (getElem? (e .kindsGiven) i))
     (upFrom 0 (recordCount (e .children) (e .parents) (e .kindsGiven)))
 
 -- the children of the inbound edges to a parent by a kind, in the given order
@@ -162,20 +162,20 @@ childrenTo parent kind (c ∷ cs) (p ∷ ps) (k ∷ ks) =
 -- ── the lists of the three sets ──────────────────────────────────────────────────────────────
 
 -- a table of lists, one for each number from `first` on and each kind, kinds rising
-unfoldable pub slotTable : (ℕ → ℕ → List ℕ) → ℕ → ℕ → List (List ℕ)
-slotTable f first rows = flat (λ n. map (f n) (upFrom 0 kinds)) (upFrom first rows)
+unfoldable pub slotTable : (K : ℕ) → (ℕ → ℕ → List ℕ) → ℕ → ℕ → List (List ℕ)
+slotTable K f first rows = flat (λ n. map (f n) (upFrom 0 K)) (upFrom first rows)
 
 -- the file's events whose list of a kind names a number, rising
-unfoldable pub naming : ℕ → ℕ → List (List ℕ) → ℕ → ℕ → List ℕ
-naming first rows lists number kind = filter (λ event. mem number (listOf first lists kind event)) (upFrom first rows)
+unfoldable pub naming : (K : ℕ) → ℕ → ℕ → List (List ℕ) → ℕ → ℕ → List ℕ
+naming K first rows lists number kind = filter (λ event. mem number (listOf K first lists kind event)) (upFrom first rows)
 
 -- reverse lists: the in-file forward edges turned round, children rising
-unfoldable pub reverseLists : ℕ → ℕ → List (List ℕ) → List (List ℕ)
-reverseLists first rows lists = slotTable (naming first rows lists) first rows
+unfoldable pub reverseLists : (K : ℕ) → ℕ → ℕ → List (List ℕ) → List (List ℕ)
+reverseLists K first rows lists = slotTable K (naming K first rows lists) first rows
 
 -- inbound lists: children past the file's end, rising
-unfoldable pub inboundLists : ℕ → ℕ → InboundColumns → List (List ℕ)
-inboundLists first rows e = slotTable (λ number kind. sort (childrenTo number kind (e .children) (e .parents) (e .kindsGiven))) first rows
+unfoldable pub inboundLists : (K : ℕ) → ℕ → ℕ → InboundColumns → List (List ℕ)
+inboundLists K first rows e = slotTable K (λ number kind. sort (childrenTo number kind (e .children) (e .parents) (e .kindsGiven))) first rows
 
 -- ── lists cut down ───────────────────────────────────────────────────────────────────────────
 
@@ -184,8 +184,8 @@ unfoldable pub within : ℕ → ℕ → List (List ℕ) → List (List ℕ)
 within low high lists = map (filter (inFile low high)) lists
 
 -- the same of the lists of the n rows from row `from` on of a table
-abbrev pub rowsWithin : ℕ → ℕ → ℕ → ℕ → List ℕ → List ℕ → List (List ℕ)
-rowsWithin low high from n offsets targets = within low high (part (kinds * from) (kinds * n) (cut offsets targets))
+abbrev pub rowsWithin : (K : ℕ) → ℕ → ℕ → ℕ → ℕ → List ℕ → List ℕ → List (List ℕ)
+rowsWithin K low high from n offsets targets = within low high (part (K * from) (K * n) (cut offsets targets))
 
 -- the deltas of these numbers, of one event's list
 unfoldable pub deltasWithin : ℕ → ℕ → ℕ → List ℕ → List ℤ
@@ -194,8 +194,8 @@ deltasWithin low high event ts = map (deltaOf event) (filter (inFile low high) t
 -- ── 14, 15: the granule ──────────────────────────────────────────────────────────────────────
 
 -- the slots of the granule's rows
-abbrev pub granulePart : Graph → List (List ℕ) → List (List ℕ)
-granulePart g lists = part (kinds * g .granuleFirst) (kinds * g .granuleRows) lists
+abbrev pub granulePart : (K : ℕ) → Graph → List (List ℕ) → List (List ℕ)
+granulePart K g lists = part (K * g .granuleFirst) (K * g .granuleRows) lists
 
 -- the granule's first number
 abbrev pub granuleStart : Graph → ℕ
@@ -207,36 +207,36 @@ fits63 (pos n) = ltb n (2 ^ 63)
 fits63 (negsuc n) = ltb n (2 ^ 63)
 
 -- every event minus target of the granule's slots is a number of signed 64 bits
-unfoldable pub deltasFit : ℕ → List (List ℕ) → Bool
-deltasFit first lists = all fits63 (joined (deltasFrom first 0 lists))
+unfoldable pub deltasFit : (K : ℕ) → ℕ → List (List ℕ) → Bool
+deltasFit K first lists = all fits63 (joined (deltasFrom K first 0 lists))
 
 -- ── building ─────────────────────────────────────────────────────────────────────────────────
 
-unfoldable pub forwardPart : Graph → List (List ℕ)
-forwardPart g = granulePart g (slotsIn g)
+unfoldable pub forwardPart : (K : ℕ) → Graph → List (List ℕ)
+forwardPart K g = granulePart K g (slotsIn g)
 
-unfoldable pub reversePart : Graph → List (List ℕ)
-reversePart g = granulePart g (reverseLists (g .first) (g .rows) (slotsIn g))
+unfoldable pub reversePart : (K : ℕ) → Graph → List (List ℕ)
+reversePart K g = granulePart K g (reverseLists K (g .first) (g .rows) (slotsIn g))
 
-unfoldable pub inboundPart : Graph → List (List ℕ)
-inboundPart g = granulePart g (inboundLists (g .first) (g .rows) (g .inbound))
+unfoldable pub inboundPart : (K : ℕ) → Graph → List (List ℕ)
+inboundPart K g = granulePart K g (inboundLists K (g .first) (g .rows) (g .inbound))
 
 -- 1 to 15, in document 01's order
-unfoldable pub buildRules : Graph → Option Refusal
-buildRules g =
+unfoldable pub buildRules : (K : ℕ) → Graph → Option Refusal
+buildRules K g =
     firstOf (refuse SubjectLength (not (subjectOk (g .subject)))
-    ∷ refuse EdgeEntries (not (offsetsForm (g .rows) (length (g .targets)) (g .offsets)))
+    ∷ refuse EdgeEntries (not (offsetsForm K (g .rows) (length (g .targets)) (g .offsets)))
     ∷ refuse NumberRange (not (numbersOk (g .first) (g .rows)))
-    ∷ slotRules (g .first) 0 (slotsIn g)
+    ∷ slotRules K (g .first) 0 (slotsIn g)
     ∷ allUnresolvedRules g
     ∷ refuse DepthOrder (not (depthOk (g .depth)))
     ∷ labelsRules (g .rows) (g .labels)
-    ∷ allInboundRules g
-    ∷ refuse InboundTwice (not (all distinct (inboundLists (g .first) (g .rows) (g .inbound))))
+    ∷ allInboundRules K g
+    ∷ refuse InboundTwice (not (all distinct (inboundLists K (g .first) (g .rows) (g .inbound))))
     ∷ refuse GranuleRows (ltb (g .rows) (g .granuleFirst + g .granuleRows))
-    ∷ refuse DeltaRange (not (deltasFit (granuleStart g) (forwardPart g)))
-    ∷ refuse DeltaRange (not (deltasFit (granuleStart g) (reversePart g)))
-    ∷ refuse DeltaRange (not (deltasFit (granuleStart g) (inboundPart g)))
+    ∷ refuse DeltaRange (not (deltasFit K (granuleStart g) (forwardPart K g)))
+    ∷ refuse DeltaRange (not (deltasFit K (granuleStart g) (reversePart K g)))
+    ∷ refuse DeltaRange (not (deltasFit K (granuleStart g) (inboundPart K g)))
     ∷ [])
 
 -- the three sets of the granule
@@ -245,11 +245,11 @@ pub record Built : Type 0 where
   pub reverse : EdgeSet
   pub inbound : EdgeSet
 
-unfoldable pub builtOf : Graph → Built
-builtOf g = record {
-  forward = setOf (granuleStart g) (forwardPart g);
-  reverse = setOf (granuleStart g) (reversePart g);
-  inbound = setOf (granuleStart g) (inboundPart g);
+unfoldable pub builtOf : (K : ℕ) → Graph → Built
+builtOf K g = record {
+  forward = setOf K (granuleStart g) (forwardPart K g);
+  reverse = setOf K (granuleStart g) (reversePart K g);
+  inbound = setOf K (granuleStart g) (inboundPart K g);
 }
 
 -- the lengths of the columns that building is lent to read
@@ -264,9 +264,9 @@ unfoldable pub graphRecords : Graph → List ℕ
 graphRecords g = let u = g .unresolved in g .rows ∷ recordCount (u .children) (u .kindsGiven) (u .flags) ∷ []
 
 -- `encode_graph_blocks`, one granule a call; `idle` has the lengths of columns that are lent beside those of the graph
-unfoldable pub buildBeside : List ℕ → Graph → List Lent → Verdict Built
-buildBeside idle g lent = unless (firstOf (limits (graphRecords g) (idle ++ graphLengths g) lent ∷ buildRules g ∷ [])) (builtOf g)
+unfoldable pub buildBeside : (K : ℕ) → List ℕ → Graph → List Lent → Verdict Built
+buildBeside K idle g lent = unless (firstOf (limits (graphRecords g) (idle ++ graphLengths g) lent ∷ buildRules K g ∷ [])) (builtOf K g)
 
 -- the same where no column is lent but the graph's
-unfoldable pub build : Graph → List Lent → Verdict Built
-build g lent = buildBeside [] g lent
+unfoldable pub build : (K : ℕ) → Graph → List Lent → Verdict Built
+build K g lent = buildBeside K [] g lent

@@ -8,7 +8,7 @@ use lib.ListN.{length}
 use lib.Seq.{slice}
 use Rattle.lists.specs.Lists.{joined, starts}
 use Rattle.lists.specs.Order.{climbsTo}
-use Rattle.columns.specs.Limits.{kinds, end64}
+use Rattle.columns.specs.Limits.{end64}
 
 -- a set: its edge count, offsets and deltas. Row r and kind k is slot kinds × r + k; a delta is event minus target
 pub record EdgeSet : Type 0 where
@@ -34,8 +34,8 @@ fromTo low high [] = false
 fromTo low high (x ∷ xs) = eqb x low && climbsTo high x xs
 
 -- an offset for each slot and one more, rising or level from 0 to the number of entries
-unfoldable pub offsetsForm : ℕ → ℕ → List ℕ → Bool
-offsetsForm rows count offsets = eqb (length offsets) (kinds * rows + 1) && fromTo 0 count offsets
+unfoldable pub offsetsForm : (K : ℕ) → ℕ → ℕ → List ℕ → Bool
+offsetsForm K rows count offsets = eqb (length offsets) (K * rows + 1) && fromTo 0 count offsets
 
 -- ── slots ────────────────────────────────────────────────────────────────────────────────────
 
@@ -49,8 +49,8 @@ cut [] column = []
 cut (a ∷ bs) column = cutFrom a bs column
 
 -- the event of a slot of a granule that starts at `first`
-abbrev pub eventOf : ℕ → ℕ → ℕ
-eventOf first slot = first + slot / kinds
+abbrev pub eventOf : (K : ℕ) → ℕ → ℕ → ℕ
+eventOf K first slot = first + slot / K
 
 -- ── deltas and targets ───────────────────────────────────────────────────────────────────────
 
@@ -85,10 +85,10 @@ sound set end event delta = isNumber (pos event -ℤ delta) && allowed set end e
 -- ── a set made of lists ──────────────────────────────────────────────────────────────────────
 
 -- the deltas of the slots from `slot` on, each of the slot's event
-unfoldable pub deltasFrom : ℕ → ℕ → List (List ℕ) → List (List ℤ)
-deltasFrom first slot [] = []
-deltasFrom first slot (ts ∷ lists) = map (deltaOf (eventOf first slot)) ts ∷ deltasFrom first (suc slot) lists
+unfoldable pub deltasFrom : (K : ℕ) → ℕ → ℕ → List (List ℕ) → List (List ℤ)
+deltasFrom K first slot [] = []
+deltasFrom K first slot (ts ∷ lists) = map (deltaOf (eventOf K first slot)) ts ∷ deltasFrom K first (suc slot) lists
 
 -- the set that holds the lists of a granule's slots
-unfoldable pub setOf : ℕ → List (List ℕ) → EdgeSet
-setOf first lists = record { count = length (joined lists); offsets = starts 0 lists; deltas = joined (deltasFrom first 0 lists) }
+unfoldable pub setOf : (K : ℕ) → ℕ → List (List ℕ) → EdgeSet
+setOf K first lists = record { count = length (joined lists); offsets = starts 0 lists; deltas = joined (deltasFrom K first 0 lists) }

@@ -1,5 +1,5 @@
 -- Document 01, 41 to 43, 1 and "Edge columns": the limits of a run, a file and a lent slice.
-use Prim.Native.Nat.{ℕ, _^_, _*_, _+_}
+use Prim.Native.Nat.{ℕ, _^_, _*_, _+_, _≤_, _<_}
 
 -- events, roots, unresolved records, ranges and links of a run or a file (42)
 abbrev pub maxRecords : ℕ
@@ -17,17 +17,32 @@ maxNumbers = 4096
 abbrev pub maxSubject : ℕ
 maxSubject = 255
 
--- kinds of parents: prev is 0, auth is 1
+-- kinds of parents in a run's own files: prev is 0, auth is 1. Definitions and laws over slots take the number of kinds; a run's functions cite
+-- them at this one
 abbrev pub kinds : ℕ
 kinds = 2
+
+-- kinds that an unresolved reference may have, in a file of any number of kinds: prev and auth
+abbrev pub referenceKinds : ℕ
+referenceKinds = 2
+
+-- the most kinds that columns are read, asked and built for
+abbrev pub maxKinds : ℕ
+maxKinds = 3
+
+-- numbers of kinds that are served: prev and auth are among them, and a row's slots are few
+pub record Served (K : ℕ) : Type 0 where
+  pub some : 0 < K
+  pub known : referenceKinds ≤ K
+  pub few : K ≤ maxKinds
 
 -- sets of edges: forward is 0, reverse 1, inbound 2
 abbrev pub edgeSets : ℕ
 edgeSets = 3
 
 -- lengths of lent slices (41)
-abbrev pub offsetsRoom : ℕ
-offsetsRoom = kinds * maxRecords + 1
+abbrev pub offsetsRoom : (K : ℕ) → ℕ
+offsetsRoom K = K * maxRecords + 1
 
 abbrev pub numbersRoom : ℕ
 numbersRoom = maxNumbers

@@ -5,35 +5,35 @@ use mathlib.Core.Option.{Option, none}
 use Prim.Native.Nat.{ℕ, _+_, _-_, _*_}
 use lib.Dec.{ltb}
 use lib.ListN.{length, getD, getElem?}
-use Rattle.columns.specs.Limits.{kinds, maxNumbers}
+use Rattle.columns.specs.Limits.{maxNumbers}
 use Rattle.columns.specs.Refusal.{Verdict, unless, refuse, firstOf, Lent, limits}
 use Rattle.columns.specs.EdgeSet.{EdgeSet, forward, reverse, inbound}
 use Rattle.columns.specs.declared.refusal.Refusal.the-variants.{OverNumbers}
 use Rattle.columns.specs.Reading.{Label, Labels, setRules, slotsOf, labelRules, labelsOf, setLengths}
 
 -- the list of a number and a kind, out of the lists of the slots from `first` on
-unfoldable pub listOf : ℕ → List (List ℕ) → ℕ → ℕ → List ℕ
-listOf first lists kind number = cond (ltb number first) [] (getD lists (kinds * (number - first) + kind) [])
+unfoldable pub listOf : (K : ℕ) → ℕ → List (List ℕ) → ℕ → ℕ → List ℕ
+listOf K first lists kind number = cond (ltb number first) [] (getD lists (K * (number - first) + kind) [])
 
 -- the parents of a number: its forward list
-unfoldable pub parents : ℕ → ℕ → ℕ → EdgeSet → ℕ → ℕ → List Lent → Verdict (List ℕ)
-parents first rows end f kind number lent =
-    unless (firstOf (limits (rows ∷ []) (setLengths f) lent ∷ setRules forward first rows end f ∷ []))
-    (listOf first (slotsOf first f) kind number)
+unfoldable pub parents : (K : ℕ) → ℕ → ℕ → ℕ → EdgeSet → ℕ → ℕ → List Lent → Verdict (List ℕ)
+parents K first rows end f kind number lent =
+    unless (firstOf (limits (rows ∷ []) (setLengths f) lent ∷ setRules K forward first rows end f ∷ []))
+    (listOf K first (slotsOf K first f) kind number)
 
 -- the children of a number: its reverse list, then its inbound list
-unfoldable pub childrenOf : ℕ → EdgeSet → EdgeSet → ℕ → ℕ → List ℕ
-childrenOf first r i kind number = listOf first (slotsOf first r) kind number ++ listOf first (slotsOf first i) kind number
+unfoldable pub childrenOf : (K : ℕ) → ℕ → EdgeSet → EdgeSet → ℕ → ℕ → List ℕ
+childrenOf K first r i kind number = listOf K first (slotsOf K first r) kind number ++ listOf K first (slotsOf K first i) kind number
 
 -- an answer is a column of numbers too, and two sets may hold more for one number than a column does (43)
-unfoldable pub children : ℕ → ℕ → ℕ → EdgeSet → EdgeSet → ℕ → ℕ → List Lent → Verdict (List ℕ)
-children first rows end r i kind number lent =
+unfoldable pub children : (K : ℕ) → ℕ → ℕ → ℕ → EdgeSet → EdgeSet → ℕ → ℕ → List Lent → Verdict (List ℕ)
+children K first rows end r i kind number lent =
     unless (firstOf (limits (rows ∷ []) (setLengths r ++ setLengths i) lent
-    ∷ setRules reverse first rows end r
-    ∷ setRules inbound first rows end i
-    ∷ refuse OverNumbers (ltb maxNumbers (length (childrenOf first r i kind number)))
+    ∷ setRules K reverse first rows end r
+    ∷ setRules K inbound first rows end i
+    ∷ refuse OverNumbers (ltb maxNumbers (length (childrenOf K first r i kind number)))
     ∷ []))
-    (childrenOf first r i kind number)
+    (childrenOf K first r i kind number)
 
 -- the label at a place, if there is one
 unfoldable pub labelAt : ℕ → List Label → ℕ → Option Label

@@ -16,38 +16,38 @@ use Rattle.columns.specs.declared.refusal.Refusal.the-variants.{OffsetsF
 -- ── one set: 17, 18, 19 ──────────────────────────────────────────────────────────────────────
 
 -- every delta of the slots from `slot` on is on its set's side, and every row has a number of 64 bits
-unfoldable pub soundFrom : ℕ → ℕ → ℕ → ℕ → List (List ℤ) → Bool
-soundFrom set first end slot [] = true
-soundFrom set first end slot (ds ∷ lists) =
-    ltb (eventOf first slot) end64 && all (sound set end (eventOf first slot)) ds && soundFrom set first end (suc slot) lists
+unfoldable pub soundFrom : (K : ℕ) → ℕ → ℕ → ℕ → ℕ → List (List ℤ) → Bool
+soundFrom K set first end slot [] = true
+soundFrom K set first end slot (ds ∷ lists) =
+    ltb (eventOf K first slot) end64 && all (sound set end (eventOf K first slot)) ds && soundFrom K set first end (suc slot) lists
 
 -- the targets of the slots from `slot` on
-unfoldable pub targetsFrom : ℕ → ℕ → List (List ℤ) → List (List ℕ)
-targetsFrom first slot [] = []
-targetsFrom first slot (ds ∷ lists) = map (targetOf (eventOf first slot)) ds ∷ targetsFrom first (suc slot) lists
+unfoldable pub targetsFrom : (K : ℕ) → ℕ → ℕ → List (List ℤ) → List (List ℕ)
+targetsFrom K first slot [] = []
+targetsFrom K first slot (ds ∷ lists) = map (targetOf (eventOf K first slot)) ds ∷ targetsFrom K first (suc slot) lists
 
 -- a set's lists, slot by slot
-unfoldable pub slotsOf : ℕ → EdgeSet → List (List ℕ)
-slotsOf first s = targetsFrom first 0 (cut (s .offsets) (s .deltas))
+unfoldable pub slotsOf : (K : ℕ) → ℕ → EdgeSet → List (List ℕ)
+slotsOf K first s = targetsFrom K first 0 (cut (s .offsets) (s .deltas))
 
 -- the rules of one set; without edges its deltas are not looked at
-unfoldable pub setRules : ℕ → ℕ → ℕ → ℕ → EdgeSet → Option Refusal
-setRules set first rows end s =
-    firstOf (refuse OffsetsForm (not (offsetsForm rows (s .count) (s .offsets)))
+unfoldable pub setRules : (K : ℕ) → ℕ → ℕ → ℕ → ℕ → EdgeSet → Option Refusal
+setRules K set first rows end s =
+    firstOf (refuse OffsetsForm (not (offsetsForm K rows (s .count) (s .offsets)))
     ∷ refuse DeltaCount (ltb 0 (s .count) && not (eqb (length (s .deltas)) (s .count)))
-    ∷ refuse TargetSide (ltb 0 (s .count) && not (soundFrom set first end 0 (cut (s .offsets) (s .deltas))))
+    ∷ refuse TargetSide (ltb 0 (s .count) && not (soundFrom K set first end 0 (cut (s .offsets) (s .deltas))))
     ∷ [])
 
 -- reading one set
-unfoldable pub readSet : ℕ → ℕ → ℕ → ℕ → EdgeSet → Verdict (List (List ℕ))
-readSet set first rows end s = unless (setRules set first rows end s) (slotsOf first s)
+unfoldable pub readSet : (K : ℕ) → ℕ → ℕ → ℕ → ℕ → EdgeSet → Verdict (List (List ℕ))
+readSet K set first rows end s = unless (setRules K set first rows end s) (slotsOf K first s)
 
 unfoldable pub setLengths : EdgeSet → List ℕ
 setLengths s = length (s .offsets) ∷ length (s .deltas) ∷ []
 
 -- `decode_csr`: one set lent by itself, with what it is lent for its answer
-unfoldable pub decodeSet : ℕ → ℕ → ℕ → ℕ → EdgeSet → List Lent → Verdict (List (List ℕ))
-decodeSet set first rows end s lent = unless (firstOf (limits (rows ∷ []) (setLengths s) lent ∷ setRules set first rows end s ∷ [])) (slotsOf first s)
+unfoldable pub decodeSet : (K : ℕ) → ℕ → ℕ → ℕ → ℕ → EdgeSet → List Lent → Verdict (List (List ℕ))
+decodeSet K set first rows end s lent = unless (firstOf (limits (rows ∷ []) (setLengths s) lent ∷ setRules K set first rows end s ∷ [])) (slotsOf K first s)
 
 -- ── label columns: 20, 21 ────────────────────────────────────────────────────────────────────
 
@@ -111,24 +111,24 @@ unfoldable pub columnLengths : GranuleColumns → List ℕ
 columnLengths c = setLengths (c .forward) ++ (setLengths (c .reverse) ++ (setLengths (c .inbound) ++ labelLengths (c .labels)))
 
 -- set by set 17, 18, 19; then 20, 21
-unfoldable pub granuleRules : ℕ → ℕ → ℕ → GranuleColumns → Option Refusal
-granuleRules first rows end c =
-    firstOf (setRules forward first rows end (c .forward)
-    ∷ setRules reverse first rows end (c .reverse)
-    ∷ setRules inbound first rows end (c .inbound)
+unfoldable pub granuleRules : (K : ℕ) → ℕ → ℕ → ℕ → GranuleColumns → Option Refusal
+granuleRules K first rows end c =
+    firstOf (setRules K forward first rows end (c .forward)
+    ∷ setRules K reverse first rows end (c .reverse)
+    ∷ setRules K inbound first rows end (c .inbound)
     ∷ coverRules rows (c .labels)
     ∷ [])
 
-unfoldable pub granuleOf : ℕ → GranuleColumns → Granule
-granuleOf first c =
-    record { forward = slotsOf first (c .forward); reverse = slotsOf first (c .reverse); inbound = slotsOf first (c .inbound); labels = labelsIn (c .labels) }
+unfoldable pub granuleOf : (K : ℕ) → ℕ → GranuleColumns → Granule
+granuleOf K first c =
+    record { forward = slotsOf K first (c .forward); reverse = slotsOf K first (c .reverse); inbound = slotsOf K first (c .inbound); labels = labelsIn (c .labels) }
 
 -- `decode_granule_edges`: the rows from `first` on of a file that ends before `end`; what it is lent for its answer, and the lengths of
 -- columns that are lent beside those that it reads
-unfoldable pub readBeside : List ℕ → ℕ → ℕ → ℕ → GranuleColumns → List Lent → Verdict Granule
-readBeside idle first rows end c lent =
-    unless (firstOf (limits (rows ∷ []) (idle ++ columnLengths c) lent ∷ granuleRules first rows end c ∷ [])) (granuleOf first c)
+unfoldable pub readBeside : (K : ℕ) → List ℕ → ℕ → ℕ → ℕ → GranuleColumns → List Lent → Verdict Granule
+readBeside K idle first rows end c lent =
+    unless (firstOf (limits (rows ∷ []) (idle ++ columnLengths c) lent ∷ granuleRules K first rows end c ∷ [])) (granuleOf K first c)
 
 -- the same where no column is lent but those that are read
-unfoldable pub readGranule : ℕ → ℕ → ℕ → GranuleColumns → List Lent → Verdict Granule
-readGranule first rows end c lent = readBeside [] first rows end c lent
+unfoldable pub readGranule : (K : ℕ) → ℕ → ℕ → ℕ → GranuleColumns → List Lent → Verdict Granule
+readGranule K first rows end c lent = readBeside K [] first rows end c lent

@@ -37,7 +37,7 @@ unfoldable pub walked : List (List ℕ) → Walked
 walked ls = record { levels = ls; count = sum length ls }
 
 -- a walk over one file's forward columns; other numbers have no parents there
-unfoldable pub walk : ℕ → ℕ → ℕ → EdgeSet → ℕ → ℕ → ℕ → List Lent → Verdict Walked
-walk first rows end f kind limit start lent =
-    unless (firstOf (limits (rows ∷ []) (setLengths f) lent ∷ setRules forward first rows end f ∷ []))
-    (walked (levels (listOf first (slotsOf first f) kind) limit start))
+unfoldable pub walk : (K : ℕ) → ℕ → ℕ → ℕ → EdgeSet → ℕ → ℕ → ℕ → List Lent → Verdict Walked
+walk K first rows end f kind limit start lent =
+    unless (firstOf (limits (rows ∷ []) (setLengths f) lent ∷ setRules K forward first rows end f ∷ []))
+    (walked (levels (listOf K first (slotsOf K first f) kind) limit start))

@@ -48,75 +48,75 @@ place-fits : (q : ℕ) (offsets : List ℕ) → length offsets * 8 < 2 ^ 63 → 
 place-fits q offsets g h = record { fits = omega arith }
 
 module _ (first count : ℕ) (offsets : List ℕ) (deltas : List ℤ) (kind number : ℕ) where
-  slots-length : length (slotsOf first (columnsOf count offsets deltas)) ≡ length offsets - 1
+  slots-length : length (slotsOf kinds first (columnsOf count offsets deltas)) ≡ length offsets - 1
   unfolding slotsOf
-  slots-length = length-targets first 0 (cut offsets deltas) ∙ cut-length offsets deltas
+  slots-length = length-targets kinds first 0 (cut offsets deltas) ∙ cut-length offsets deltas
 
-  below-granule : number < first → listOf first (slotsOf first (columnsOf count offsets deltas)) kind number ≡ []
+  below-granule : number < first → listOf kinds first (slotsOf kinds first (columnsOf count offsets deltas)) kind number ≡ []
   unfolding listOf
   below-granule h = rw (lt-ltb number first h)
 
-  inside-list : first ≤ number → listOf first (slotsOf first (columnsOf count offsets deltas)) kind number ≡ getD (slotsOf first (columnsOf count offsets deltas)) (2 * (number - first) + kind) []
+  inside-list : first ≤ number → listOf kinds first (slotsOf kinds first (columnsOf count offsets deltas)) kind number ≡ getD (slotsOf kinds first (columnsOf count offsets deltas)) (2 * (number - first) + kind) []
   unfolding listOf
   inside-list h = rw (le-ltb number first h)
 
-  past-granule : first ≤ number → length offsets / 2 ≤ number - first → listOf first (slotsOf first (columnsOf count offsets deltas)) kind number ≡ []
+  past-granule : first ≤ number → length offsets / 2 ≤ number - first → listOf kinds first (slotsOf kinds first (columnsOf count offsets deltas)) kind number ≡ []
   past-granule h k =
-      inside-list h ∙ List·getD-eq-default (slotsOf first (columnsOf count offsets deltas)) [] {n = 2 * (number - first) + kind} (omega (arith, slots-length))
+      inside-list h ∙ List·getD-eq-default (slotsOf kinds first (columnsOf count offsets deltas)) [] {n = 2 * (number - first) + kind} (omega (arith, slots-length))
 
-  pub none-below : number < first → 0 ≡ length (listOf first (slotsOf first (columnsOf count offsets deltas)) kind number)
+  pub none-below : number < first → 0 ≡ length (listOf kinds first (slotsOf kinds first (columnsOf count offsets deltas)) kind number)
   none-below h = rw (below-granule h)
 
-  pub none-past : first ≤ number → length offsets / 2 ≤ number - first → 0 ≡ length (listOf first (slotsOf first (columnsOf count offsets deltas)) kind number)
+  pub none-past : first ≤ number → length offsets / 2 ≤ number - first → 0 ≡ length (listOf kinds first (slotsOf kinds first (columnsOf count offsets deltas)) kind number)
   none-past h k = rw (past-granule h k)
 
-  module _ (r : Readable first (columnsOf count offsets deltas)) where
-    without-edges : count ≡ 0 → listOf first (slotsOf first (columnsOf count offsets deltas)) kind number ≡ []
+  module _ (r : Readable kinds first (columnsOf count offsets deltas)) where
+    without-edges : count ≡ 0 → listOf kinds first (slotsOf kinds first (columnsOf count offsets deltas)) kind number ≡ []
     unfolding listOf
     without-edges h = go (ltb number first)
       where
-        go : (b : Bool) → cond b [] (getD (slotsOf first (columnsOf count offsets deltas)) (kinds * (number - first) + kind) []) ≡ []
+        go : (b : Bool) → cond b [] (getD (slotsOf kinds first (columnsOf count offsets deltas)) (kinds * (number - first) + kind) []) ≡ []
         go true = refl
         go false =
-            let k : length (joined (slotsOf first (columnsOf count offsets deltas))) ≡ 0 = ap length (no-edges first count offsets deltas r h) in
-            nothing _ (omega (arith, in-joined (slotsOf first (columnsOf count offsets deltas)) (kinds * (number - first) + kind)))
+            let k : length (joined (slotsOf kinds first (columnsOf count offsets deltas))) ≡ 0 = ap length (no-edges kinds first count offsets deltas r h) in
+            nothing _ (omega (arith, in-joined (slotsOf kinds first (columnsOf count offsets deltas)) (kinds * (number - first) + kind)))
 
-    pub none-without : count ≡ 0 → 0 ≡ length (listOf first (slotsOf first (columnsOf count offsets deltas)) kind number)
+    pub none-without : count ≡ 0 → 0 ≡ length (listOf kinds first (slotsOf kinds first (columnsOf count offsets deltas)) kind number)
     none-without h = rw (without-edges h)
 
     -- the slot of a number of the granule, in a set with edges
     module _ (c : count ≡ 0 → ⊥) (h : first ≤ number) (k : number - first < length offsets / 2) (i : kind < kinds) where
       pub next-in : 2 * (number - first) + kind + 1 < length offsets
       next-in =
-          let l : length offsets ≡ kinds * r .rows + 1 = form-length (r .rows) count offsets (kept-form (r .set) first (r .rows) (r .end) (columnsOf count offsets deltas) (r .kept)) in
+          let l : length offsets ≡ kinds * r .rows + 1 = form-length kinds (r .rows) count offsets (kept-form kinds (r .set) first (r .rows) (r .end) (columnsOf count offsets deltas) (r .kept)) in
           omega arith
 
       pub slot-in : 2 * (number - first) + kind < length offsets
       slot-in = omega (arith, next-in)
 
-      with-edges : Edged first offsets deltas
-      with-edges = edged first count offsets deltas r c
+      with-edges : Edged kinds first offsets deltas
+      with-edges = edged kinds first count offsets deltas r c
 
-      slot-of : listOf first (slotsOf first (columnsOf count offsets deltas)) kind number ≡ getD (targetsFrom first 0 (cut offsets deltas)) (2 * (number - first) + kind) []
+      slot-of : listOf kinds first (slotsOf kinds first (columnsOf count offsets deltas)) kind number ≡ getD (targetsFrom kinds first 0 (cut offsets deltas)) (2 * (number - first) + kind) []
       unfolding slotsOf
       slot-of = inside-list h
 
       pub slot-rises : getD offsets (2 * (number - first) + kind) 0 ≤ getD offsets (2 * (number - first) + kind + 1) 0
-      slot-rises = slot-order first offsets deltas with-edges (2 * (number - first) + kind) next-in (eventOf first (2 * (number - first) + kind)) _ _ refl refl refl
+      slot-rises = slot-order kinds first offsets deltas with-edges (2 * (number - first) + kind) next-in (eventOf kinds first (2 * (number - first) + kind)) _ _ refl refl refl
 
-      pub slot-length : getD offsets (2 * (number - first) + kind + 1) 0 - getD offsets (2 * (number - first) + kind) 0 ≡ length (listOf first (slotsOf first (columnsOf count offsets deltas)) kind number)
-      slot-length = rw slot-of (sym (slot-count first offsets deltas with-edges (2 * (number - first) + kind) next-in (eventOf first (2 * (number - first) + kind)) _ _ refl refl refl))
+      pub slot-length : getD offsets (2 * (number - first) + kind + 1) 0 - getD offsets (2 * (number - first) + kind) 0 ≡ length (listOf kinds first (slotsOf kinds first (columnsOf count offsets deltas)) kind number)
+      slot-length = rw slot-of (sym (slot-count kinds first offsets deltas with-edges (2 * (number - first) + kind) next-in (eventOf kinds first (2 * (number - first) + kind)) _ _ refl refl refl))
 
     -- the same by the list's length
-    module _ (n : ℕ) (e : n ≡ length (listOf first (slotsOf first (columnsOf count offsets deltas)) kind number)) where
+    module _ (n : ℕ) (e : n ≡ length (listOf kinds first (slotsOf kinds first (columnsOf count offsets deltas)) kind number)) where
       module _ (z : n ≡ 0) where
-        empty : listOf first (slotsOf first (columnsOf count offsets deltas)) kind number ≡ []
-        empty = nothing (listOf first (slotsOf first (columnsOf count offsets deltas)) kind number) (omega arith)
+        empty : listOf kinds first (slotsOf kinds first (columnsOf count offsets deltas)) kind number ≡ []
+        empty = nothing (listOf kinds first (slotsOf kinds first (columnsOf count offsets deltas)) kind number) (omega arith)
 
-        pub empty-ends : (at : ℕ) → at ≡ at + length (listOf first (slotsOf first (columnsOf count offsets deltas)) kind number)
+        pub empty-ends : (at : ℕ) → at ≡ at + length (listOf kinds first (slotsOf kinds first (columnsOf count offsets deltas)) kind number)
         empty-ends at = omega arith
 
-        pub empty-put : (at : ℕ) (out : List ℕ) → out ≡ sets out at (listOf first (slotsOf first (columnsOf count offsets deltas)) kind number)
+        pub empty-put : (at : ℕ) (out : List ℕ) → out ≡ sets out at (listOf kinds first (slotsOf kinds first (columnsOf count offsets deltas)) kind number)
         empty-put at out = rw empty
 
       module _ (s : n ≡ 0 → ⊥) (i : kind < kinds) where
@@ -138,7 +138,7 @@ module _ (first count : ℕ) (offsets : List ℕ) (deltas : List ℤ) (kind numb
         pub there : 2 * (number - first) + kind + 1 < length offsets
         there = next-in some-edges in-granule in-rows i
 
-        pub there-edged : Edged first offsets deltas
+        pub there-edged : Edged kinds first offsets deltas
         there-edged = with-edges some-edges in-granule in-rows i
 
         module _ (g : length offsets * 8 < 2 ^ 63) where
@@ -148,13 +148,13 @@ module _ (first count : ℕ) (offsets : List ℕ) (deltas : List ℤ) (kind numb
           pub slot-fits : Fits w64 (2 * (number - first) + kind)
           slot-fits = place-fits (2 * (number - first) + kind) offsets g (omega (arith, there))
 
-        slot-there : listOf first (slotsOf first (columnsOf count offsets deltas)) kind number ≡ getD (targetsFrom first 0 (cut offsets deltas)) (2 * (number - first) + kind) []
+        slot-there : listOf kinds first (slotsOf kinds first (columnsOf count offsets deltas)) kind number ≡ getD (targetsFrom kinds first 0 (cut offsets deltas)) (2 * (number - first) + kind) []
         slot-there = slot-of some-edges in-granule in-rows i
 
-        pub list-ends : (at m : ℕ) → m ≡ at + length (getD (targetsFrom first 0 (cut offsets deltas)) (2 * (number - first) + kind) []) → m ≡ at + length (listOf first (slotsOf first (columnsOf count offsets deltas)) kind number)
+        pub list-ends : (at m : ℕ) → m ≡ at + length (getD (targetsFrom kinds first 0 (cut offsets deltas)) (2 * (number - first) + kind) []) → m ≡ at + length (listOf kinds first (slotsOf kinds first (columnsOf count offsets deltas)) kind number)
         list-ends at m f = rw slot-there f
 
-        pub list-put : (at : ℕ) (was out : List ℕ) → out ≡ sets was at (getD (targetsFrom first 0 (cut offsets deltas)) (2 * (number - first) + kind) []) → out ≡ sets was at (listOf first (slotsOf first (columnsOf count offsets deltas)) kind number)
+        pub list-put : (at : ℕ) (was out : List ℕ) → out ≡ sets was at (getD (targetsFrom kinds first 0 (cut offsets deltas)) (2 * (number - first) + kind) []) → out ≡ sets was at (listOf kinds first (slotsOf kinds first (columnsOf count offsets deltas)) kind number)
         list-put at was out f = rw slot-there f
 
 length-part : (a b : ℕ) (l : List ℤ) → length (slice a b l) ≤ length l
@@ -166,10 +166,10 @@ length-cut a [] deltas q = omega arith
 length-cut a (b ∷ bs) deltas zero = length-part a b deltas
 length-cut a (b ∷ bs) deltas (suc q) = length-cut b bs deltas q
 
-length-lists : (first s : ℕ) (lists : List (List ℤ)) (q : ℕ) → length (getD (targetsFrom first s lists) q []) ≡ length (getD lists q [])
+length-lists : (first s : ℕ) (lists : List (List ℤ)) (q : ℕ) → length (getD (targetsFrom kinds first s lists) q []) ≡ length (getD lists q [])
 unfolding targetsFrom
 length-lists first s [] q = refl
-length-lists first s (ds ∷ lists) zero = length-map ds (targetOf (eventOf first s))
+length-lists first s (ds ∷ lists) zero = length-map ds (targetOf (eventOf kinds first s))
 length-lists first s (ds ∷ lists) (suc q) = length-lists first (suc s) lists q
 
 length-slots : (offsets : List ℕ) (deltas : List ℤ) (q : ℕ) → length (getD (cut offsets deltas) q []) ≤ length deltas
@@ -178,12 +178,12 @@ length-slots [] deltas q = omega arith
 length-slots (a ∷ bs) deltas q = length-cut a bs deltas q
 
 -- a list has no more numbers than its set has deltas
-pub list-few : (first count : ℕ) (offsets : List ℕ) (deltas : List ℤ) (kind number n : ℕ) → Readable first (columnsOf count offsets deltas)
-    → n ≡ 0 + length (listOf first (slotsOf first (columnsOf count offsets deltas)) kind number) → n ≤ maxNumbers
+pub list-few : (first count : ℕ) (offsets : List ℕ) (deltas : List ℤ) (kind number n : ℕ) → Readable kinds first (columnsOf count offsets deltas)
+    → n ≡ 0 + length (listOf kinds first (slotsOf kinds first (columnsOf count offsets deltas)) kind number) → n ≤ maxNumbers
 unfolding listOf slotsOf
 list-few first count offsets deltas kind number n r e = omega (arith, e, r .few, go (ltb number first))
   where
-    go : (b : Bool) → length (cond b [] (getD (targetsFrom first 0 (cut offsets deltas)) (kinds * (number - first) + kind) [])) ≤ length deltas
+    go : (b : Bool) → length (cond b [] (getD (targetsFrom kinds first 0 (cut offsets deltas)) (kinds * (number - first) + kind) [])) ≤ length deltas
     go true = omega arith
     go false =
         let q = kinds * (number - first) + kind in
@@ -191,7 +191,7 @@ list-few first count offsets deltas kind number n r e = omega (arith, e, r .few,
 
 -- two lists together
 pub two-fit : (first rc : ℕ) (ro : List ℕ) (rd : List ℤ) (ic : ℕ) (io : List ℕ) (id : List ℤ) (kind number n m : ℕ)
-    → Readable first (columnsOf rc ro rd) → Readable first (columnsOf ic io id)
-    → n ≡ length (listOf first (slotsOf first (columnsOf rc ro rd)) kind number) → m ≡ length (listOf first (slotsOf first (columnsOf ic io id)) kind number) → Fits w64 (n + m)
+    → Readable kinds first (columnsOf rc ro rd) → Readable kinds first (columnsOf ic io id)
+    → n ≡ length (listOf kinds first (slotsOf kinds first (columnsOf rc ro rd)) kind number) → m ≡ length (listOf kinds first (slotsOf kinds first (columnsOf ic io id)) kind number) → Fits w64 (n + m)
 two-fit first rc ro rd ic io id kind number n m r i e f =
     record { fits = omega (arith, list-few first rc ro rd kind number n r (omega arith), list-few first ic io id kind number m i (omega arith)) }

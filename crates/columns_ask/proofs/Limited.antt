@@ -12,7 +12,7 @@ use borrow.Author.Tests.{eqb-true}
 use Rattle.lists.specs.Lists.{any, all}
 use Rattle.lists.proofs.Tests.{both, any-append}
 use Rattle.lists.proofs.Once.{or-is-false}
-use Rattle.columns.specs.Limits.{maxNumbers}
+use Rattle.columns.specs.Limits.{kinds, maxNumbers}
 use Rattle.columns.specs.Refusal.{Lent, short, limits}
 use Rattle.columns.specs.EdgeSet.{EdgeSet, reverse, inbound}
 use Rattle.columns.specs.Reading.{setRules, setLengths, labelRules}
@@ -36,7 +36,7 @@ module _ (first rows end rc : ℕ) (ro : List ℕ) (rd : List ℤ) (ic : ℕ) (i
   unfolding limits limitsOf setLengths short any
   both-limits = rw (f, or-false (ltb out 4096))
 
-  pub children-kept : k ≡ Kept → (q : Ruling) → q ≡ ruling (bothRules first rows end (columnsOf rc ro rd) (columnsOf ic io id)) → q ≡ ruling (childrenRules first rows end (columnsOf rc ro rd) (columnsOf ic io id) (room out))
+  pub children-kept : k ≡ Kept → (q : Ruling) → q ≡ ruling (bothRules kinds first rows end (columnsOf rc ro rd) (columnsOf ic io id)) → q ≡ ruling (childrenRules first rows end (columnsOf rc ro rd) (columnsOf ic io id) (room out))
   unfolding childrenRules bothRules
   children-kept h q g = then-rest k _ _ (e ∙ ap ruling (sym both-limits)) h q g
 
@@ -66,16 +66,16 @@ module _ (first rows end : ℕ) (r i : EdgeSet) (lent : List Lent) (k : Ruling) 
   unfolding childrenRules
   apart = or-is-false _ _ (sym (any-append (ltb maxNumbers) (setLengths r) (setLengths i)) ∙ few-numbers _ _ lent (each-none _ (told-kept _ e h) .0))
 
-  rules : (setRules reverse first rows end r ≡ none) × (setRules inbound first rows end i ≡ none)
+  rules : (setRules kinds reverse first rows end r ≡ none) × (setRules kinds inbound first rows end i ≡ none)
   unfolding childrenRules
   rules =
       let p = each-none _ (told-kept _ e h) in
       (p .1 .0, p .1 .1 .0)
 
-  pub readable-reverse : Readable first r
+  pub readable-reverse : Readable kinds first r
   readable-reverse = record { set = reverse; rows = rows; end = end; kept = rules .0; few = few-deltas r (apart .0) }
 
-  pub readable-inbound : Readable first i
+  pub readable-inbound : Readable kinds first i
   readable-inbound = record { set = inbound; rows = rows; end = end; kept = rules .1; few = few-deltas i (apart .1) }
 
 -- label columns

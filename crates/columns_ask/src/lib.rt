@@ -46,8 +46,8 @@ fn list_length(
     number: u64,
 ) -> usize
     requires { ⌜ kind < kinds ⌝ }
-    requires { ⌜ Readable first (columnsOf count (now offsets) (now deltas)) ⌝ }
-    ensures { λ r. ⌜ r ≡ length (asked.listOf first (slotsOf first (columnsOf count (now (offsets .entry)) (now (deltas .entry)))) kind number) ⌝ }
+    requires { ⌜ Readable kinds first (columnsOf count (now offsets) (now deltas)) ⌝ }
+    ensures { λ r. ⌜ r ≡ length (asked.listOf kinds first (slotsOf kinds first (columnsOf count (now (offsets .entry)) (now (deltas .entry)))) kind number) ⌝ }
 {
     if count == 0 {
         return 0;
@@ -75,9 +75,9 @@ fn write_list(
     at: usize,
 ) -> usize
     requires { ⌜ (kind < kinds) × (at ≤ maxNumbers) ⌝ }
-    requires { ⌜ Readable first (columnsOf count (now offsets) (now deltas)) ⌝ }
-    ensures { λ r. ⌜ r ≡ at + length (asked.listOf first (slotsOf first (columnsOf count (now (offsets .entry)) (now (deltas .entry)))) kind number) ⌝ }
-    ensures { λ _. ⌜ now (out .exit) ≡ sets (now (out .entry)) at (asked.listOf first (slotsOf first (columnsOf count (now (offsets .entry)) (now (deltas .entry)))) kind number) ⌝ }
+    requires { ⌜ Readable kinds first (columnsOf count (now offsets) (now deltas)) ⌝ }
+    ensures { λ r. ⌜ r ≡ at + length (asked.listOf kinds first (slotsOf kinds first (columnsOf count (now (offsets .entry)) (now (deltas .entry)))) kind number) ⌝ }
+    ensures { λ _. ⌜ now (out .exit) ≡ sets (now (out .entry)) at (asked.listOf kinds first (slotsOf kinds first (columnsOf count (now (offsets .entry)) (now (deltas .entry)))) kind number) ⌝ }
 {
     if list_length(first, count, offsets, deltas, kind, number) == 0 {
         return at;
@@ -98,8 +98,8 @@ pub fn parents(
     number: u64,
     out: &mut [u64],
 ) -> Counted
-    ensures { λ r. ⌜ r ≡ countedOf (asked.parents first rows end (columnsOf count (now (offsets .entry)) (now (deltas .entry))) (kindOf kind) number (room (length (now (out .entry))))) ⌝ }
-    ensures { λ _. ⌜ now (out .exit) ≡ writtenOver (now (out .entry)) (asked.parents first rows end (columnsOf count (now (offsets .entry)) (now (deltas .entry))) (kindOf kind) number (room (length (now (out .entry))))) ⌝ }
+    ensures { λ r. ⌜ r ≡ countedOf (asked.parents kinds first rows end (columnsOf count (now (offsets .entry)) (now (deltas .entry))) (kindOf kind) number (room (length (now (out .entry))))) ⌝ }
+    ensures { λ _. ⌜ now (out .exit) ≡ writtenOver (now (out .entry)) (asked.parents kinds first rows end (columnsOf count (now (offsets .entry)) (now (deltas .entry))) (kindOf kind) number (room (length (now (out .entry))))) ⌝ }
 {
     let rules = sets::csr_rules(
         Set::Forward,
@@ -172,9 +172,9 @@ fn are_children_over(
     number: u64,
 ) -> bool
     requires { ⌜ kind < kinds ⌝ }
-    requires { ⌜ Readable first (columnsOf rcount (now roffsets) (now rdeltas)) ⌝ }
-    requires { ⌜ Readable first (columnsOf icount (now ioffsets) (now ideltas)) ⌝ }
-    ensures { λ r. ⌜ r ≡ ltb maxNumbers (length (asked.childrenOf first (columnsOf rcount (now (roffsets .entry)) (now (rdeltas .entry))) (columnsOf icount (now (ioffsets .entry)) (now (ideltas .entry))) kind number)) ⌝ }
+    requires { ⌜ Readable kinds first (columnsOf rcount (now roffsets) (now rdeltas)) ⌝ }
+    requires { ⌜ Readable kinds first (columnsOf icount (now ioffsets) (now ideltas)) ⌝ }
+    ensures { λ r. ⌜ r ≡ ltb maxNumbers (length (asked.childrenOf kinds first (columnsOf rcount (now (roffsets .entry)) (now (rdeltas .entry))) (columnsOf icount (now (ioffsets .entry)) (now (ideltas .entry))) kind number)) ⌝ }
 {
     let n = list_length(first, rcount, roffsets, rdeltas, kind, number);
     let m = list_length(first, icount, ioffsets, ideltas, kind, number);
@@ -195,10 +195,10 @@ fn write_children(
     out: &mut [u64],
 ) -> usize
     requires { ⌜ kind < kinds ⌝ }
-    requires { ⌜ Readable first (columnsOf rcount (now roffsets) (now rdeltas)) ⌝ }
-    requires { ⌜ Readable first (columnsOf icount (now ioffsets) (now ideltas)) ⌝ }
-    ensures { λ r. ⌜ r ≡ length (asked.childrenOf first (columnsOf rcount (now (roffsets .entry)) (now (rdeltas .entry))) (columnsOf icount (now (ioffsets .entry)) (now (ideltas .entry))) kind number) ⌝ }
-    ensures { λ _. ⌜ now (out .exit) ≡ sets (now (out .entry)) 0 (asked.childrenOf first (columnsOf rcount (now (roffsets .entry)) (now (rdeltas .entry))) (columnsOf icount (now (ioffsets .entry)) (now (ideltas .entry))) kind number) ⌝ }
+    requires { ⌜ Readable kinds first (columnsOf rcount (now roffsets) (now rdeltas)) ⌝ }
+    requires { ⌜ Readable kinds first (columnsOf icount (now ioffsets) (now ideltas)) ⌝ }
+    ensures { λ r. ⌜ r ≡ length (asked.childrenOf kinds first (columnsOf rcount (now (roffsets .entry)) (now (rdeltas .entry))) (columnsOf icount (now (ioffsets .entry)) (now (ideltas .entry))) kind number) ⌝ }
+    ensures { λ _. ⌜ now (out .exit) ≡ sets (now (out .entry)) 0 (asked.childrenOf kinds first (columnsOf rcount (now (roffsets .entry)) (now (rdeltas .entry))) (columnsOf icount (now (ioffsets .entry)) (now (ideltas .entry))) kind number) ⌝ }
 {
     let n = write_list(first, rcount, roffsets, rdeltas, kind, number, out, 0);
     write_list(first, icount, ioffsets, ideltas, kind, number, out, n)
@@ -270,8 +270,8 @@ pub fn children(
     number: u64,
     out: &mut [u64],
 ) -> Counted
-    ensures { λ r. ⌜ r ≡ countedOf (asked.children first rows end (columnsOf rcount (now (roffsets .entry)) (now (rdeltas .entry))) (columnsOf icount (now (ioffsets .entry)) (now (ideltas .entry))) (kindOf kind) number (room (length (now (out .entry))))) ⌝ }
-    ensures { λ _. ⌜ now (out .exit) ≡ writtenOver (now (out .entry)) (asked.children first rows end (columnsOf rcount (now (roffsets .entry)) (now (rdeltas .entry))) (columnsOf icount (now (ioffsets .entry)) (now (ideltas .entry))) (kindOf kind) number (room (length (now (out .entry))))) ⌝ }
+    ensures { λ r. ⌜ r ≡ countedOf (asked.children kinds first rows end (columnsOf rcount (now (roffsets .entry)) (now (rdeltas .entry))) (columnsOf icount (now (ioffsets .entry)) (now (ideltas .entry))) (kindOf kind) number (room (length (now (out .entry))))) ⌝ }
+    ensures { λ _. ⌜ now (out .exit) ≡ writtenOver (now (out .entry)) (asked.children kinds first rows end (columnsOf rcount (now (roffsets .entry)) (now (rdeltas .entry))) (columnsOf icount (now (ioffsets .entry)) (now (ideltas .entry))) (kindOf kind) number (room (length (now (out .entry))))) ⌝ }
 {
     let slot = kind::slot(kind);
     let rules = asked_rules(

@@ -68,7 +68,7 @@ module _ (first rows : ℕ) (cs ps ks : List ℕ) (e : inboundFrom first (first 
   at j h =
       let z : 0 + j ≡ j = omega arith in
       kept-parts (has (leb (first + rows)) (getElem? cs j)) (has (inFile first (first + rows)) (getElem? ps j)) (has (λ k. ltb k kinds) (getElem? ks j)) InboundChild InboundParent
-      (rw z at (none-each (λ i. inboundRules first (first + rows) (getElem? cs i) (getElem? ps i) (getElem? ks i)) 0 (recordCount cs ps ks) e j h))
+      (rw z at (none-each (λ i. inboundRules kinds first (first + rows) (getElem? cs i) (getElem? ps i) (getElem? ks i)) 0 (recordCount cs ps ks) e j h))
 
   count-cs : recordCount cs ps ks ≤ length cs
   count-cs = reaches (recordCount cs ps ks) (length cs) (λ j h. has-there (leb (first + rows)) cs j (at j h .0) .0)

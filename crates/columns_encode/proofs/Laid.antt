@@ -9,6 +9,7 @@ use lib.IntN.{ℤ}
 use lib.ListN.{length, getD, take}
 use lib.Seq.{sets, take-all, getD-take}
 use borrow.Author.Tests.{ltb-false}
+use Rattle.columns.specs.Limits.{kinds}
 use Rattle.lists.specs.Lists.{joined, part}
 use Rattle.lists.proofs.Flat.{length-joined, getD-starts}
 use Rattle.columns.specs.Refusal.{refused, accepted, unless}
@@ -59,7 +60,7 @@ module _ (first rows from n : ℕ) (offsets targets cs ps ks : List ℕ) {r : Ru
     late-none : lateRules first rows (cut offsets targets) (inboundOf cs ps ks) from n ≡ none
     late-none = told-kept (lateRules first rows (cut offsets targets) (inboundOf cs ps ks) from n) e f
 
-    span-none : spanRules first rows (cut offsets targets) (inboundLists first rows (inboundOf cs ps ks)) from n ≡ none
+    span-none : spanRules first rows (cut offsets targets) (inboundLists kinds first rows (inboundOf cs ps ks)) from n ≡ none
     unfolding lateRules
     span-none = each-none _ late-none .1 .0
 
@@ -67,19 +68,19 @@ module _ (first rows from n : ℕ) (offsets targets cs ps ks : List ℕ) {r : Ru
     unfolding spanRules
     inside = ltb-false rows (from + n) (not-refused GranuleRows _ (each-none _ span-none .0))
 
-    forward-fits : deltasFit (first + from) (part (2 * from) (2 * n) (cut offsets targets)) ≡ true
+    forward-fits : deltasFit kinds (first + from) (part (2 * from) (2 * n) (cut offsets targets)) ≡ true
     unfolding spanRules
     forward-fits = passed DeltaRange _ (each-none _ span-none .1 .0)
 
-    reverse-fits : deltasFit (first + from) (part (2 * from) (2 * n) (reverseLists first rows (cut offsets targets))) ≡ true
+    reverse-fits : deltasFit kinds (first + from) (part (2 * from) (2 * n) (reverseLists kinds first rows (cut offsets targets))) ≡ true
     unfolding spanRules
     reverse-fits = passed DeltaRange _ (each-none _ span-none .1 .1 .0)
 
-    inbound-fits : deltasFit (first + from) (part (2 * from) (2 * n) (inboundLists first rows (inboundOf cs ps ks))) ≡ true
+    inbound-fits : deltasFit kinds (first + from) (part (2 * from) (2 * n) (inboundLists kinds first rows (inboundOf cs ps ks))) ≡ true
     unfolding spanRules
     inbound-fits = passed DeltaRange _ (each-none _ span-none .1 .1 .1 .0)
 
-    verdict-kept : lateVerdict first rows (cut offsets targets) (inboundOf cs ps ks) from n ≡ accepted (record { forward = setAt first from n (cut offsets targets); reverse = setAt first from n (reverseLists first rows (cut offsets targets)); inbound = setAt first from n (inboundLists first rows (inboundOf cs ps ks)) })
+    verdict-kept : lateVerdict first rows (cut offsets targets) (inboundOf cs ps ks) from n ≡ accepted (record { forward = setAt first from n (cut offsets targets); reverse = setAt first from n (reverseLists kinds first rows (cut offsets targets)); inbound = setAt first from n (inboundLists kinds first rows (inboundOf cs ps ks)) })
     unfolding lateVerdict unless
     verdict-kept = rw late-none
 
@@ -91,26 +92,26 @@ module _ (first rows from n : ℕ) (offsets targets cs ps ks : List ℕ) {r : Ru
     unfolding deltasLaid
     forward-deltas was out h = rw verdict-kept h
 
-    pub reverse-offsets : (was out : List ℕ) → out ≡ sets was 0 (setAt first from n (reverseLists first rows (cut offsets targets)) .offsets) → out ≡ offsetsLaid 1 (lateVerdict first rows (cut offsets targets) (inboundOf cs ps ks) from n) was
+    pub reverse-offsets : (was out : List ℕ) → out ≡ sets was 0 (setAt first from n (reverseLists kinds first rows (cut offsets targets)) .offsets) → out ≡ offsetsLaid 1 (lateVerdict first rows (cut offsets targets) (inboundOf cs ps ks) from n) was
     unfolding offsetsLaid
     reverse-offsets was out h = rw verdict-kept h
 
-    pub reverse-deltas : (was out : List ℤ) → out ≡ sets was 0 (setAt first from n (reverseLists first rows (cut offsets targets)) .deltas) → out ≡ deltasLaid 1 (lateVerdict first rows (cut offsets targets) (inboundOf cs ps ks) from n) was
+    pub reverse-deltas : (was out : List ℤ) → out ≡ sets was 0 (setAt first from n (reverseLists kinds first rows (cut offsets targets)) .deltas) → out ≡ deltasLaid 1 (lateVerdict first rows (cut offsets targets) (inboundOf cs ps ks) from n) was
     unfolding deltasLaid
     reverse-deltas was out h = rw verdict-kept h
 
-    module _ (offs list : List ℕ) (a : r ≡ Kept → Arranged rows (inboundLists first rows (inboundOf cs ps ks)) offs list) (m : ℕ) (q : m ≡ getD offs (2 * rows) 0) where
-      many-is : m ≡ length (joined (inboundLists first rows (inboundOf cs ps ks)))
+    module _ (offs list : List ℕ) (a : r ≡ Kept → Arranged rows (inboundLists kinds first rows (inboundOf cs ps ks)) offs list) (m : ℕ) (q : m ≡ getD offs (2 * rows) 0) where
+      many-is : m ≡ length (joined (inboundLists kinds first rows (inboundOf cs ps ks)))
       many-is =
           q ∙ sym (getD-take (2 * rows + 1) offs (2 * rows) 0 (omega arith)) ∙ ap (λ l. getD l (2 * rows) 0) (a f .offsets)
-          ∙ getD-starts 0 (inboundLists first rows (inboundOf cs ps ks)) (2 * rows) 0 (omega (arith, length-arrived first rows (inboundOf cs ps ks)))
-          ∙ rw (take-all (2 * rows) (inboundLists first rows (inboundOf cs ps ks)) (omega (arith, length-arrived first rows (inboundOf cs ps ks)))) (omega (arith, length-joined (inboundLists first rows (inboundOf cs ps ks))))
+          ∙ getD-starts 0 (inboundLists kinds first rows (inboundOf cs ps ks)) (2 * rows) 0 (omega (arith, length-arrived first rows (inboundOf cs ps ks)))
+          ∙ rw (take-all (2 * rows) (inboundLists kinds first rows (inboundOf cs ps ks)) (omega (arith, length-arrived first rows (inboundOf cs ps ks)))) (omega (arith, length-joined (inboundLists kinds first rows (inboundOf cs ps ks))))
 
-      list-is : take m list ≡ joined (inboundLists first rows (inboundOf cs ps ks))
+      list-is : take m list ≡ joined (inboundLists kinds first rows (inboundOf cs ps ks))
       list-is = rw many-is (a f .targets)
 
-      back : cut (take (2 * rows + 1) offs) (take m list) ≡ inboundLists first rows (inboundOf cs ps ks)
-      back = rw (a f .offsets, list-is) (cut-joined (inboundLists first rows (inboundOf cs ps ks)))
+      back : cut (take (2 * rows + 1) offs) (take m list) ≡ inboundLists kinds first rows (inboundOf cs ps ks)
+      back = rw (a f .offsets, list-is) (cut-joined (inboundLists kinds first rows (inboundOf cs ps ks)))
 
       pub ready : Early first rows offsets targets (length cs) → Ready first rows from n offsets targets offs list m
       ready given = record {
@@ -128,7 +129,7 @@ module _ (first rows from n : ℕ) (offsets targets cs ps ks : List ℕ) {r : Ru
           few = given .few;
           last = given .last;
           inside = inside;
-          form = rw (a f .offsets, list-is) (starts-form rows (inboundLists first rows (inboundOf cs ps ks)) (length-arrived first rows (inboundOf cs ps ks)));
+          form = rw (a f .offsets, list-is) (starts-form kinds rows (inboundLists kinds first rows (inboundOf cs ps ks)) (length-arrived first rows (inboundOf cs ps ks)));
           fits = rw back inbound-fits;
         };
         long = a f .long;
@@ -136,7 +137,7 @@ module _ (first rows from n : ℕ) (offsets targets cs ps ks : List ℕ) {r : Ru
         short = omega (arith, many-is, a f .short);
       }
 
-      pub late-counted : (c : Counts) → c ≡ countsOf (setAt first from n (cut offsets targets)) (setAt first from n (reverseLists first rows (cut offsets targets))) (setAt first from n (cut (take (2 * rows + 1) offs) (take m list))) → Edges c ≡ encodedOf (lateVerdict first rows (cut offsets targets) (inboundOf cs ps ks) from n)
+      pub late-counted : (c : Counts) → c ≡ countsOf (setAt first from n (cut offsets targets)) (setAt first from n (reverseLists kinds first rows (cut offsets targets))) (setAt first from n (cut (take (2 * rows + 1) offs) (take m list))) → Edges c ≡ encodedOf (lateVerdict first rows (cut offsets targets) (inboundOf cs ps ks) from n)
       unfolding encodedOf
       late-counted c h = rw verdict-kept (ap Edges (rw back at h))
 

@@ -2,6 +2,7 @@
 use mathlib.Core.Path.{_≡_, refl}
 use mathlib.Core.List.{[], _∷_}
 use mathlib.Core.Option.{Option, none, some}
+use Rattle.columns.specs.Limits.{kinds}
 use Rattle.columns.specs.Refusal.{firstOf}
 use Rattle.columns.specs.Building.{Graph, slotsIn, allUnresolvedRules, allInboundRules, forwardPart, reversePart, inboundPart, buildRules}
 use Rattle.columns_rules.specs.Ruled.{fileRules}
@@ -28,7 +29,7 @@ groups none none none none none none none none none none none (some x) d4 = refl
 groups none none none none none none none none none none none none (some x) = refl
 groups none none none none none none none none none none none none none = refl
 
-pub all-rules : (g : Graph) → buildRules g
+pub all-rules : (g : Graph) → buildRules kinds g
     ≡ firstOf (fileRules (g .subject) (g .first) (g .rows) (g .offsets) (g .targets)
     ∷ recordRules (g .first) (g .rows) (g .unresolved .children) (g .unresolved .kindsGiven) (g .unresolved .flags) (g .depth) (g .labels)
     ∷ lateRules (g .first) (g .rows) (slotsIn g) (g .inbound) (g .granuleFirst) (g .granuleRows)

@@ -11,7 +11,7 @@ use borrow.Author.Tests.{ltb-true, ltb-false}
 use Rattle.lists.specs.Lists.{any}
 use Rattle.lists.proofs.Tests.{any-append}
 use Rattle.lists.proofs.Once.{or-is-false}
-use Rattle.columns.specs.Limits.{end64, maxNumbers}
+use Rattle.columns.specs.Limits.{kinds, end64, maxNumbers}
 use Rattle.columns.specs.Refusal.{refused, unless, firstOf, short, limits}
 use Rattle.columns.specs.EdgeSet.{offsetsForm, cut}
 use Rattle.columns.specs.Reading.{Labels, labelLengths, idleLabels}
@@ -64,12 +64,12 @@ rooms-kept fo fd ro rd io id e =
 
 -- ── what the first rules say ─────────────────────────────────────────────────────────────────
 
-module _ (idle subject : List ℕ) (first rows : ℕ) (offsets targets cs ks fs : List ℕ) (depth : Option Depth) (labels : Option Labels) (inbound parents kinds : ℕ) (tight : Bool)
-    {r : Ruling} (e : r ≡ ruling (earlyRules idle subject first rows offsets targets cs ks fs depth labels inbound parents kinds tight)) (h : r ≡ Kept) where
-  both-none : (limitRules rows (recordCount cs ks fs) (any (ltb maxNumbers) (idle ++ (length offsets ∷ length targets ∷ inbound ∷ parents ∷ kinds ∷ labelLengths labels))) tight ≡ none)
+module _ (idle subject : List ℕ) (first rows : ℕ) (offsets targets cs ks fs : List ℕ) (depth : Option Depth) (labels : Option Labels) (inbound parents given : ℕ) (tight : Bool)
+    {r : Ruling} (e : r ≡ ruling (earlyRules idle subject first rows offsets targets cs ks fs depth labels inbound parents given tight)) (h : r ≡ Kept) where
+  both-none : (limitRules rows (recordCount cs ks fs) (any (ltb maxNumbers) (idle ++ (length offsets ∷ length targets ∷ inbound ∷ parents ∷ given ∷ labelLengths labels))) tight ≡ none)
       × (inputRules subject first rows offsets targets cs ks fs depth labels ≡ none)
   unfolding earlyRules
-  both-none = let q = each-none _ (told-kept (earlyRules idle subject first rows offsets targets cs ks fs depth labels inbound parents kinds tight) e h) in (q .0, q .1 .0)
+  both-none = let q = each-none _ (told-kept (earlyRules idle subject first rows offsets targets cs ks fs depth labels inbound parents given tight) e h) in (q .0, q .1 .0)
 
   few : (rows ≤ 1024) × (length targets ≤ 4096) × (inbound ≤ 4096)
   unfolding limitRules any
@@ -82,7 +82,7 @@ module _ (idle subject : List ℕ) (first rows : ℕ) (offsets targets cs ks fs 
       let d = or-is-false (ltb 4096 inbound) _ (c .1) in
       (ltb-false 1024 rows (a .0), ltb-false 4096 (length targets) (c .0), ltb-false 4096 inbound (d .0))
 
-  file : (offsetsForm rows (length targets) offsets ≡ true) × (first + rows < end64) × (slotRules first 0 (cut offsets targets) ≡ none)
+  file : (offsetsForm kinds rows (length targets) offsets ≡ true) × (first + rows < end64) × (slotRules kinds first 0 (cut offsets targets) ≡ none)
   unfolding inputRules fileRules numbersOk
   file =
       let q = each-none _ (each-none _ (both-none .1) .0) in
@@ -99,7 +99,7 @@ module _ (idle subject : List ℕ) (first rows : ℕ) (offsets targets cs ks fs 
 
 module _ (subject : List ℕ) (first rows : ℕ) (offsets targets cs ks fs : List ℕ) (depth : given.Depth) (labelled : Bool) (chains seqs ic ip ik : List ℕ) (from n : ℕ)
     (fo fd ro rd io id : ℕ) (tight : Bool) (t : tight ≡ any short (rooms fo fd ++ (rooms ro rd ++ rooms io id))) {r : Ruling} (e : r ≡ ruling (earlyRules (idleLabels labelled chains seqs) subject first rows offsets targets cs ks fs (depthOf depth) (labelsGiven labelled chains seqs) (length ic) (length ip) (length ik) tight)) where
-  rules-are : firstOf (limits (graphRecords (graphOf subject first rows offsets targets cs ks fs depth labelled chains seqs ic ip ik from n)) (idleLabels labelled chains seqs ++ graphLengths (graphOf subject first rows offsets targets cs ks fs depth labelled chains seqs ic ip ik from n)) (slicesOf fo fd ro rd io id) ∷ buildRules (graphOf subject first rows offsets targets cs ks fs depth labelled chains seqs ic ip ik from n) ∷ []) ≡ firstOf (earlyRules (idleLabels labelled chains seqs) subject first rows offsets targets cs ks fs (depthOf depth) (labelsGiven labelled chains seqs) (length ic) (length ip) (length ik) tight ∷ lateRules first rows (cut offsets targets) (inboundOf ic ip ik) from n ∷ [])
+  rules-are : firstOf (limits (graphRecords (graphOf subject first rows offsets targets cs ks fs depth labelled chains seqs ic ip ik from n)) (idleLabels labelled chains seqs ++ graphLengths (graphOf subject first rows offsets targets cs ks fs depth labelled chains seqs ic ip ik from n)) (slicesOf fo fd ro rd io id) ∷ buildRules kinds (graphOf subject first rows offsets targets cs ks fs depth labelled chains seqs ic ip ik from n) ∷ []) ≡ firstOf (earlyRules (idleLabels labelled chains seqs) subject first rows offsets targets cs ks fs (depthOf depth) (labelsGiven labelled chains seqs) (length ic) (length ip) (length ik) tight ∷ lateRules first rows (cut offsets targets) (inboundOf ic ip ik) from n ∷ [])
   unfolding graphRecords graphLengths limits earlyRules limitRules inputRules
   rules-are = rw (all-rules (graphOf subject first rows offsets targets cs ks fs depth labelled chains seqs ic ip ik from n), t) (regroup _ _ _ _)
 
@@ -109,7 +109,7 @@ module _ (subject : List ℕ) (first rows : ℕ) (offsets targets cs ks fs : Lis
 
     build-kept : buildLent subject first rows offsets targets cs ks fs depth labelled chains seqs ic ip ik from n (slicesOf fo fd ro rd io id) ≡ lateVerdict first rows (cut offsets targets) (inboundOf ic ip ik) from n
     unfolding buildBeside lateVerdict builtOf forwardPart reversePart inboundPart firstOf
-    build-kept = rw (rules-are, early-none) (ap (λ o. unless o (builtOf (graphOf subject first rows offsets targets cs ks fs depth labelled chains seqs ic ip ik from n))) (last-rule (lateRules first rows (cut offsets targets) (inboundOf ic ip ik) from n)))
+    build-kept = rw (rules-are, early-none) (ap (λ o. unless o (builtOf kinds (graphOf subject first rows offsets targets cs ks fs depth labelled chains seqs ic ip ik from n))) (last-rule (lateRules first rows (cut offsets targets) (inboundOf ic ip ik) from n)))
 
     pub whole-answer : (x : Encoded) → x ≡ encodedOf (lateVerdict first rows (cut offsets targets) (inboundOf ic ip ik) from n) → x ≡ encodedOf (buildLent subject first rows offsets targets cs ks fs depth labelled chains seqs ic ip ik from n (slicesOf fo fd ro rd io id))
     whole-answer x f = rw build-kept f

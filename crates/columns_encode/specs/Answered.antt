@@ -3,6 +3,7 @@ use mathlib.Core.List.{List}
 use Prim.Native.Nat.{ℕ, zero, suc}
 use lib.IntN.{ℤ}
 use lib.Seq.{sets}
+use Rattle.columns.specs.Limits.{kinds}
 use Rattle.columns.specs.Refusal.{Verdict, refused, accepted, unless}
 use Rattle.columns.specs.EdgeSet.{EdgeSet}
 use Rattle.columns.specs.Building.{InboundColumns, Built, reverseLists, inboundLists}
@@ -16,7 +17,7 @@ use Rattle.columns_encode.specs.declared.kept.Encoded.the-variants.{Edge
 unfoldable pub lateVerdict : ℕ → ℕ → List (List ℕ) → InboundColumns → ℕ → ℕ → Verdict Built
 lateVerdict first rows lists e from n =
     unless (lateRules first rows lists e from n)
-    (record { forward = setAt first from n lists; reverse = setAt first from n (reverseLists first rows lists); inbound = setAt first from n (inboundLists first rows e) })
+    (record { forward = setAt first from n lists; reverse = setAt first from n (reverseLists kinds first rows lists); inbound = setAt first from n (inboundLists kinds first rows e) })
 
 -- how many edges each set has, or the refusal
 unfoldable pub encodedOf : Verdict Built → Encoded

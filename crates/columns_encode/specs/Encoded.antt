@@ -7,7 +7,7 @@ use Prim.Native.Nat.{ℕ, _+_, _*_, _≤_, _<_}
 use lib.Dec.{ltb}
 use lib.ListN.{length, take}
 use Rattle.lists.specs.Lists.{any, joined, starts}
-use Rattle.columns.specs.Limits.{end64, maxRecords, maxNumbers, offsetsRoom, numbersRoom}
+use Rattle.columns.specs.Limits.{kinds, end64, maxRecords, maxNumbers, offsetsRoom, numbersRoom}
 use Rattle.columns.specs.Refusal.{refuse, firstOf, Lent}
 use Rattle.columns.specs.EdgeSet.{EdgeSet, offsetsForm, cut}
 use Rattle.columns.specs.Reading.{Labels, labelLengths}
@@ -23,7 +23,7 @@ use Rattle.columns_encode.specs.declared.writing.Counts.{Counts}
 
 -- two slices of these lengths, lent for the offsets and the deltas of a set
 abbrev pub rooms : ℕ → ℕ → List Lent
-rooms offsets deltas = record { has = offsets; needs = offsetsRoom } ∷ record { has = deltas; needs = numbersRoom } ∷ []
+rooms offsets deltas = record { has = offsets; needs = offsetsRoom kinds } ∷ record { has = deltas; needs = numbersRoom } ∷ []
 
 -- six slices of these lengths that are long enough
 pub record Rooms (fo fd ro rd io id : ℕ) : Type 0 where
@@ -71,8 +71,8 @@ pub record Arranged (rows : ℕ) (lists : List (List ℕ)) (offs list : List ℕ
 pub record Early (first rows : ℕ) (offsets targets : List ℕ) (inbound : ℕ) : Type 0 where
   pub few : rows ≤ 1024
   pub last : first + rows < end64
-  pub form : offsetsForm rows (length targets) offsets ≡ true
-  pub parents : slotRules first 0 (cut offsets targets) ≡ none
+  pub form : offsetsForm kinds rows (length targets) offsets ≡ true
+  pub parents : slotRules kinds first 0 (cut offsets targets) ≡ none
   pub short : length targets ≤ 4096
   pub edges : inbound ≤ 4096
 

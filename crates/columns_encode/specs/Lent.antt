@@ -4,6 +4,7 @@ use mathlib.Core.Bool.{Bool}
 use mathlib.Core.List.{List, _++_}
 use Prim.Native.Nat.{ℕ}
 use lib.IntN.{ℤ}
+use Rattle.columns.specs.Limits.{kinds}
 use Rattle.columns.specs.Refusal.{Verdict, Lent}
 use Rattle.columns.specs.Reading.{idleLabels}
 use Rattle.columns.specs.Building.{Graph, Built, buildBeside}
@@ -36,7 +37,7 @@ slicesOf fo fd ro rd io id = rooms fo fd ++ (rooms ro rd ++ rooms io id)
 -- the verdict on what is lent. Label columns are lent also where there are no labels
 abbrev pub buildLent : List ℕ → ℕ → ℕ → List ℕ → List ℕ → List ℕ → List ℕ → List ℕ → given.Depth → Bool → List ℕ → List ℕ → List ℕ → List ℕ → List ℕ → ℕ → ℕ → List Lent → Verdict Built
 buildLent subject first rows offsets targets cs ks fs depth labelled chains seqs ic ip ik from n lent =
-    buildBeside (idleLabels labelled chains seqs) (graphOf subject first rows offsets targets cs ks fs depth labelled chains seqs ic ip ik from n) lent
+    buildBeside kinds (idleLabels labelled chains seqs) (graphOf subject first rows offsets targets cs ks fs depth labelled chains seqs ic ip ik from n) lent
 
 -- the answer of a verdict, and what six slices hold after it
 pub record Answers (v : Verdict Built) (r : Encoded) (fo : List ℕ) (fd : List ℤ) (ro : List ℕ) (rd : List ℤ) (io : List ℕ) (id : List ℤ)

@@ -12,7 +12,7 @@ ghost use Prim.Native.Nat.{_+_, _*_, _≤_, _<_};
 ghost use lib.ListN.{length, take};
 ghost use Rattle.lists.specs.Lists.{all};
 ghost use Rattle.lists.specs.Order.{notFalling};
-ghost use Rattle.columns.specs.Limits.{end64};
+ghost use Rattle.columns.specs.Limits.{kinds, kinds as runKinds, end64};
 ghost use Rattle.columns.specs.EdgeSet.{offsetsForm, cut};
 ghost use Rattle.columns.specs.Building.{inboundLists};
 ghost use Rattle.columns.specs.Answers.{ruling};
@@ -36,8 +36,8 @@ fn table_rules(
 ) -> Ruling
     requires { ⌜ (rows ≤ 1024) × (first + rows < end64) ⌝ }
     requires { ⌜ (2 * rows + 1 ≤ length (now offs)) × (m ≤ length (now list)) ⌝ }
-    requires { ⌜ offsetsForm rows (length (now targets)) (now offsets) ≡ true ⌝ }
-    requires { ⌜ offsetsForm rows (length (take m (now list))) (take (2 * rows + 1) (now offs)) ≡ true ⌝ }
+    requires { ⌜ offsetsForm kinds rows (length (now targets)) (now offsets) ≡ true ⌝ }
+    requires { ⌜ offsetsForm kinds rows (length (take m (now list))) (take (2 * rows + 1) (now offs)) ≡ true ⌝ }
     requires { ⌜ all notFalling (cut (take (2 * rows + 1) (now offs)) (take m (now list))) ≡ true ⌝ }
     ensures { λ r. ⌜ r ≡ ruling (tableRules first rows (cut (now (offsets .entry)) (now (targets .entry))) (cut (take (2 * rows + 1) (now (offs .entry))) (take m (now (list .entry)))) from n) ⌝ }
 {
@@ -75,8 +75,8 @@ fn arranged_rules(
     requires { ⌜ Early first rows (now offsets) (now targets) (length (now children)) ⌝ }
     requires { ⌜ Edges first rows (now children) (now parents) (now kinds) ⌝ }
     requires { ⌜ (2049 ≤ length (now offs)) × ((4096 ≤ length (now list)) × (4096 ≤ length (now w))) ⌝ }
-    ensures { λ r. ⌜ r ≡ ruling (tableRules first rows (cut (now (offsets .entry)) (now (targets .entry))) (inboundLists first rows (inboundOf (now (children .entry)) (now (parents .entry)) (now (kinds .entry)))) from n) ⌝ }
-    ensures { λ _. ⌜ Arranged rows (inboundLists first rows (inboundOf (now (children .entry)) (now (parents .entry)) (now (kinds .entry)))) (now (offs .exit)) (now (list .exit)) ⌝ }
+    ensures { λ r. ⌜ r ≡ ruling (tableRules first rows (cut (now (offsets .entry)) (now (targets .entry))) (inboundLists runKinds first rows (inboundOf (now (children .entry)) (now (parents .entry)) (now (kinds .entry)))) from n) ⌝ }
+    ensures { λ _. ⌜ Arranged rows (inboundLists runKinds first rows (inboundOf (now (children .entry)) (now (parents .entry)) (now (kinds .entry)))) (now (offs .exit)) (now (list .exit)) ⌝ }
 {
     let m = arrange(first, rows, children, parents, kinds, offs, list, w);
     table_rules(first, rows, offsets, targets, offs, list, m, from, n)
@@ -100,7 +100,7 @@ pub(crate) fn late_rules(
     requires { ⌜ Early first rows (now offsets) (now targets) (length (now children)) ⌝ }
     requires { ⌜ (2049 ≤ length (now offs)) × ((4096 ≤ length (now list)) × (4096 ≤ length (now w))) ⌝ }
     ensures { λ r. ⌜ r ≡ ruling (lateRules first rows (cut (now (offsets .entry)) (now (targets .entry))) (inboundOf (now (children .entry)) (now (parents .entry)) (now (kinds .entry))) from n) ⌝ }
-    ensures { λ r. ⌜ (r ≡ Kept → Arranged rows (inboundLists first rows (inboundOf (now (children .entry)) (now (parents .entry)) (now (kinds .entry)))) (now (offs .exit)) (now (list .exit))) ⌝ }
+    ensures { λ r. ⌜ (r ≡ Kept → Arranged rows (inboundLists runKinds first rows (inboundOf (now (children .entry)) (now (parents .entry)) (now (kinds .entry)))) (now (offs .exit)) (now (list .exit))) ⌝ }
 {
     let r = inbound_rules(first, rows, children, parents, kinds);
     match r {

@@ -6,6 +6,7 @@ ghost use mathlib.Core.Path.{_≡_};
 ghost use Prim.Native.Nat.{_+_, _*_, _≤_};
 ghost use lib.ListN.{length, take};
 ghost use lib.Seq.{sets};
+ghost use Rattle.columns.specs.Limits.{kinds};
 ghost use Rattle.columns.specs.EdgeSet.{cut};
 ghost use Rattle.columns.specs.Building.{reverseLists};
 ghost use Rattle.columns_sets.specs.sets.Reached.{setAt};
@@ -40,12 +41,12 @@ pub(crate) fn write_sets(
     requires { ⌜ Ready first rows from n (now offsets) (now targets) (now offs) (now list) m ⌝ }
     requires { ⌜ (2049 ≤ length (now offs)) × (4096 ≤ length (now list)) ⌝ }
     requires { ⌜ Rooms (length (now fo)) (length (now fd)) (length (now ro)) (length (now rd)) (length (now io)) (length (now id)) ⌝ }
-    ensures { λ r. ⌜ r ≡ countsOf (setAt first from n (cut (now (offsets .entry)) (now (targets .entry)))) (setAt first from n (reverseLists first rows (cut (now (offsets .entry)) (now (targets .entry)))))
+    ensures { λ r. ⌜ r ≡ countsOf (setAt first from n (cut (now (offsets .entry)) (now (targets .entry)))) (setAt first from n (reverseLists kinds first rows (cut (now (offsets .entry)) (now (targets .entry)))))
         (setAt first from n (cut (take (2 * rows + 1) (now (offs .entry))) (take m (now (list .entry))))) ⌝ }
     ensures { λ _. ⌜ now (fo .exit) ≡ sets (now (fo .entry)) 0 (setAt first from n (cut (now (offsets .entry)) (now (targets .entry))) .offsets) ⌝ }
     ensures { λ _. ⌜ now (fd .exit) ≡ sets (now (fd .entry)) 0 (setAt first from n (cut (now (offsets .entry)) (now (targets .entry))) .deltas) ⌝ }
-    ensures { λ _. ⌜ now (ro .exit) ≡ sets (now (ro .entry)) 0 (setAt first from n (reverseLists first rows (cut (now (offsets .entry)) (now (targets .entry)))) .offsets) ⌝ }
-    ensures { λ _. ⌜ now (rd .exit) ≡ sets (now (rd .entry)) 0 (setAt first from n (reverseLists first rows (cut (now (offsets .entry)) (now (targets .entry)))) .deltas) ⌝ }
+    ensures { λ _. ⌜ now (ro .exit) ≡ sets (now (ro .entry)) 0 (setAt first from n (reverseLists kinds first rows (cut (now (offsets .entry)) (now (targets .entry)))) .offsets) ⌝ }
+    ensures { λ _. ⌜ now (rd .exit) ≡ sets (now (rd .entry)) 0 (setAt first from n (reverseLists kinds first rows (cut (now (offsets .entry)) (now (targets .entry)))) .deltas) ⌝ }
     ensures { λ _. ⌜ now (io .exit) ≡ sets (now (io .entry)) 0 (setAt first from n (cut (take (2 * rows + 1) (now (offs .entry))) (take m (now (list .entry)))) .offsets) ⌝ }
     ensures { λ _. ⌜ now (id .exit) ≡ sets (now (id .entry)) 0 (setAt first from n (cut (take (2 * rows + 1) (now (offs .entry))) (take m (now (list .entry)))) .deltas) ⌝ }
 {

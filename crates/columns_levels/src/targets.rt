@@ -5,6 +5,7 @@ ghost use mathlib.Core.Path.{_≡_};
 ghost use mathlib.Core.List.{_++_};
 ghost use Prim.Native.Nat.{_≤_};
 ghost use lib.ListN.{length, take, drop};
+ghost use Rattle.columns.specs.Limits.{kinds};
 ghost use Rattle.columns.specs.Reading.{decodeSet};
 ghost use Rattle.columns.specs.Answers.{columnsOf, room, inOne, countedOf, writtenOver};
 
@@ -20,8 +21,8 @@ pub fn read(
     deltas: &[i64],
 ) -> Counted
     requires { ⌜ n ≤ length (now targets) ⌝ }
-    ensures { λ r. ⌜ r ≡ countedOf (inOne (decodeSet 0 first rows end (columnsOf count (now (offsets .entry)) (now (deltas .entry))) (room n))) ⌝ }
-    ensures { λ _. ⌜ now (targets .exit) ≡ writtenOver (take n (now (targets .entry))) (inOne (decodeSet 0 first rows end (columnsOf count (now (offsets .entry)) (now (deltas .entry))) (room n))) ++ drop n (now (targets .entry)) ⌝ }
+    ensures { λ r. ⌜ r ≡ countedOf (inOne (decodeSet kinds 0 first rows end (columnsOf count (now (offsets .entry)) (now (deltas .entry))) (room n))) ⌝ }
+    ensures { λ _. ⌜ now (targets .exit) ≡ writtenOver (take n (now (targets .entry))) (inOne (decodeSet kinds 0 first rows end (columnsOf count (now (offsets .entry)) (now (deltas .entry))) (room n))) ++ drop n (now (targets .entry)) ⌝ }
 {
     columns_read::sets::decode_csr(
         Set::Forward,

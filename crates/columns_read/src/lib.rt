@@ -10,7 +10,7 @@ ghost use lib.Dec.{ltb};
 ghost use lib.ListN.{length};
 ghost use lib.Seq.{sets};
 ghost use Rattle.lists.specs.Lists.{any, joined};
-ghost use Rattle.columns.specs.Limits.{maxNumbers};
+ghost use Rattle.columns.specs.Limits.{kinds, maxNumbers};
 ghost use Rattle.columns.specs.Refusal.{short};
 ghost use Rattle.columns.specs.Reading.{slotsOf, coverRules, granuleRules};
 ghost use Rattle.columns.specs.Answers.{columnsOf, ruling, writtenOver};
@@ -141,7 +141,7 @@ fn edge_rules(
     chains: &[u64],
     seqs: &[u64],
 ) -> Ruling
-    ensures { λ r. ⌜ r ≡ ruling (granuleRules (head .first) (head .rows) (head .end) (lentGranule head (now (fo .entry)) (now (fd .entry)) (now (ro .entry)) (now (rd .entry)) (now (io .entry)) (now (id .entry)) (now (chains .entry)) (now (seqs .entry)))) ⌝ }
+    ensures { λ r. ⌜ r ≡ ruling (granuleRules kinds (head .first) (head .rows) (head .end) (lentGranule head (now (fo .entry)) (now (fd .entry)) (now (ro .entry)) (now (rd .entry)) (now (io .entry)) (now (id .entry)) (now (chains .entry)) (now (seqs .entry)))) ⌝ }
 {
     let rules = sets_rules(head, fo, fd, ro, rd, io, id);
     match rules {
@@ -197,13 +197,13 @@ fn write_granule(
     reverse: &mut [u64],
     inbound: &mut [u64],
 ) -> Counts
-    requires { ⌜ Readable (head .first) (columnsOf (head .forward) (now fo) (now fd)) ⌝ }
-    requires { ⌜ Readable (head .first) (columnsOf (head .reverse) (now ro) (now rd)) ⌝ }
-    requires { ⌜ Readable (head .first) (columnsOf (head .inbound) (now io) (now id)) ⌝ }
-    ensures { λ r. ⌜ r ≡ countsOf (slotsOf (head .first) (columnsOf (head .forward) (now (fo .entry)) (now (fd .entry)))) (slotsOf (head .first) (columnsOf (head .reverse) (now (ro .entry)) (now (rd .entry)))) (slotsOf (head .first) (columnsOf (head .inbound) (now (io .entry)) (now (id .entry)))) ⌝ }
-    ensures { λ _. ⌜ now (forward .exit) ≡ sets (now (forward .entry)) 0 (joined (slotsOf (head .first) (columnsOf (head .forward) (now (fo .entry)) (now (fd .entry))))) ⌝ }
-    ensures { λ _. ⌜ now (reverse .exit) ≡ sets (now (reverse .entry)) 0 (joined (slotsOf (head .first) (columnsOf (head .reverse) (now (ro .entry)) (now (rd .entry))))) ⌝ }
-    ensures { λ _. ⌜ now (inbound .exit) ≡ sets (now (inbound .entry)) 0 (joined (slotsOf (head .first) (columnsOf (head .inbound) (now (io .entry)) (now (id .entry))))) ⌝ }
+    requires { ⌜ Readable kinds (head .first) (columnsOf (head .forward) (now fo) (now fd)) ⌝ }
+    requires { ⌜ Readable kinds (head .first) (columnsOf (head .reverse) (now ro) (now rd)) ⌝ }
+    requires { ⌜ Readable kinds (head .first) (columnsOf (head .inbound) (now io) (now id)) ⌝ }
+    ensures { λ r. ⌜ r ≡ countsOf (slotsOf kinds (head .first) (columnsOf (head .forward) (now (fo .entry)) (now (fd .entry)))) (slotsOf kinds (head .first) (columnsOf (head .reverse) (now (ro .entry)) (now (rd .entry)))) (slotsOf kinds (head .first) (columnsOf (head .inbound) (now (io .entry)) (now (id .entry)))) ⌝ }
+    ensures { λ _. ⌜ now (forward .exit) ≡ sets (now (forward .entry)) 0 (joined (slotsOf kinds (head .first) (columnsOf (head .forward) (now (fo .entry)) (now (fd .entry))))) ⌝ }
+    ensures { λ _. ⌜ now (reverse .exit) ≡ sets (now (reverse .entry)) 0 (joined (slotsOf kinds (head .first) (columnsOf (head .reverse) (now (ro .entry)) (now (rd .entry))))) ⌝ }
+    ensures { λ _. ⌜ now (inbound .exit) ≡ sets (now (inbound .entry)) 0 (joined (slotsOf kinds (head .first) (columnsOf (head .inbound) (now (io .entry)) (now (id .entry))))) ⌝ }
 {
     let first = head.first;
     let f = columns_slots::sets::write_csr(first, head.forward, fo, fd, forward);

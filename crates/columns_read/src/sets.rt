@@ -5,6 +5,7 @@ use columns::set::Set;
 use columns_slots::sets;
 ghost use mathlib.Core.Path.{_≡_};
 ghost use lib.ListN.{length};
+ghost use Rattle.columns.specs.Limits.{kinds};
 ghost use Rattle.columns.specs.Reading.{decodeSet};
 ghost use Rattle.columns.specs.Answers.{setNumber, columnsOf, room, inOne, countedOf, writtenOver};
 
@@ -19,8 +20,8 @@ pub fn decode_csr(
     deltas: &[i64],
     targets: &mut [u64],
 ) -> Counted
-    ensures { λ r. ⌜ r ≡ countedOf (inOne (decodeSet (setNumber set) first rows end (columnsOf count (now (offsets .entry)) (now (deltas .entry))) (room (length (now (targets .entry)))))) ⌝ }
-    ensures { λ _. ⌜ now (targets .exit) ≡ writtenOver (now (targets .entry)) (inOne (decodeSet (setNumber set) first rows end (columnsOf count (now (offsets .entry)) (now (deltas .entry))) (room (length (now (targets .entry)))))) ⌝ }
+    ensures { λ r. ⌜ r ≡ countedOf (inOne (decodeSet kinds (setNumber set) first rows end (columnsOf count (now (offsets .entry)) (now (deltas .entry))) (room (length (now (targets .entry)))))) ⌝ }
+    ensures { λ _. ⌜ now (targets .exit) ≡ writtenOver (now (targets .entry)) (inOne (decodeSet kinds (setNumber set) first rows end (columnsOf count (now (offsets .entry)) (now (deltas .entry))) (room (length (now (targets .entry)))))) ⌝ }
 {
     let rules = sets::csr_rules(set, first, rows, end, count, offsets, deltas, targets.len());
     match rules {

@@ -2,7 +2,7 @@
 use Prim.Native.Nat.{ℕ, _+_, _-_, _<_}
 use Rattle.columns.specs.Building.{subjectOk, numbersOk, slotRules}
 use Rattle.columns.specs.EdgeSet.{offsetsForm, cut}
-use Rattle.columns.specs.Limits.{end64}
+use Rattle.columns.specs.Limits.{kinds, end64}
 use Rattle.columns.specs.Refusal.{firstOf}
 use Rattle.columns.specs.declared.refusal.Refusal.the-variants.{SubjectLength, EdgeEntries, NumberRange}
 use Rattle.lists.proofs.Tests.{tested}
@@ -48,7 +48,7 @@ module _ (subject : List ℕ) (first rows : ℕ) (offsets targets : List ℕ) {a
   unfolding fileRules firstOf
   subject-bad p = rw (← e, not-true a p)
 
-  module _ (p : not a ≡ false) {b : Bool} (f : b ≡ offsetsForm rows (length targets) offsets) where
+  module _ (p : not a ≡ false) {b : Bool} (f : b ≡ offsetsForm kinds rows (length targets) offsets) where
     pub entries-bad : not b ≡ true → Broken EdgeEntries ≡ ruling (fileRules subject first rows offsets targets)
     unfolding fileRules firstOf
     entries-bad q = rw (← e, not-false a p, ← f, not-true b q)
@@ -58,11 +58,11 @@ module _ (subject : List ℕ) (first rows : ℕ) (offsets targets : List ℕ) {a
       unfolding fileRules firstOf
       numbers-bad r = rw (← e, not-false a p, ← f, not-false b q, ← g, not-true d r)
 
-      pub then-parents : not d ≡ false → {s : Ruling} → s ≡ ruling (slotRules first 0 (cut offsets targets)) → s ≡ ruling (fileRules subject first rows offsets targets)
+      pub then-parents : not d ≡ false → {s : Ruling} → s ≡ ruling (slotRules kinds first 0 (cut offsets targets)) → s ≡ ruling (fileRules subject first rows offsets targets)
       unfolding fileRules firstOf
-      then-parents r k = rw (← e, not-false a p, ← f, not-false b q, ← g, not-false d r) (k ∙ ap ruling (sym (last-rule (slotRules first 0 (cut offsets targets)))))
+      then-parents r k = rw (← e, not-false a p, ← f, not-false b q, ← g, not-false d r) (k ∙ ap ruling (sym (last-rule (slotRules kinds first 0 (cut offsets targets)))))
 
-pub entries-good : (rows count : ℕ) (offsets : List ℕ) {b : Bool} → b ≡ offsetsForm rows count offsets → not b ≡ false → offsetsForm rows count offsets ≡ true
+pub entries-good : (rows count : ℕ) (offsets : List ℕ) {b : Bool} → b ≡ offsetsForm kinds rows count offsets → not b ≡ false → offsetsForm kinds rows count offsets ≡ true
 entries-good rows count offsets {b} f q = sym f ∙ not-false b q
 
 pub numbers-good : (first rows : ℕ) {d : Bool} → d ≡ numbersOk first rows → not d ≡ false → first + rows < end64

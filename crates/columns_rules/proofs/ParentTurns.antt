@@ -9,6 +9,7 @@ use lib.Dec.{eqb}
 use lib.ListN.{length, getD, drop, drop-of-length-le}
 use lib.Seq.{slice, slice-cons, drop-cons}
 use borrow.Author.Tests.{le-leb, lt-leb}
+use Rattle.columns.specs.Limits.{kinds}
 use Rattle.lists.specs.Lists.{mem}
 use Rattle.lists.proofs.Slices.{slice-none, slice-snoc}
 use Rattle.lists.proofs.Once.{mem-last}
@@ -62,7 +63,7 @@ none-yet event from to l = rw (slice-none from from l (omega arith))
 
 -- ── the slots ────────────────────────────────────────────────────────────────────────────────
 
-module _ (rows : ℕ) (offsets targets : List ℕ) (ok : offsetsForm rows (length targets) offsets ≡ true) (s : ℕ) (h : s < 2 * rows) where
+module _ (rows : ℕ) (offsets targets : List ℕ) (ok : offsetsForm kinds rows (length targets) offsets ≡ true) (s : ℕ) (h : s < 2 * rows) where
   pub slot-in : s < length offsets
   slot-in = omega (arith, table-of rows (length targets) offsets ok .long)
 
@@ -82,8 +83,8 @@ module _ (rows : ℕ) (offsets targets : List ℕ) (ok : offsetsForm rows (lengt
     pub slot-says : (event : ℕ) (f : ℕ) → event ≡ f → {r : Ruling} → r ≡ ruling (parentRules event [] (slice a b targets)) → r ≡ ruling (parentRules f [] (getD (cut offsets targets) s []))
     slot-says event f d k = rw (slot-list, ← d) k
 
-module _ {t : Ruling} (first rows s : ℕ) (offsets targets : List ℕ) (ok : offsetsForm rows (length targets) offsets ≡ true)
-    (e : t ≡ ruling (slotRules first s (drop s (cut offsets targets)))) where
+module _ {t : Ruling} (first rows s : ℕ) (offsets targets : List ℕ) (ok : offsetsForm kinds rows (length targets) offsets ≡ true)
+    (e : t ≡ ruling (slotRules kinds first s (drop s (cut offsets targets)))) where
   long : length (cut offsets targets) ≡ 2 * rows
   long = length-cut (2 * rows) 0 offsets targets (table-of rows (length targets) offsets ok .long)
 
@@ -91,16 +92,16 @@ module _ {t : Ruling} (first rows s : ℕ) (offsets targets : List ℕ) (ok : of
   unfolding slotRules
   slots-done h = rw (e, drop-of-length-le (cut offsets targets) {i = s} (omega (arith, long)))
 
-  module _ (h : s < 2 * rows) {r : Ruling} (k : r ≡ ruling (parentRules (eventOf first s) [] (getD (cut offsets targets) s []))) where
+  module _ (h : s < 2 * rows) {r : Ruling} (k : r ≡ ruling (parentRules (eventOf kinds first s) [] (getD (cut offsets targets) s []))) where
     here : drop s (cut offsets targets) ≡ getD (cut offsets targets) s [] ∷ drop (suc s) (cut offsets targets)
     here = drop-cons (cut offsets targets) s [] (omega (arith, long))
 
     pub slots-stop : {x : Refusal} → r ≡ Broken x → Broken x ≡ t
     unfolding slotRules firstOf
-    slots-stop g = rw (e, here, told (parentRules (eventOf first s) [] (getD (cut offsets targets) s [])) k g)
+    slots-stop g = rw (e, here, told (parentRules (eventOf kinds first s) [] (getD (cut offsets targets) s [])) k g)
 
-    pub slots-on : r ≡ Kept → t ≡ ruling (slotRules first (s + 1) (drop (s + 1) (cut offsets targets)))
+    pub slots-on : r ≡ Kept → t ≡ ruling (slotRules kinds first (s + 1) (drop (s + 1) (cut offsets targets)))
     unfolding slotRules firstOf
     slots-on g =
-        rw (e, here, told-kept (parentRules (eventOf first s) [] (getD (cut offsets targets) s [])) k g, add-one)
-        (ap ruling (last-rule (slotRules first (suc s) (drop (suc s) (cut offsets targets)))))
+        rw (e, here, told-kept (parentRules (eventOf kinds first s) [] (getD (cut offsets targets) s [])) k g, add-one)
+        (ap ruling (last-rule (slotRules kinds first (suc s) (drop (suc s) (cut offsets targets)))))

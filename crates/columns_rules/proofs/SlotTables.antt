@@ -10,6 +10,7 @@ use lib.Dec.{leb, eqb}
 use lib.ListN.{length, getD}
 use lib.Seq.{slice}
 use borrow.Author.Tests.{leb-true, eqb-true}
+use Rattle.columns.specs.Limits.{kinds}
 use Rattle.lists.specs.Order.{climbsTo}
 use Rattle.lists.proofs.Tests.{both}
 use Rattle.columns.specs.EdgeSet.{fromTo, offsetsForm, cut}
@@ -44,7 +45,7 @@ pub record Table (slots count : ℕ) (offsets : List ℕ) : Type 0 where
   pub bound : (s : ℕ) → s ≤ slots → getD offsets s 0 ≤ count
   pub high : getD offsets slots 0 ≡ count
 
-pub table-of : (rows count : ℕ) (offsets : List ℕ) → offsetsForm rows count offsets ≡ true → Table (2 * rows) count offsets
+pub table-of : (rows count : ℕ) (offsets : List ℕ) → offsetsForm kinds rows count offsets ≡ true → Table (2 * rows) count offsets
 unfolding offsetsForm fromTo
 table-of rows count [] e =
     let p = both (eqb 0 (2 * rows + 1)) (fromTo 0 count []) e in

@@ -4,6 +4,7 @@ use mathlib.Core.List.{List, [], _∷_}
 use mathlib.Core.Option.{Option, none, some}
 use Prim.Native.Nat.{ℕ}
 use lib.ListN.{length}
+use Rattle.columns.specs.Limits.{kinds}
 use Rattle.columns.specs.Refusal.{refuse, firstOf}
 use Rattle.columns.specs.Building.{subjectOk, numbersOk, slotRules}
 use Rattle.columns.specs.EdgeSet.{offsetsForm, cut}
@@ -14,7 +15,7 @@ use Rattle.columns.specs.declared.refusal.Refusal.the-variants.{SubjectLength, 
 unfoldable pub fileRules : List ℕ → ℕ → ℕ → List ℕ → List ℕ → Option Refusal
 fileRules subject first rows offsets targets =
     firstOf (refuse SubjectLength (not (subjectOk subject))
-    ∷ refuse EdgeEntries (not (offsetsForm rows (length targets) offsets))
+    ∷ refuse EdgeEntries (not (offsetsForm kinds rows (length targets) offsets))
     ∷ refuse NumberRange (not (numbersOk first rows))
-    ∷ slotRules first 0 (cut offsets targets)
+    ∷ slotRules kinds first 0 (cut offsets targets)
     ∷ [])

@@ -9,7 +9,7 @@ ghost use mathlib.Core.List.{[]};
 ghost use Prim.Native.Nat.{_+_, _*_, _≤_, _<_};
 ghost use lib.ListN.{length, getD};
 ghost use lib.Seq.{slice};
-ghost use Rattle.columns.specs.Limits.{end64};
+ghost use Rattle.columns.specs.Limits.{kinds, end64};
 ghost use Rattle.columns.specs.EdgeSet.{offsetsForm, cut, eventOf};
 ghost use Rattle.columns.specs.Building.{parentRules, slotRules};
 ghost use Rattle.columns.specs.Answers.{ruling};
@@ -36,8 +36,8 @@ fn parent_rules(event: u64, targets: &[u64], from: usize, to: usize) -> Ruling
 // The parents of slot s.
 fn slot_rule(first: u64, rows: usize, offsets: &[u64], targets: &[u64], s: usize) -> Ruling
     requires { ⌜ (s < 2 * rows) × ((rows ≤ 1024) × (first + rows < end64)) ⌝ }
-    requires { ⌜ offsetsForm rows (length (now targets)) (now offsets) ≡ true ⌝ }
-    ensures { λ r. ⌜ r ≡ ruling (parentRules (eventOf first s) [] (getD (cut (now (offsets .entry)) (now (targets .entry))) s [])) ⌝ }
+    requires { ⌜ offsetsForm kinds rows (length (now targets)) (now offsets) ≡ true ⌝ }
+    ensures { λ r. ⌜ r ≡ ruling (parentRules (eventOf kinds first s) [] (getD (cut (now (offsets .entry)) (now (targets .entry))) s [])) ⌝ }
 {
     let from = index(offsets[s]);
     let to = index(offsets[s + 1]);
@@ -49,8 +49,8 @@ fn slot_rule(first: u64, rows: usize, offsets: &[u64], targets: &[u64], s: usize
 // Row by row, kinds rising.
 pub fn slot_rules(first: u64, rows: usize, offsets: &[u64], targets: &[u64]) -> Ruling
     requires { ⌜ (rows ≤ 1024) × (first + rows < end64) ⌝ }
-    requires { ⌜ offsetsForm rows (length (now targets)) (now offsets) ≡ true ⌝ }
-    ensures { λ r. ⌜ r ≡ ruling (slotRules first 0 (cut (now (offsets .entry)) (now (targets .entry)))) ⌝ }
+    requires { ⌜ offsetsForm kinds rows (length (now targets)) (now offsets) ≡ true ⌝ }
+    ensures { λ r. ⌜ r ≡ ruling (slotRules kinds first 0 (cut (now (offsets .entry)) (now (targets .entry)))) ⌝ }
 {
     let mut s = 0;
     while s < 2 * rows {

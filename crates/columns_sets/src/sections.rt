@@ -10,7 +10,7 @@ ghost use Prim.Native.Nat.{_+_, _*_, _≤_, _<_};
 ghost use lib.ListN.{length, getD};
 ghost use lib.Seq.{sets};
 ghost use Rattle.lists.specs.Lists.{all};
-ghost use Rattle.columns.specs.Limits.{end64};
+ghost use Rattle.columns.specs.Limits.{kinds, end64};
 ghost use Rattle.columns.specs.EdgeSet.{fromTo, cut, setOf};
 ghost use Rattle.columns.specs.Building.{fits63, deltasFit, deltasWithin, rowsWithin};
 
@@ -69,11 +69,11 @@ pub fn write_lists(
     deltas: &mut [i64],
 ) -> usize
     requires { ⌜ (fromTo 0 (length (now targets)) (now offsets) ≡ true) × (2 * (from + n) < length (now offsets)) ⌝ }
-    requires { ⌜ (first + n ≤ end64) × (deltasFit first (rowsWithin low high from n (now offsets) (now targets)) ≡ true) ⌝ }
+    requires { ⌜ (first + n ≤ end64) × (deltasFit kinds first (rowsWithin kinds low high from n (now offsets) (now targets)) ≡ true) ⌝ }
     requires { ⌜ (2 * n < length (now starts)) × (length (now targets) ≤ length (now deltas)) ⌝ }
-    ensures { λ r. ⌜ r ≡ setOf first (rowsWithin low high from n (now (offsets .entry)) (now (targets .entry))) .count ⌝ }
-    ensures { λ _. ⌜ now (starts .exit) ≡ sets (now (starts .entry)) 0 (setOf first (rowsWithin low high from n (now (offsets .entry)) (now (targets .entry))) .offsets) ⌝ }
-    ensures { λ _. ⌜ now (deltas .exit) ≡ sets (now (deltas .entry)) 0 (setOf first (rowsWithin low high from n (now (offsets .entry)) (now (targets .entry))) .deltas) ⌝ }
+    ensures { λ r. ⌜ r ≡ setOf kinds first (rowsWithin kinds low high from n (now (offsets .entry)) (now (targets .entry))) .count ⌝ }
+    ensures { λ _. ⌜ now (starts .exit) ≡ sets (now (starts .entry)) 0 (setOf kinds first (rowsWithin kinds low high from n (now (offsets .entry)) (now (targets .entry))) .offsets) ⌝ }
+    ensures { λ _. ⌜ now (deltas .exit) ≡ sets (now (deltas .entry)) 0 (setOf kinds first (rowsWithin kinds low high from n (now (offsets .entry)) (now (targets .entry))) .deltas) ⌝ }
 {
     let mut q = 0;
     let mut p = 0;

@@ -8,7 +8,7 @@ ghost use Prim.Native.Nat.{_+_, _-_, _*_, _/_, _≤_, _<_};
 ghost use lib.ListN.{length, getD, take};
 ghost use lib.Seq.{slice, sets};
 ghost use Rattle.lists.specs.Lists.{part, joined, starts};
-ghost use Rattle.columns.specs.Limits.{end64};
+ghost use Rattle.columns.specs.Limits.{kinds, end64};
 ghost use Rattle.columns.specs.EdgeSet.{offsetsForm, cut, deltaOf, deltasFrom};
 ghost use Rattle.columns.specs.Building.{fits63, deltasFit, reverseLists};
 ghost use Rattle.columns_rules.specs.spans.Spanned.{spansFit};
@@ -51,7 +51,7 @@ fn write_slot_of(
     out: &mut [i64],
 )
     requires { ⌜ (2 * from + q < 2 * rows) × ((rows ≤ 1024) × ((first + rows < end64) × (base ≤ getD (now offsets) (2 * from + q) 0))) ⌝ }
-    requires { ⌜ (length (now targets) ≤ length (now out)) × (offsetsForm rows (length (now targets)) (now offsets) ≡ true) ⌝ }
+    requires { ⌜ (length (now targets) ≤ length (now out)) × (offsetsForm kinds rows (length (now targets)) (now offsets) ≡ true) ⌝ }
     requires { ⌜ spansFit (first + from + q / 2) (getD (cut (now offsets) (now targets)) (2 * from + q) []) ≡ true ⌝ }
     ensures { λ _. ⌜ now (out .exit) ≡ sets (now (out .entry)) (getD (now (offsets .entry)) (2 * from + q) 0 - base)
         (map (deltaOf (first + from + q / 2)) (getD (cut (now (offsets .entry)) (now (targets .entry))) (2 * from + q) [])) ⌝ }
@@ -75,9 +75,9 @@ fn write_deltas(
     out: &mut [i64],
 )
     requires { ⌜ (rows ≤ 1024) × ((first + rows < end64) × ((from + n ≤ rows) × (length (now targets) ≤ length (now out)))) ⌝ }
-    requires { ⌜ offsetsForm rows (length (now targets)) (now offsets) ≡ true ⌝ }
-    requires { ⌜ deltasFit (first + from) (part (2 * from) (2 * n) (cut (now offsets) (now targets))) ≡ true ⌝ }
-    ensures { λ _. ⌜ now (out .exit) ≡ sets (now (out .entry)) 0 (joined (deltasFrom (first + from) 0 (part (2 * from) (2 * n) (cut (now (offsets .entry)) (now (targets .entry)))))) ⌝ }
+    requires { ⌜ offsetsForm kinds rows (length (now targets)) (now offsets) ≡ true ⌝ }
+    requires { ⌜ deltasFit kinds (first + from) (part (2 * from) (2 * n) (cut (now offsets) (now targets))) ≡ true ⌝ }
+    ensures { λ _. ⌜ now (out .exit) ≡ sets (now (out .entry)) 0 (joined (deltasFrom kinds (first + from) 0 (part (2 * from) (2 * n) (cut (now (offsets .entry)) (now (targets .entry)))))) ⌝ }
 {
     let base = index(offsets[2 * from]);
     let mut q = 0;
@@ -97,7 +97,7 @@ fn write_starts(
     out: &mut [u64],
 )
     requires { ⌜ (rows ≤ 1024) × ((from + n ≤ rows) × (2 * n < length (now out))) ⌝ }
-    requires { ⌜ offsetsForm rows (length (now targets)) (now offsets) ≡ true ⌝ }
+    requires { ⌜ offsetsForm kinds rows (length (now targets)) (now offsets) ≡ true ⌝ }
     ensures { λ _. ⌜ now (out .exit) ≡ sets (now (out .entry)) 0 (starts 0 (part (2 * from) (2 * n) (cut (now (offsets .entry)) (now (targets .entry))))) ⌝ }
 {
     let base = offsets[2 * from];
@@ -180,9 +180,9 @@ pub fn write_turned(
     requires { ⌜ Turnable first rows from n (now offsets) (now targets) ⌝ }
     requires { ⌜ (2 * n < length (now starts)) × (4096 ≤ length (now deltas)) ⌝ }
     requires { ⌜ (2049 ≤ length (now offs)) × (4096 ≤ length (now list)) ⌝ }
-    ensures { λ r. ⌜ r ≡ setAt first from n (reverseLists first rows (cut (now (offsets .entry)) (now (targets .entry)))) .count ⌝ }
-    ensures { λ _. ⌜ now (starts .exit) ≡ sets (now (starts .entry)) 0 (setAt first from n (reverseLists first rows (cut (now (offsets .entry)) (now (targets .entry)))) .offsets) ⌝ }
-    ensures { λ _. ⌜ now (deltas .exit) ≡ sets (now (deltas .entry)) 0 (setAt first from n (reverseLists first rows (cut (now (offsets .entry)) (now (targets .entry)))) .deltas) ⌝ }
+    ensures { λ r. ⌜ r ≡ setAt first from n (reverseLists kinds first rows (cut (now (offsets .entry)) (now (targets .entry)))) .count ⌝ }
+    ensures { λ _. ⌜ now (starts .exit) ≡ sets (now (starts .entry)) 0 (setAt first from n (reverseLists kinds first rows (cut (now (offsets .entry)) (now (targets .entry)))) .offsets) ⌝ }
+    ensures { λ _. ⌜ now (deltas .exit) ≡ sets (now (deltas .entry)) 0 (setAt first from n (reverseLists kinds first rows (cut (now (offsets .entry)) (now (targets .entry)))) .deltas) ⌝ }
 {
     let m = turn(first, rows, offsets, targets, offs, list);
     write_table(first, rows, from, n, offs, list, m, starts, deltas)

@@ -13,7 +13,7 @@ ghost use lib.ListN.{length, getD, drop, set};
 ghost use lib.Seq.{slice, sets};
 ghost use Rattle.lists.specs.Lists.{all, any, joined};
 ghost use Rattle.lists.specs.Order.{climbsTo};
-ghost use Rattle.columns.specs.Limits.{end64, maxNumbers};
+ghost use Rattle.columns.specs.Limits.{kinds, end64, maxNumbers};
 ghost use Rattle.columns.specs.EdgeSet.{cut, eventOf, fromTo, offsetsForm, targetOf, sound};
 ghost use Rattle.columns.specs.Reading.{soundFrom, targetsFrom, slotsOf, setRules, labelRules};
 ghost use Rattle.columns.specs.Answers.{setNumber, named, short32, columnsOf, labelColumns, room, limitsOf, lentRules, bothRules, ruling};
@@ -40,7 +40,7 @@ fn climbs(high: u64, offsets: &[u64]) -> bool
 
 // Whether there is an offset for each slot and one more, from 0 to the number of edges.
 pub fn is_form(rows: usize, count: u64, offsets: &[u64]) -> bool
-    ensures { λ r. ⌜ r ≡ offsetsForm rows count (now (offsets .entry)) ⌝ }
+    ensures { λ r. ⌜ r ≡ offsetsForm kinds rows count (now (offsets .entry)) ⌝ }
 {
     if offsets.len() % 2 != 1 {
         return false;
@@ -58,7 +58,7 @@ pub fn is_form(rows: usize, count: u64, offsets: &[u64]) -> bool
 
 // Whether the row of a slot has a number of 64 bits.
 fn has_event(first: u64, slot: usize) -> bool
-    ensures { λ r. ⌜ r ≡ ltb (eventOf first slot) end64 ⌝ }
+    ensures { λ r. ⌜ r ≡ ltb (eventOf kinds first slot) end64 ⌝ }
 {
     let row = (slot / 2) as u64;
     first <= 18446744073709551615 - row
@@ -66,8 +66,8 @@ fn has_event(first: u64, slot: usize) -> bool
 
 // That number.
 fn event(first: u64, slot: usize) -> u64
-    requires { ⌜ eventOf first slot < end64 ⌝ }
-    ensures { λ r. ⌜ r ≡ eventOf first slot ⌝ }
+    requires { ⌜ eventOf kinds first slot < end64 ⌝ }
+    ensures { λ r. ⌜ r ≡ eventOf kinds first slot ⌝ }
 {
     let row = (slot / 2) as u64;
     first + row
@@ -98,7 +98,7 @@ fn is_slot_sound(
     slot: usize,
 ) -> bool
     requires { ⌜ (slot + 1 < length (now offsets)) × (fromTo 0 (length (now deltas)) (now offsets) ≡ true) ⌝ }
-    ensures { λ r. ⌜ r ≡ (ltb (eventOf first slot) end64 && all (sound set end (eventOf first slot)) (getD (cut (now (offsets .entry)) (now (deltas .entry))) slot [])) ⌝ }
+    ensures { λ r. ⌜ r ≡ (ltb (eventOf kinds first slot) end64 && all (sound set end (eventOf kinds first slot)) (getD (cut (now (offsets .entry)) (now (deltas .entry))) slot [])) ⌝ }
 {
     if !has_event(first, slot) {
         return false;
@@ -118,7 +118,7 @@ fn is_row_sound(
     slot: usize,
 ) -> bool
     requires { ⌜ (slot + 2 < length (now offsets)) × (fromTo 0 (length (now deltas)) (now offsets) ≡ true) ⌝ }
-    ensures { λ r. ⌜ r ≡ (ltb (eventOf first slot) end64 && all (sound set end (eventOf first slot)) (getD (cut (now (offsets .entry)) (now (deltas .entry))) slot [] ++ getD (cut (now (offsets .entry)) (now (deltas .entry))) (slot + 1) [])) ⌝ }
+    ensures { λ r. ⌜ r ≡ (ltb (eventOf kinds first slot) end64 && all (sound set end (eventOf kinds first slot)) (getD (cut (now (offsets .entry)) (now (deltas .entry))) slot [] ++ getD (cut (now (offsets .entry)) (now (deltas .entry))) (slot + 1) [])) ⌝ }
 {
     if !has_event(first, slot) {
         return false;
@@ -131,7 +131,7 @@ fn is_row_sound(
 // The same of every slot: row by row, and of the slot that is left over.
 fn are_sound(set: u64, first: u64, end: u64, offsets: &[u64], deltas: &[i64]) -> bool
     requires { ⌜ fromTo 0 (length (now deltas)) (now offsets) ≡ true ⌝ }
-    ensures { λ r. ⌜ r ≡ soundFrom set first end 0 (cut (now (offsets .entry)) (now (deltas .entry))) ⌝ }
+    ensures { λ r. ⌜ r ≡ soundFrom kinds set first end 0 (cut (now (offsets .entry)) (now (deltas .entry))) ⌝ }
 {
     let mut slot = 0;
     while slot + 2 < offsets.len() {
@@ -160,7 +160,7 @@ fn number_of(set: Set) -> u64
 // The same of a set.
 fn is_set_sound(set: Set, first: u64, end: u64, offsets: &[u64], deltas: &[i64]) -> bool
     requires { ⌜ fromTo 0 (length (now deltas)) (now offsets) ≡ true ⌝ }
-    ensures { λ r. ⌜ r ≡ soundFrom (setNumber set) first end 0 (cut (now (offsets .entry)) (now (deltas .entry))) ⌝ }
+    ensures { λ r. ⌜ r ≡ soundFrom kinds (setNumber set) first end 0 (cut (now (offsets .entry)) (now (deltas .entry))) ⌝ }
 {
     are_sound(number_of(set), first, end, offsets, deltas)
 }
@@ -177,7 +177,7 @@ pub fn set_rules(
     offsets: &[u64],
     deltas: &[i64],
 ) -> Ruling
-    ensures { λ r. ⌜ r ≡ ruling (setRules (setNumber set) first rows end (columnsOf count (now (offsets .entry)) (now (deltas .entry)))) ⌝ }
+    ensures { λ r. ⌜ r ≡ ruling (setRules kinds (setNumber set) first rows end (columnsOf count (now (offsets .entry)) (now (deltas .entry)))) ⌝ }
 {
     if !is_form(rows, count, offsets) {
         return Ruling::Broken(Refusal::OffsetsForm);
@@ -243,7 +243,7 @@ pub fn csr_rules(
     deltas: &[i64],
     out: usize,
 ) -> Ruling
-    ensures { λ r. ⌜ r ≡ ruling (lentRules (setNumber set) first rows end (columnsOf count (now (offsets .entry)) (now (deltas .entry))) (room out)) ⌝ }
+    ensures { λ r. ⌜ r ≡ ruling (lentRules kinds (setNumber set) first rows end (columnsOf count (now (offsets .entry)) (now (deltas .entry))) (room out)) ⌝ }
 {
     let over = is_over(offsets.len(), deltas.len());
     let limit = limit_rules(rows, over, out < 4096);
@@ -265,7 +265,7 @@ pub fn both_rules(
     ioffsets: &[u64],
     ideltas: &[i64],
 ) -> Ruling
-    ensures { λ r. ⌜ r ≡ ruling (bothRules first rows end (columnsOf rcount (now (roffsets .entry)) (now (rdeltas .entry))) (columnsOf icount (now (ioffsets .entry)) (now (ideltas .entry)))) ⌝ }
+    ensures { λ r. ⌜ r ≡ ruling (bothRules kinds first rows end (columnsOf rcount (now (roffsets .entry)) (now (rdeltas .entry))) (columnsOf icount (now (ioffsets .entry)) (now (ideltas .entry)))) ⌝ }
 {
     let rules = set_rules(Set::Reverse, first, rows, end, rcount, roffsets, rdeltas);
     match rules {
@@ -379,9 +379,9 @@ pub fn write_slot(
     at: usize,
 ) -> usize
     requires { ⌜ (slot + 1 < length (now offsets)) × (at ≤ maxNumbers) ⌝ }
-    requires { ⌜ Edged first (now offsets) (now deltas) ⌝ }
-    ensures { λ r. ⌜ r ≡ at + length (getD (targetsFrom first 0 (cut (now (offsets .entry)) (now (deltas .entry)))) slot []) ⌝ }
-    ensures { λ _. ⌜ now (out .exit) ≡ sets (now (out .entry)) at (getD (targetsFrom first 0 (cut (now (offsets .entry)) (now (deltas .entry)))) slot []) ⌝ }
+    requires { ⌜ Edged kinds first (now offsets) (now deltas) ⌝ }
+    ensures { λ r. ⌜ r ≡ at + length (getD (targetsFrom kinds first 0 (cut (now (offsets .entry)) (now (deltas .entry)))) slot []) ⌝ }
+    ensures { λ _. ⌜ now (out .exit) ≡ sets (now (out .entry)) at (getD (targetsFrom kinds first 0 (cut (now (offsets .entry)) (now (deltas .entry)))) slot []) ⌝ }
 {
     let from = index(offsets[slot]);
     let to = index(offsets[slot + 1]);
@@ -398,9 +398,9 @@ fn write_row(
     at: usize,
 ) -> usize
     requires { ⌜ (slot % 2 ≡ 0) × ((slot + 2 < length (now offsets)) × (at ≤ maxNumbers)) ⌝ }
-    requires { ⌜ Edged first (now offsets) (now deltas) ⌝ }
-    ensures { λ r. ⌜ r ≡ at + length (getD (targetsFrom first 0 (cut (now (offsets .entry)) (now (deltas .entry)))) slot [] ++ getD (targetsFrom first 0 (cut (now (offsets .entry)) (now (deltas .entry)))) (slot + 1) []) ⌝ }
-    ensures { λ _. ⌜ now (out .exit) ≡ sets (now (out .entry)) at (getD (targetsFrom first 0 (cut (now (offsets .entry)) (now (deltas .entry)))) slot [] ++ getD (targetsFrom first 0 (cut (now (offsets .entry)) (now (deltas .entry)))) (slot + 1) []) ⌝ }
+    requires { ⌜ Edged kinds first (now offsets) (now deltas) ⌝ }
+    ensures { λ r. ⌜ r ≡ at + length (getD (targetsFrom kinds first 0 (cut (now (offsets .entry)) (now (deltas .entry)))) slot [] ++ getD (targetsFrom kinds first 0 (cut (now (offsets .entry)) (now (deltas .entry)))) (slot + 1) []) ⌝ }
+    ensures { λ _. ⌜ now (out .exit) ≡ sets (now (out .entry)) at (getD (targetsFrom kinds first 0 (cut (now (offsets .entry)) (now (deltas .entry)))) slot [] ++ getD (targetsFrom kinds first 0 (cut (now (offsets .entry)) (now (deltas .entry)))) (slot + 1) []) ⌝ }
 {
     let from = index(offsets[slot]);
     let to = index(offsets[slot + 2]);
@@ -412,9 +412,9 @@ fn write_row(
 
 // Writes the targets of all slots: row by row, and those of the slot that is left over.
 fn write_set(first: u64, offsets: &[u64], deltas: &[i64], out: &mut [u64]) -> usize
-    requires { ⌜ Edged first (now offsets) (now deltas) ⌝ }
-    ensures { λ r. ⌜ r ≡ length (joined (targetsFrom first 0 (cut (now (offsets .entry)) (now (deltas .entry))))) ⌝ }
-    ensures { λ _. ⌜ now (out .exit) ≡ sets (now (out .entry)) 0 (joined (targetsFrom first 0 (cut (now (offsets .entry)) (now (deltas .entry))))) ⌝ }
+    requires { ⌜ Edged kinds first (now offsets) (now deltas) ⌝ }
+    ensures { λ r. ⌜ r ≡ length (joined (targetsFrom kinds first 0 (cut (now (offsets .entry)) (now (deltas .entry))))) ⌝ }
+    ensures { λ _. ⌜ now (out .exit) ≡ sets (now (out .entry)) 0 (joined (targetsFrom kinds first 0 (cut (now (offsets .entry)) (now (deltas .entry))))) ⌝ }
 {
     let mut at = 0;
     let mut slot = 0;
@@ -430,9 +430,9 @@ fn write_set(first: u64, offsets: &[u64], deltas: &[i64], out: &mut [u64]) -> us
 
 // Writes the targets of a set whose rules are kept, and answers how many there are.
 pub fn write_csr(first: u64, count: u64, offsets: &[u64], deltas: &[i64], out: &mut [u64]) -> usize
-    requires { ⌜ Readable first (columnsOf count (now offsets) (now deltas)) ⌝ }
-    ensures { λ r. ⌜ r ≡ length (joined (slotsOf first (columnsOf count (now (offsets .entry)) (now (deltas .entry))))) ⌝ }
-    ensures { λ _. ⌜ now (out .exit) ≡ sets (now (out .entry)) 0 (joined (slotsOf first (columnsOf count (now (offsets .entry)) (now (deltas .entry))))) ⌝ }
+    requires { ⌜ Readable kinds first (columnsOf count (now offsets) (now deltas)) ⌝ }
+    ensures { λ r. ⌜ r ≡ length (joined (slotsOf kinds first (columnsOf count (now (offsets .entry)) (now (deltas .entry))))) ⌝ }
+    ensures { λ _. ⌜ now (out .exit) ≡ sets (now (out .entry)) 0 (joined (slotsOf kinds first (columnsOf count (now (offsets .entry)) (now (deltas .entry))))) ⌝ }
 {
     if count == 0 {
         return 0;

@@ -8,6 +8,7 @@ ghost use mathlib.Core.Path.{_≡_};
 ghost use mathlib.Core.List.{[], _∷_};
 ghost use Prim.Native.Nat.{_-_, _≤_, _<_, min};
 ghost use lib.ListN.{length, take};
+ghost use Rattle.columns.specs.Limits.{kinds};
 ghost use Rattle.lists.specs.Lists.{joined, sum};
 ghost use Rattle.columns.specs.Reading.{slotsOf};
 ghost use Rattle.columns.specs.Questions.{listOf};
@@ -115,9 +116,9 @@ pub fn walk(
     out: &mut [u64],
     ends: &mut [u64],
 ) -> Handed
-    ensures { λ r. ⌜ r ≡ handedOf (definition.walk first rows end (columnsOf count (now (offsets .entry)) (now (deltas .entry))) (kindOf kind) limit start (rooms (length (now (out .entry))) (length (now (ends .entry))))) ⌝ }
-    ensures { λ _. ⌜ now (out .exit) ≡ writtenOver (now (out .entry)) (numbersOf (definition.walk first rows end (columnsOf count (now (offsets .entry)) (now (deltas .entry))) (kindOf kind) limit start (rooms (length (now (out .entry))) (length (now (ends .entry)))))) ⌝ }
-    ensures { λ _. ⌜ now (ends .exit) ≡ writtenOver (now (ends .entry)) (endsOf (definition.walk first rows end (columnsOf count (now (offsets .entry)) (now (deltas .entry))) (kindOf kind) limit start (rooms (length (now (out .entry))) (length (now (ends .entry)))))) ⌝ }
+    ensures { λ r. ⌜ r ≡ handedOf (definition.walk kinds first rows end (columnsOf count (now (offsets .entry)) (now (deltas .entry))) (kindOf kind) limit start (rooms (length (now (out .entry))) (length (now (ends .entry))))) ⌝ }
+    ensures { λ _. ⌜ now (out .exit) ≡ writtenOver (now (out .entry)) (numbersOf (definition.walk kinds first rows end (columnsOf count (now (offsets .entry)) (now (deltas .entry))) (kindOf kind) limit start (rooms (length (now (out .entry))) (length (now (ends .entry)))))) ⌝ }
+    ensures { λ _. ⌜ now (ends .exit) ≡ writtenOver (now (ends .entry)) (endsOf (definition.walk kinds first rows end (columnsOf count (now (offsets .entry)) (now (deltas .entry))) (kindOf kind) limit start (rooms (length (now (out .entry))) (length (now (ends .entry)))))) ⌝ }
 {
     let mut targets = [0u64; 4096];
     let n = least(least(out.len(), ends.len()), 4096);
@@ -160,7 +161,7 @@ pub fn ancestor(
     a: u64,
     b: u64,
 ) -> Shared
-    ensures { λ r. ⌜ Promised r (lentRules 0 first rows end (columnsOf count (now (offsets .entry)) (now (deltas .entry))) []) (listOf first (slotsOf first (columnsOf count (now (offsets .entry)) (now (deltas .entry)))) (kindOf kind)) a b ⌝ }
+    ensures { λ r. ⌜ Promised r (lentRules kinds 0 first rows end (columnsOf count (now (offsets .entry)) (now (deltas .entry))) []) (listOf kinds first (slotsOf kinds first (columnsOf count (now (offsets .entry)) (now (deltas .entry)))) (kindOf kind)) a b ⌝ }
 {
     let mut targets = [0u64; 4096];
     let answer = columns_levels::targets::read(

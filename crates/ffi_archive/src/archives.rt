@@ -11,6 +11,7 @@ ghost use mathlib.Core.Path.{_≡_};
 ghost use Prim.Native.Nat.{_+_};
 ghost use lib.ListN.{length};
 ghost use lib.Seq.{sets};
+ghost use Rattle.columns.specs.Limits.{kinds};
 ghost use Rattle.lists.specs.Lists.{flat};
 ghost use Rattle.archive_bytes.specs.After.{left};
 ghost use Rattle.archive.specs.Parse.{parse};
@@ -69,7 +70,7 @@ fn sums_of(summed: Summed) -> Sums
 // An archive, read in one pass.
 #[no_mangle]
 pub extern "C" fn ridgeoven_sums(bytes: &[u8]) -> Sums
-    ensures { λ r. ⌜ r ≡ sumsOf (totalsOf (parse (now (bytes .entry)))) ⌝ }
+    ensures { λ r. ⌜ r ≡ sumsOf (totalsOf (parse kinds (now (bytes .entry)))) ⌝ }
 {
     sums_of(sum_up(bytes))
 }

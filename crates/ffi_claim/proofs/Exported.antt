@@ -7,6 +7,7 @@ use Prim.Native.Nat.{ℕ, _<_}
 use native.Mathlib.Omega.{arith}
 use lib.Dec.{leb}
 use lib.ListN.{length, take, drop}
+use Rattle.columns.specs.Limits.{kinds}
 use Rattle.columns.specs.Refusal as verdict
 use Rattle.columns.specs.Refusal.{Verdict, numberOf}
 use Rattle.columns.specs.declared.refusal.Refusal.{Refusal}
@@ -89,9 +90,9 @@ replyOf (told n) = reply.Done
 replyOf (counted n) = reply.Done
 replyOf (printed t) = reply.Done
 
-take-reply : (s : RunState) (b : List ℕ) → replied (replyOf ((runStep s (takes b)) .answer)) ≡ (runStep s (takes b)) .answer
+take-reply : (s : RunState) (b : List ℕ) → replied (replyOf ((runStep kinds s (takes b)) .answer)) ≡ (runStep kinds s (takes b)) .answer
 unfolding runStep
-take-reply (taking h) b = go (holdMore h (parse b))
+take-reply (taking h) b = go (holdMore kinds h (parse kinds b))
   where
     go : (v : Verdict Held) → replied (replyOf ((takeInto h v) .answer)) ≡ (takeInto h v) .answer
     go (verdict.refused x) = refl
@@ -99,9 +100,9 @@ take-reply (taking h) b = go (holdMore h (parse b))
 take-reply (runs.resolved h s) b = refl
 take-reply spoiled b = refl
 
-resolve-reply : (s : RunState) → replied (replyOf ((runStep s resolves) .answer)) ≡ (runStep s resolves) .answer
+resolve-reply : (s : RunState) → replied (replyOf ((runStep kinds s resolves) .answer)) ≡ (runStep kinds s resolves) .answer
 unfolding runStep resolveHeld
-resolve-reply (taking h) = go _ (heldRules h (archiveHeld h) (tables (archiveHeld h)))
+resolve-reply (taking h) = go _ (heldRules h (archiveHeld kinds h) (tables kinds (archiveHeld kinds h)))
   where
     go : (s : Sheet) (r : Option Refusal) → replied (replyOf ((resolveInto h s r) .answer)) ≡ (resolveInto h s r) .answer
     go s none = refl
@@ -117,7 +118,7 @@ data Gave : Answer → Type 0 where
 write-gives : (s : RunState) (room : ℕ) → Gave (writtenFrom s room)
 unfolding writtenFrom runStep
 write-gives (taking h) room = no OutOfTurn
-write-gives (runs.resolved h s) room = go (written (summaryOf s))
+write-gives (runs.resolved h s) room = go (written kinds (summaryOf kinds s))
   where
     go : (v : Verdict (List ℕ)) → Gave (writeInto room v)
     go (verdict.refused x) = no x
@@ -139,8 +140,8 @@ after-gives (printed t) c g = g
 clean-gives : (b : List ℕ) (room : ℕ) → Gave (cleanedFrom b room)
 unfolding cleanedFrom resolvedFrom
 clean-gives b room =
-    let o = runStep freshRun (takes b) in
-    let p = runStep (o .state) resolves in
+    let o = runStep kinds freshRun (takes b) in
+    let p = runStep kinds (o .state) resolves in
     after-gives (o .answer) (resolvedFrom (o .state) room) (after-gives (p .answer) (writtenFrom (p .state) room) (write-gives (p .state) room))
 
 -- ── bytes by numbers ─────────────────────────────────────────────────────────────────────────
@@ -162,20 +163,20 @@ write-seen s was is r m e = seen (writtenFrom s) was is r (write-gives s (length
 -- ── questions keep the run ───────────────────────────────────────────────────────────────────
 
 module _ (run : Run) where
-  map-of : (old : ℕ) (s : RunState) → view run ≡ s → runStep (view run) (maps old) ≡ runOutcome (view run) ((runStep s (maps old)) .answer)
+  map-of : (old : ℕ) (s : RunState) → view run ≡ s → runStep kinds (view run) (maps old) ≡ runOutcome (view run) ((runStep kinds s (maps old)) .answer)
   unfolding runStep
-  map-of old s e = subst (λ x. runStep x (maps old) ≡ runOutcome x ((runStep s (maps old)) .answer)) (sym e) (keeps s)
+  map-of old s e = subst (λ x. runStep kinds x (maps old) ≡ runOutcome x ((runStep kinds s (maps old)) .answer)) (sym e) (keeps s)
     where
-      keeps : (s : RunState) → runStep s (maps old) ≡ runOutcome s ((runStep s (maps old)) .answer)
+      keeps : (s : RunState) → runStep kinds s (maps old) ≡ runOutcome s ((runStep kinds s (maps old)) .answer)
       keeps (taking h) = refl
       keeps (runs.resolved h s) = refl
       keeps spoiled = refl
 
-  count-of : (s : RunState) → view run ≡ s → runStep (view run) counts ≡ runOutcome (view run) ((runStep s counts) .answer)
+  count-of : (s : RunState) → view run ≡ s → runStep kinds (view run) counts ≡ runOutcome (view run) ((runStep kinds s counts) .answer)
   unfolding runStep
-  count-of s e = subst (λ x. runStep x counts ≡ runOutcome x ((runStep s counts) .answer)) (sym e) (keeps s)
+  count-of s e = subst (λ x. runStep kinds x counts ≡ runOutcome x ((runStep kinds s counts) .answer)) (sym e) (keeps s)
     where
-      keeps : (s : RunState) → runStep s counts ≡ runOutcome s ((runStep s counts) .answer)
+      keeps : (s : RunState) → runStep kinds s counts ≡ runOutcome s ((runStep kinds s counts) .answer)
       keeps (taking h) = refl
       keeps (runs.resolved h s) = refl
       keeps spoiled = refl
@@ -192,16 +193,16 @@ kept-run r m (told n) e = tt
 kept-run r m (counted n) e = tt
 kept-run r m (printed t) e = tt
 
-take-link : {run : Run} (bytes : List ℕ) (r : Step) → StepsBy (takes bytes) run r → Link run (r .run) (did (takes bytes) ((runStep (view run) (takes bytes)) .answer))
+take-link : {run : Run} (bytes : List ℕ) (r : Step) → StepsBy (takes bytes) run r → Link run (r .run) (did (takes bytes) ((runStep kinds (view run) (takes bytes)) .answer))
 take-link {run} bytes r m =
-    let a = (runStep (view run) (takes bytes)) .answer in
+    let a = (runStep kinds (view run) (takes bytes)) .answer in
     let e = take-reply (view run) bytes in
     subst (λ x. Link run (r .run) (did (takes bytes) x)) e
     (traces.took bytes (record { run = r .run; reply = replyOf a }) (record { state = m .state; answer = e; kept = kept-run r m a (m .answer) }))
 
-resolve-link : {run : Run} (r : Step) → StepsBy resolves run r → Link run (r .run) (did resolves ((runStep (view run) resolves) .answer))
+resolve-link : {run : Run} (r : Step) → StepsBy resolves run r → Link run (r .run) (did resolves ((runStep kinds (view run) resolves) .answer))
 resolve-link {run} r m =
-    let a = (runStep (view run) resolves) .answer in
+    let a = (runStep kinds (view run) resolves) .answer in
     let e = resolve-reply (view run) in
     subst (λ x. Link run (r .run) (did resolves x)) e
     (traces.resolved (record { run = r .run; reply = replyOf a }) (record { state = m .state; answer = e; kept = kept-run r m a (m .answer) }))
@@ -223,26 +224,26 @@ write-link {run} was is r m = go (writtenFrom (view run) (length was)) (write-gi
         (traces.wrote was is (writing.Length (r .length)) (record { answers = same ∙ sym e; rest = m .rest; within = m .within }))
 
 -- a question of each state
-map-link : {run : Run} (old : ℕ) → Link run run (did (maps old) ((runStep (view run) (maps old)) .answer))
+map-link : {run : Run} (old : ℕ) → Link run run (did (maps old) ((runStep kinds (view run) (maps old)) .answer))
 unfolding runStep
 map-link {run} old = go (view run) refl
   where
-    told-link : (o : Option ℕ) → runStep (view run) (maps old) ≡ runOutcome (view run) (told o) → Link run run (did (maps old) (told o))
+    told-link : (o : Option ℕ) → runStep kinds (view run) (maps old) ≡ runOutcome (view run) (told o) → Link run run (did (maps old) (told o))
     told-link none e = traces.mapped old number.Nothing e
     told-link (some n) e = traces.mapped old (number.To n) e
 
-    go : (s : RunState) → view run ≡ s → Link run run (did (maps old) ((runStep s (maps old)) .answer))
+    go : (s : RunState) → view run ≡ s → Link run run (did (maps old) ((runStep kinds s (maps old)) .answer))
     go (taking h) e = traces.mapped old (number.Refused OutOfTurn) (map-of run old (taking h) e)
-    go (runs.resolved h s) e = told-link (Cleaning.mapped (archiveHeld h) old) (map-of run old (runs.resolved h s) e)
+    go (runs.resolved h s) e = told-link (Cleaning.mapped (archiveHeld kinds h) old) (map-of run old (runs.resolved h s) e)
     go spoiled e = traces.mapped old (number.Refused OutOfTurn) (map-of run old spoiled e)
 
-count-link : {run : Run} → Link run run (did counts ((runStep (view run) counts) .answer))
+count-link : {run : Run} → Link run run (did counts ((runStep kinds (view run) counts) .answer))
 unfolding runStep
 count-link {run} = go (view run) refl
   where
-    go : (s : RunState) → view run ≡ s → Link run run (did counts ((runStep s counts) .answer))
+    go : (s : RunState) → view run ≡ s → Link run run (did counts ((runStep kinds s counts) .answer))
     go (taking h) e = traces.counted (count.Refused OutOfTurn) (count-of run (taking h) e)
-    go (runs.resolved h s) e = traces.counted (count.Of (Cleaning.reparented (archiveHeld h))) (count-of run (runs.resolved h s) e)
+    go (runs.resolved h s) e = traces.counted (count.Of (Cleaning.reparented (archiveHeld kinds h))) (count-of run (runs.resolved h s) e)
     go spoiled e = traces.counted (count.Refused OutOfTurn) (count-of run spoiled e)
 
 -- ── the claim ────────────────────────────────────────────────────────────────────────────────

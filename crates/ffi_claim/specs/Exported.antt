@@ -3,6 +3,7 @@ use mathlib.Core.Path.{_≡_}
 use mathlib.Core.List.{List, [], _∷_}
 use Prim.Native.Nat.{ℕ}
 use lib.ListN.{length, take}
+use Rattle.columns.specs.Limits.{kinds}
 use Rattle.cleaning.specs.Step as step
 use Rattle.cleaning.specs.Step.{takes, resolves, writes, maps, counts, Bytes}
 use Rattle.cleaning.specs.Runs.{RunState, runStep}
@@ -25,14 +26,14 @@ use Rattle.ffi_clean.specs.Whole.{GivesBy}
 -- one call: the run before it, the run after it, the call with the answer that the numbers stand for
 pub data Exported : Run → Run → Did → Type 0 where
   took : {run : Run} (bytes : List ℕ) (r : Step) → StepsBy (takes bytes) run r
-      → Exported run (r .run) (did (takes bytes) ((runStep (view run) (takes bytes)) .answer))
-  resolved : {run : Run} (r : Step) → StepsBy resolves run r → Exported run (r .run) (did resolves ((runStep (view run) resolves) .answer))
+      → Exported run (r .run) (did (takes bytes) ((runStep kinds (view run) (takes bytes)) .answer))
+  resolved : {run : Run} (r : Step) → StepsBy resolves run r → Exported run (r .run) (did resolves ((runStep kinds (view run) resolves) .answer))
   wrote : {run : Run} (was is : List ℕ) (r : Answer) → GivesBy (writtenFrom (view run)) was is r
       → Exported run run (did (writes (length was)) (writtenFrom (view run) (length was)))
-  mapped : {run : Run} (old : ℕ) (r : Renumbered) → r ≡ toldOf ((runStep (view run) (maps old)) .answer)
-      → Exported run run (did (maps old) ((runStep (view run) (maps old)) .answer))
-  counted : {run : Run} (r : Answer) → r ≡ countOf ((runStep (view run) counts) .answer)
-      → Exported run run (did counts ((runStep (view run) counts) .answer))
+  mapped : {run : Run} (old : ℕ) (r : Renumbered) → r ≡ toldOf ((runStep kinds (view run) (maps old)) .answer)
+      → Exported run run (did (maps old) ((runStep kinds (view run) (maps old)) .answer))
+  counted : {run : Run} (r : Answer) → r ≡ countOf ((runStep kinds (view run) counts) .answer)
+      → Exported run run (did counts ((runStep kinds (view run) counts) .answer))
 
 pub data ExportedTrace : Run → List Did → Type 0 where
   ended : {run : Run} → ExportedTrace run []
@@ -40,7 +41,7 @@ pub data ExportedTrace : Run → List Did → Type 0 where
 
 -- the claim over two traces of exported calls, each from a run that `ridgeoven_new` gives
 abbrev pub ClaimOfExported : Type 0
-ClaimOfExported = (r s : Run) → Fresh r → Fresh s → (h g : List Did) → ExportedTrace r h → ExportedTrace s g → Claimed h g
+ClaimOfExported = (r s : Run) → Fresh r → Fresh s → (h g : List Did) → ExportedTrace r h → ExportedTrace s g → Claimed kinds h g
 
 -- and a write that answers 0 is an accepted one: of the length that it answers, and of the bytes up to it
 abbrev pub WriteSeen : Type 0

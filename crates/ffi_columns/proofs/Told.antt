@@ -83,27 +83,27 @@ module _ (last n m : ℕ) (h : n ≤ last) (e : m ≡ n) where
 
 -- one set
 module _ (first rows end : ℕ) (s : EdgeSet) (lent : List Lent) (n m : ℕ) (h : n ≤ 2) (e : m ≡ n) where
-  pub set-told : (x : Counted) {r : Answer} → x ≡ countedOf (inOne (decodeSet m first rows end s lent)) → r ≡ countOf x → r ≡ countOf (countedOf (after (unnamed edgeSets n) (inOne (decodeSet n first rows end s lent))))
-  set-told = named-counted 2 n m h e (λ k. inOne (decodeSet k first rows end s lent))
+  pub set-told : (x : Counted) {r : Answer} → x ≡ countedOf (inOne (decodeSet kinds m first rows end s lent)) → r ≡ countOf x → r ≡ countOf (countedOf (after (unnamed edgeSets n) (inOne (decodeSet kinds n first rows end s lent))))
+  set-told = named-counted 2 n m h e (λ k. inOne (decodeSet kinds k first rows end s lent))
 
-  pub set-written : (old out : List ℕ) → out ≡ writtenOver old (inOne (decodeSet m first rows end s lent)) → out ≡ writtenOver old (after (unnamed edgeSets n) (inOne (decodeSet n first rows end s lent)))
-  set-written = named-written 2 n m h e (λ k. inOne (decodeSet k first rows end s lent))
+  pub set-written : (old out : List ℕ) → out ≡ writtenOver old (inOne (decodeSet kinds m first rows end s lent)) → out ≡ writtenOver old (after (unnamed edgeSets n) (inOne (decodeSet kinds n first rows end s lent)))
+  set-written = named-written 2 n m h e (λ k. inOne (decodeSet kinds k first rows end s lent))
 
 -- questions of a kind
 module _ (first rows end : ℕ) (s : EdgeSet) (lent : List Lent) (n m : ℕ) (h : n ≤ 1) (e : m ≡ n) where
   module _ (number : ℕ) where
-    pub parents-told : (x : Counted) {r : Answer} → x ≡ countedOf (parents first rows end s m number lent) → r ≡ countOf x → r ≡ countOf (countedOf (after (unnamed kinds n) (parents first rows end s n number lent)))
-    parents-told = named-counted 1 n m h e (λ k. parents first rows end s k number lent)
+    pub parents-told : (x : Counted) {r : Answer} → x ≡ countedOf (parents kinds first rows end s m number lent) → r ≡ countOf x → r ≡ countOf (countedOf (after (unnamed kinds n) (parents kinds first rows end s n number lent)))
+    parents-told = named-counted 1 n m h e (λ k. parents kinds first rows end s k number lent)
 
-    pub parents-written : (old out : List ℕ) → out ≡ writtenOver old (parents first rows end s m number lent) → out ≡ writtenOver old (after (unnamed kinds n) (parents first rows end s n number lent))
-    parents-written = named-written 1 n m h e (λ k. parents first rows end s k number lent)
+    pub parents-written : (old out : List ℕ) → out ≡ writtenOver old (parents kinds first rows end s m number lent) → out ≡ writtenOver old (after (unnamed kinds n) (parents kinds first rows end s n number lent))
+    parents-written = named-written 1 n m h e (λ k. parents kinds first rows end s k number lent)
 
     module _ (i : EdgeSet) where
-      pub children-told : (x : Counted) {r : Answer} → x ≡ countedOf (children first rows end s i m number lent) → r ≡ countOf x → r ≡ countOf (countedOf (after (unnamed kinds n) (children first rows end s i n number lent)))
-      children-told = named-counted 1 n m h e (λ k. children first rows end s i k number lent)
+      pub children-told : (x : Counted) {r : Answer} → x ≡ countedOf (children kinds first rows end s i m number lent) → r ≡ countOf x → r ≡ countOf (countedOf (after (unnamed kinds n) (children kinds first rows end s i n number lent)))
+      children-told = named-counted 1 n m h e (λ k. children kinds first rows end s i k number lent)
 
-      pub children-written : (old out : List ℕ) → out ≡ writtenOver old (children first rows end s i m number lent) → out ≡ writtenOver old (after (unnamed kinds n) (children first rows end s i n number lent))
-      children-written = named-written 1 n m h e (λ k. children first rows end s i k number lent)
+      pub children-written : (old out : List ℕ) → out ≡ writtenOver old (children kinds first rows end s i m number lent) → out ≡ writtenOver old (after (unnamed kinds n) (children kinds first rows end s i n number lent))
+      children-written = named-written 1 n m h e (λ k. children kinds first rows end s i k number lent)
 
   module _ (limit : ℕ) where
     module _ (visited frontier : List ℕ) where
@@ -114,23 +114,23 @@ module _ (first rows end : ℕ) (s : EdgeSet) (lent : List Lent) (n m : ℕ) (h 
       next-written = named-written 1 n m h e (λ k. next first rows end s k limit visited frontier lent)
 
     module _ (start : ℕ) where
-      named-walk : after (unnamed kinds n) (walk first rows end s n limit start lent) ≡ walk first rows end s m limit start lent
-      named-walk = of-named 1 n h (walk first rows end s n limit start lent) ∙ rw e
+      named-walk : after (unnamed kinds n) (walk kinds first rows end s n limit start lent) ≡ walk kinds first rows end s m limit start lent
+      named-walk = of-named 1 n h (walk kinds first rows end s n limit start lent) ∙ rw e
 
-      pub walk-told : (x : Handed) {r : walks.Walked} → x ≡ handedOf (walk first rows end s m limit start lent) → r ≡ walkedOf x → r ≡ walkedOf (handedOf (after (unnamed kinds n) (walk first rows end s n limit start lent)))
+      pub walk-told : (x : Handed) {r : walks.Walked} → x ≡ handedOf (walk kinds first rows end s m limit start lent) → r ≡ walkedOf x → r ≡ walkedOf (handedOf (after (unnamed kinds n) (walk kinds first rows end s n limit start lent)))
       walk-told x p q = rw named-walk (q ∙ ap walkedOf p)
 
-      pub numbers-written : (old out : List ℕ) → out ≡ writtenOver old (numbersOf (walk first rows end s m limit start lent)) → out ≡ writtenOver old (numbersOf (after (unnamed kinds n) (walk first rows end s n limit start lent)))
+      pub numbers-written : (old out : List ℕ) → out ≡ writtenOver old (numbersOf (walk kinds first rows end s m limit start lent)) → out ≡ writtenOver old (numbersOf (after (unnamed kinds n) (walk kinds first rows end s n limit start lent)))
       numbers-written old out p = rw named-walk p
 
-      pub ends-written : (old out : List ℕ) → out ≡ writtenOver old (endsOf (walk first rows end s m limit start lent)) → out ≡ writtenOver old (endsOf (after (unnamed kinds n) (walk first rows end s n limit start lent)))
+      pub ends-written : (old out : List ℕ) → out ≡ writtenOver old (endsOf (walk kinds first rows end s m limit start lent)) → out ≡ writtenOver old (endsOf (after (unnamed kinds n) (walk kinds first rows end s n limit start lent)))
       ends-written old out p = rw named-walk p
 
 -- ── a granule, by whether it has a cover ─────────────────────────────────────────────────────
 
 module _ (first rows end : ℕ) (f r i : EdgeSet) (chains seqs : List ℕ) (lent : List Lent) (a b : Bool) (e : a ≡ b) where
   abbrev verdict : Bool → Verdict Granule
-  verdict cover = readBeside (idleLabels cover chains seqs) first rows end (record { forward = f; reverse = r; inbound = i; labels = coverOf cover chains seqs }) lent
+  verdict cover = readBeside kinds (idleLabels cover chains seqs) first rows end (record { forward = f; reverse = r; inbound = i; labels = coverOf cover chains seqs }) lent
 
   pub granule-told : {q : told.Granule} (x : Decoded) → x ≡ decodedOf (verdict a) → q ≡ granuleOf x → q ≡ granuleOf (decodedOf (verdict b))
   granule-told x d h = rw (← e) (h ∙ ap granuleOf d)
@@ -148,11 +148,11 @@ promised (Number x) rules p a b h = rw (h .0) (record { ancestor = some x; told 
 promised Nothing rules p a b h = rw (h .0) (record { ancestor = none; told = refl; right = h .1 })
 
 module _ (n : ℕ) (rules : Option Refusal) (first : ℕ) (lists : List (List ℕ)) (a b : ℕ) where
-  pub unnamed-promised : {r : Ancestor} → 1 < n → r ≡ ancestorOf (Refused InboundParent) → PromisedBy r (firstOf (unnamed kinds n ∷ rules ∷ [])) (listOf first lists n) a b
+  pub unnamed-promised : {r : Ancestor} → 1 < n → r ≡ ancestorOf (Refused InboundParent) → PromisedBy r (firstOf (unnamed kinds n ∷ rules ∷ [])) (listOf kinds first lists n) a b
   unfolding firstOf
   unnamed-promised h e = rw (is-unnamed 1 n h) e
 
-  pub named-promised : {r : Ancestor} (s : Shared) (m : ℕ) → n ≤ 1 → m ≡ n → r ≡ ancestorOf s → Promised s rules (listOf first lists m) a b
-      → PromisedBy r (firstOf (unnamed kinds n ∷ rules ∷ [])) (listOf first lists n) a b
+  pub named-promised : {r : Ancestor} (s : Shared) (m : ℕ) → n ≤ 1 → m ≡ n → r ≡ ancestorOf s → Promised s rules (listOf kinds first lists m) a b
+      → PromisedBy r (firstOf (unnamed kinds n ∷ rules ∷ [])) (listOf kinds first lists n) a b
   unfolding firstOf
-  named-promised s m h e q p = rw (is-named 1 n h, last-rule rules, q, ← e) (promised s rules (listOf first lists m) a b p)
+  named-promised s m h e q p = rw (is-named 1 n h, last-rule rules, q, ← e) (promised s rules (listOf kinds first lists m) a b p)

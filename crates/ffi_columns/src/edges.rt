@@ -41,8 +41,8 @@ pub extern "C" fn ridgeoven_read_set(
     deltas: &[i64],
     targets: &mut [u64],
 ) -> Answer
-    ensures { λ r. ⌜ r ≡ countOf (countedOf (after (unnamed edgeSets set) (inOne (decodeSet set first rows end (columnsOf count (now (offsets .entry)) (now (deltas .entry))) (room (length (now (targets .entry)))))))) ⌝ }
-    ensures { λ _. ⌜ now (targets .exit) ≡ writtenOver (now (targets .entry)) (after (unnamed edgeSets set) (inOne (decodeSet set first rows end (columnsOf count (now (offsets .entry)) (now (deltas .entry))) (room (length (now (targets .entry))))))) ⌝ }
+    ensures { λ r. ⌜ r ≡ countOf (countedOf (after (unnamed edgeSets set) (inOne (decodeSet kinds set first rows end (columnsOf count (now (offsets .entry)) (now (deltas .entry))) (room (length (now (targets .entry)))))))) ⌝ }
+    ensures { λ _. ⌜ now (targets .exit) ≡ writtenOver (now (targets .entry)) (after (unnamed edgeSets set) (inOne (decodeSet kinds set first rows end (columnsOf count (now (offsets .entry)) (now (deltas .entry))) (room (length (now (targets .entry))))))) ⌝ }
 {
     if 2 < set {
         return count_of(Counted::Refused(Refusal::InboundParent));
@@ -133,8 +133,8 @@ pub extern "C" fn ridgeoven_parents(
     number: u64,
     list: &mut [u64],
 ) -> Answer
-    ensures { λ r. ⌜ r ≡ countOf (countedOf (after (unnamed kinds kind) (asked.parents first rows end (columnsOf count (now (offsets .entry)) (now (deltas .entry))) kind number (room (length (now (list .entry))))))) ⌝ }
-    ensures { λ _. ⌜ now (list .exit) ≡ writtenOver (now (list .entry)) (after (unnamed kinds kind) (asked.parents first rows end (columnsOf count (now (offsets .entry)) (now (deltas .entry))) kind number (room (length (now (list .entry)))))) ⌝ }
+    ensures { λ r. ⌜ r ≡ countOf (countedOf (after (unnamed kinds kind) (asked.parents kinds first rows end (columnsOf count (now (offsets .entry)) (now (deltas .entry))) kind number (room (length (now (list .entry))))))) ⌝ }
+    ensures { λ _. ⌜ now (list .exit) ≡ writtenOver (now (list .entry)) (after (unnamed kinds kind) (asked.parents kinds first rows end (columnsOf count (now (offsets .entry)) (now (deltas .entry))) kind number (room (length (now (list .entry)))))) ⌝ }
 {
     if 1 < kind {
         return count_of(Counted::Refused(Refusal::InboundParent));
@@ -167,8 +167,8 @@ pub extern "C" fn ridgeoven_children(
     number: u64,
     list: &mut [u64],
 ) -> Answer
-    ensures { λ r. ⌜ r ≡ countOf (countedOf (after (unnamed kinds kind) (asked.children first rows end (columnsOf rcount (now (ro .entry)) (now (rd .entry))) (columnsOf icount (now (io .entry)) (now (id .entry))) kind number (room (length (now (list .entry))))))) ⌝ }
-    ensures { λ _. ⌜ now (list .exit) ≡ writtenOver (now (list .entry)) (after (unnamed kinds kind) (asked.children first rows end (columnsOf rcount (now (ro .entry)) (now (rd .entry))) (columnsOf icount (now (io .entry)) (now (id .entry))) kind number (room (length (now (list .entry)))))) ⌝ }
+    ensures { λ r. ⌜ r ≡ countOf (countedOf (after (unnamed kinds kind) (asked.children kinds first rows end (columnsOf rcount (now (ro .entry)) (now (rd .entry))) (columnsOf icount (now (io .entry)) (now (id .entry))) kind number (room (length (now (list .entry))))))) ⌝ }
+    ensures { λ _. ⌜ now (list .exit) ≡ writtenOver (now (list .entry)) (after (unnamed kinds kind) (asked.children kinds first rows end (columnsOf rcount (now (ro .entry)) (now (rd .entry))) (columnsOf icount (now (io .entry)) (now (id .entry))) kind number (room (length (now (list .entry)))))) ⌝ }
 {
     if 1 < kind {
         return count_of(Counted::Refused(Refusal::InboundParent));

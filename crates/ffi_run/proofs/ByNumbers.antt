@@ -1,6 +1,7 @@
 -- What a run's steps promise, said by numbers.
 use mathlib.Core.Path.{_≡_, ap, sym, _∙_}
 use Prim.Native.Nat.{ℕ}
+use Rattle.columns.specs.Limits.{kinds}
 use Rattle.cleaning.specs.Step.{Call, Answer}
 use Rattle.cleaning.specs.Runs.{RunState, runOutcome, runStep}
 use Rattle.run.specs.Contracts.{replied, Steps}
@@ -17,5 +18,5 @@ steps-by c before after Done m e = record { state = m .state; answer = e ∙ ap 
 steps-by c before after (Refused x) m e = record { state = m .state; answer = e ∙ ap refusalOf (m .answer); kept = λ no. m .kept }
 
 -- a step that asks, by its answer
-pub answered-by : {B : Type 0} (f : Answer → B) (s : RunState) (c : Call) (a : Answer) {r : B} → runStep s c ≡ runOutcome s a → r ≡ f a → r ≡ f ((runStep s c) .answer)
+pub answered-by : {B : Type 0} (f : Answer → B) (s : RunState) (c : Call) (a : Answer) {r : B} → runStep kinds s c ≡ runOutcome s a → r ≡ f a → r ≡ f ((runStep kinds s c) .answer)
 answered-by f s c a m e = e ∙ sym (ap (λ o. f (o .answer)) m)

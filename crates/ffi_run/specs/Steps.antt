@@ -1,6 +1,7 @@
 -- What a run's steps answer by numbers.
 use mathlib.Core.Path.{_≡_}
 use mathlib.Core.Option.{none, some}
+use Rattle.columns.specs.Limits.{kinds}
 use Rattle.columns.specs.Refusal.{numberOf}
 use Rattle.cleaning.specs.Step.{Call, Answer, refused, done, wrote, told, counted, printed}
 use Rattle.cleaning.specs.Runs.{runStep}
@@ -32,6 +33,6 @@ countOf (printed t) = entries 0
 
 -- the run and the refusal are those of the step; a refused one gives back the run that it was given
 pub record StepsBy (c : Call) (before : Run) (r : Step) : Type 0 where
-  pub state : view (r .run) ≡ (runStep (view before) c) .state
-  pub answer : r .refusal ≡ refusalOf ((runStep (view before) c) .answer)
+  pub state : view (r .run) ≡ (runStep kinds (view before) c) .state
+  pub answer : r .refusal ≡ refusalOf ((runStep kinds (view before) c) .answer)
   pub kept : (r .refusal ≡ 0 → ⊥) → r .run ≡ before

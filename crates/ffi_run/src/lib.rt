@@ -8,6 +8,7 @@ use run::Number;
 use run::Reply;
 use run::Run;
 ghost use mathlib.Core.Path.{_≡_};
+ghost use Rattle.columns.specs.Limits.{kinds};
 ghost use Rattle.cleaning.specs.Step.{takes, resolves, maps, counts};
 ghost use Rattle.cleaning.specs.Runs.{freshRun, runStep};
 ghost use Rattle.run.specs.View.{view};
@@ -109,7 +110,7 @@ pub extern "C" fn ridgeoven_resolve(run: Run) -> Step
 // The new number of an old one, in a resolved run.
 #[no_mangle]
 pub extern "C" fn ridgeoven_new_number(run: Run, old: u64) -> Renumbered
-    ensures { λ r. ⌜ r ≡ toldOf ((runStep (view run) (maps old)) .answer) ⌝ }
+    ensures { λ r. ⌜ r ≡ toldOf ((runStep kinds (view run) (maps old)) .answer) ⌝ }
 {
     renumbered_of(run::new_number(run, old))
 }
@@ -117,7 +118,7 @@ pub extern "C" fn ridgeoven_new_number(run: Run, old: u64) -> Renumbered
 // How many survivors name an erased parent, in a resolved run.
 #[no_mangle]
 pub extern "C" fn ridgeoven_reparented(run: Run) -> Answer
-    ensures { λ r. ⌜ r ≡ countOf ((runStep (view run) counts) .answer) ⌝ }
+    ensures { λ r. ⌜ r ≡ countOf ((runStep kinds (view run) counts) .answer) ⌝ }
 {
     reparented_of(run::reparented(run))
 }

@@ -6,6 +6,7 @@ use native.Mathlib.Omega.{arith}
 use lib.ListN.{length, getD}
 use mir.Syntax.{w8}
 use mir.Val.{Fits}
+use Rattle.columns.specs.Limits.{kinds}
 use Rattle.columns.specs.declared.refusal.Refusal.{Refusal}
 use Rattle.cleaning.specs.Lines.{refusedLine}
 use Rattle.cleaning.specs.Step.{printed}
@@ -22,7 +23,7 @@ use Rattle.messages.proofs.Prefix.{counts, front}
 
 module _ (bytes : List ℕ) (fit : (i : ℕ) → Fits w8 (getD bytes i 0)) {was mid : List ℕ} (h : 437792 ≤ length was) (same : length mid ≡ length was)
     {w : Writing} (g : Gives printed (listingFrom bytes) was mid w) where
-  is-listing : said (answerOf printed w mid) ≡ listing bytes
+  is-listing : said (answerOf printed w mid) ≡ listing kinds bytes
   is-listing = ap said (g .answers) ∙ listing-said (length was) h bytes (files-fit bytes fit)
 
   pub refusal-printed : {is : List ℕ} {r : ℕ} (x : Refusal) → w ≡ Refused x → Wrote (refusedLine x) 29 mid 0 is r → length is ≡ length mid

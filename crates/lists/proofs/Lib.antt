@@ -12,3 +12,4 @@ pub mod Filters
 pub mod From
 pub mod Counting
 pub mod Storing
+pub mod Slots

@@ -7,6 +7,7 @@ use Prim.Native.Nat.{ℕ}
 use native.Mathlib.Omega.{arith}
 use lib.ListN.{length}
 use borrow.Author.Tests.{not-true, not-false}
+use Rattle.columns.specs.Limits.{kinds}
 use Rattle.columns.specs.declared.refusal.Refusal.{Refusal}
 use Rattle.columns.specs.declared.refusal.Refusal.the-variants.{OutOfTurn}
 use Rattle.cleaning.specs.Step.{Call, takes, resolves, writes, maps, counts, lists, refused, done, told, counted}
@@ -108,18 +109,18 @@ module _ (r : Run) {b : Bool} (e : b ≡ isResolved r) (k : not b ≡ false) whe
   held-order = resolved-order r is-resolved
 
   -- a question or a write, by what it answers of the resolved state
-  by-state : (c : Call) (s : RunState) → view r ≡ s → runStep s c ≡ runOutcome s ((runStep s c) .answer) → runStep (view r) c ≡ runOutcome (view r) ((runStep s c) .answer)
-  by-state c s v o = subst (λ x. runStep x c ≡ runOutcome x ((runStep s c) .answer)) (sym v) o
+  by-state : (c : Call) (s : RunState) → view r ≡ s → runStep kinds s c ≡ runOutcome s ((runStep kinds s c) .answer) → runStep kinds (view r) c ≡ runOutcome (view r) ((runStep kinds s c) .answer)
+  by-state c s v o = subst (λ x. runStep kinds x c ≡ runOutcome x ((runStep kinds s c) .answer)) (sym v) o
 
-  pub map-to : {a : Mapped} (old n : ℕ) → a ≡ mappedOf (mapped (archiveHeld (heldIn (r .held))) old) → a ≡ To n → Maps r old (number.To n)
+  pub map-to : {a : Mapped} (old n : ℕ) → a ≡ mappedOf (mapped (archiveHeld kinds (heldIn (r .held))) old) → a ≡ To n → Maps r old (number.To n)
   unfolding runStep mappedOf
-  map-to old n m f = by-state (maps old) _ (seen-resolved r is-resolved) refl ∙ ap (λ o. runOutcome (view r) (told o)) (to-some (mapped (archiveHeld (heldIn (r .held))) old) n (sym m ∙ f))
+  map-to old n m f = by-state (maps old) _ (seen-resolved r is-resolved) refl ∙ ap (λ o. runOutcome (view r) (told o)) (to-some (mapped (archiveHeld kinds (heldIn (r .held))) old) n (sym m ∙ f))
 
-  pub map-nothing : {a : Mapped} (old : ℕ) → a ≡ mappedOf (mapped (archiveHeld (heldIn (r .held))) old) → a ≡ Nothing → Maps r old number.Nothing
+  pub map-nothing : {a : Mapped} (old : ℕ) → a ≡ mappedOf (mapped (archiveHeld kinds (heldIn (r .held))) old) → a ≡ Nothing → Maps r old number.Nothing
   unfolding runStep mappedOf
-  map-nothing old m f = by-state (maps old) _ (seen-resolved r is-resolved) refl ∙ ap (λ o. runOutcome (view r) (told o)) (to-none (mapped (archiveHeld (heldIn (r .held))) old) (sym m ∙ f))
+  map-nothing old m f = by-state (maps old) _ (seen-resolved r is-resolved) refl ∙ ap (λ o. runOutcome (view r) (told o)) (to-none (mapped (archiveHeld kinds (heldIn (r .held))) old) (sym m ∙ f))
 
-  pub count-now : {n : ℕ} → n ≡ reparented (archiveHeld (heldIn (r .held))) → Counts r (count.Of n)
+  pub count-now : {n : ℕ} → n ≡ reparented (archiveHeld kinds (heldIn (r .held))) → Counts r (count.Of n)
   unfolding runStep
   count-now f = by-state counts _ (seen-resolved r is-resolved) refl ∙ ap (λ k. runOutcome (view r) (counted k)) (sym f)
 
@@ -160,19 +161,19 @@ module _ (r : Run) {b : Bool} (e : b ≡ isTaking r) (k : not b ≡ false) where
   sources-order = taking-order r is-taking
 
   -- a refused step of a run that takes sources leaves it as it is
-  stays : (c : Call) (x : Refusal) → runStep (taking (heldIn (r .held))) c ≡ runOutcome (taking (heldIn (r .held))) (refused x) → Steps c r r (Refused x)
+  stays : (c : Call) (x : Refusal) → runStep kinds (taking (heldIn (r .held))) c ≡ runOutcome (taking (heldIn (r .held))) (refused x) → Steps c r r (Refused x)
   stays c x o =
-      let z : runStep (view r) c ≡ runOutcome (view r) (refused x) =
-      subst (λ s. runStep s c ≡ runOutcome s (refused x)) (sym (seen-taking r is-taking)) o in
+      let z : runStep kinds (view r) c ≡ runOutcome (view r) (refused x) =
+      subst (λ s. runStep kinds s c ≡ runOutcome s (refused x)) (sym (seen-taking r is-taking)) o in
       record { state = sym (ap (λ s. s .state) z); answer = sym (ap (λ s. s .answer) z); kept = refl }
 
   -- an accepted one goes on to another run
-  goes : (c : Call) (after : Run) → runStep (taking (heldIn (r .held))) c ≡ runOutcome (view after) done → Steps c r after Done
+  goes : (c : Call) (after : Run) → runStep kinds (taking (heldIn (r .held))) c ≡ runOutcome (view after) done → Steps c r after Done
   goes c after o =
-      let z : runStep (view r) c ≡ runOutcome (view after) done = ap (λ s. runStep s c) (seen-taking r is-taking) ∙ o in
+      let z : runStep kinds (view r) c ≡ runOutcome (view after) done = ap (λ s. runStep kinds s c) (seen-taking r is-taking) ∙ o in
       record { state = sym (ap (λ s. s .state) z); answer = sym (ap (λ s. s .answer) z); kept = tt }
 
-  module _ (t : Taken) (bytes : List ℕ) (m : TookBy (holdMore (heldIn (r .held)) (parse bytes)) (r .held) t) where
+  module _ (t : Taken) (bytes : List ℕ) (m : TookBy (holdMore kinds (heldIn (r .held)) (parse kinds bytes)) (r .held) t) where
     pub take-refused : (x : Refusal) → t .ruling ≡ Broken x → Steps (takes bytes) r r (Refused x)
     take-refused x d = stays (takes bytes) x (taking-refused (r .held) bytes t m x d)
 

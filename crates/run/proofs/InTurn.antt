@@ -5,6 +5,7 @@ use Prim.Native.Nat.{ℕ, zero, suc, _≤_, _<_}
 use lib.Dec.{eqb}
 use native.Mathlib.Omega.{arith}
 use borrow.Author.Tests.{eq-eqb, ne-eqb, eqb-true, lt-ltb, le-ltb, not-true, not-false}
+use Rattle.columns.specs.Limits.{kinds}
 use Rattle.lists.proofs.Tests.{both}
 use Rattle.columns.specs.declared.refusal.Refusal.the-variants.{OutOfTurn}
 use Rattle.cleaning.specs.Sheet as sheets
@@ -95,7 +96,7 @@ module _ (r : Run) {a b : Bool} (e : a ≡ holdable (r .held)) where
 
 -- a call that answers 40 and changes nothing
 abbrev pub OutOf : Call → RunState → Type 0
-OutOf c s = runStep s c ≡ runOutcome s (refused OutOfTurn)
+OutOf c s = runStep kinds s c ≡ runOutcome s (refused OutOfTurn)
 
 module _ (r : Run) where
   -- what a run stands for, by its phase and its tests

@@ -6,6 +6,7 @@ use Prim.Native.Nat.{ℕ, zero, suc}
 use native.Mathlib.Omega.{arith}
 use lib.Dec.{ltb}
 use borrow.Author.Tests.{lt-ltb}
+use Rattle.columns.specs.Limits.{kinds}
 use Rattle.lists.specs.Lists.{isEmpty, upFrom}
 use Rattle.columns.specs.Refusal as verdict
 use Rattle.columns.specs.Refusal.{Verdict}
@@ -34,25 +35,25 @@ use Rattle.run.specs.View.{grouped}
 
 -- an accepted taking: the step goes on to what is held now, fit for the next call
 pub record TakenOn (h : Held) (bytes : List ℕ) (t : Taken) : Type 0 where
-  pub step : runStep (taking (heldIn h)) (takes bytes) ≡ runOutcome (taking (heldIn (t .held))) done
+  pub step : runStep kinds (taking (heldIn h)) (takes bytes) ≡ runOutcome (taking (heldIn (t .held))) done
   pub valid : heldOk (t .held) ≡ true
   pub inOrder : ordered (t .held .sheet) ≡ true
 
-module _ (h : Held) (bytes : List ℕ) (t : Taken) (m : TookBy (holdMore (heldIn h) (parse bytes)) h t) where
-  pub taking-refused : (x : Refusal) → t .ruling ≡ Broken x → runStep (taking (heldIn h)) (takes bytes) ≡ runOutcome (taking (heldIn h)) (refused x)
+module _ (h : Held) (bytes : List ℕ) (t : Taken) (m : TookBy (holdMore kinds (heldIn h) (parse kinds bytes)) h t) where
+  pub taking-refused : (x : Refusal) → t .ruling ≡ Broken x → runStep kinds (taking (heldIn h)) (takes bytes) ≡ runOutcome (taking (heldIn h)) (refused x)
   unfolding runStep
-  taking-refused x d = go (holdMore (heldIn h) (parse bytes)) refl m
+  taking-refused x d = go (holdMore kinds (heldIn h) (parse kinds bytes)) refl m
     where
-      go : (v : Verdict run.Held) → holdMore (heldIn h) (parse bytes) ≡ v → TookBy v h t
-          → runStep (taking (heldIn h)) (takes bytes) ≡ runOutcome (taking (heldIn h)) (refused x)
+      go : (v : Verdict run.Held) → holdMore kinds (heldIn h) (parse kinds bytes) ≡ v → TookBy v h t
+          → runStep kinds (taking (heldIn h)) (takes bytes) ≡ runOutcome (taking (heldIn h)) (refused x)
       go (verdict.refused y) f n = let z : y ≡ x = cc in rw (f, z)
       go (verdict.accepted k) f n = let z : _≡_ {A = ℕ} 0 1 = cc in absurd (omega arith)
 
   pub taking-done : t .ruling ≡ Kept → TakenOn h bytes t
   unfolding runStep
-  taking-done d = go (holdMore (heldIn h) (parse bytes)) refl m
+  taking-done d = go (holdMore kinds (heldIn h) (parse kinds bytes)) refl m
     where
-      go : (v : Verdict run.Held) → holdMore (heldIn h) (parse bytes) ≡ v → TookBy v h t → TakenOn h bytes t
+      go : (v : Verdict run.Held) → holdMore kinds (heldIn h) (parse kinds bytes) ≡ v → TookBy v h t → TakenOn h bytes t
       go (verdict.refused y) f n = let z : _≡_ {A = ℕ} 0 1 = cc in absurd (omega arith)
       go (verdict.accepted k) f n = record { step = rw (f, n .1); valid = n .2; inOrder = n .3 }
 
@@ -71,11 +72,11 @@ some-group f (suc n) e = lt-ltb 0 (suc n) (omega arith)
 -- ── resolving ────────────────────────────────────────────────────────────────────────────────
 
 module _ (h : Held) (q : Resolution) (m : ResolvedBy h q) where
-  pub resolving-refused : (x : Refusal) → q .ruling ≡ Broken x → runStep (taking (heldIn h)) resolves ≡ runOutcome (taking (heldIn h)) (refused x)
+  pub resolving-refused : (x : Refusal) → q .ruling ≡ Broken x → runStep kinds (taking (heldIn h)) resolves ≡ runOutcome (taking (heldIn h)) (refused x)
   unfolding runStep resolveHeld rulesIn
   resolving-refused x d = rw (told (rulesIn h) (m .ruled) d)
 
-  pub resolving-done : q .ruling ≡ Kept → runStep (taking (heldIn h)) resolves ≡ runOutcome (resolved (heldIn h) (sheetIn (q .sheet))) done
+  pub resolving-done : q .ruling ≡ Kept → runStep kinds (taking (heldIn h)) resolves ≡ runOutcome (resolved (heldIn h) (sheetIn (q .sheet))) done
   unfolding runStep resolveHeld rulesIn newIn
   resolving-done d = rw (told-kept (rulesIn h) (m .ruled) d) (ap (λ s. runOutcome (resolved (heldIn h) s) done) (sym (m .view d)))
 

@@ -4,6 +4,7 @@ use mathlib.Core.Path.{_≡_}
 use mathlib.Core.List.{List}
 use mathlib.Core.Option.{none, some}
 use Prim.Native.Nat.{ℕ}
+use Rattle.columns.specs.Limits.{kinds}
 use Rattle.cleaning.specs.Step.{Call, writes, maps, counts, lists, Answer, refused, done, wrote, told, counted, printed}
 use Rattle.cleaning.specs.Runs.{RunState, runOutcome, runStep}
 use Rattle.run_write.specs.Answers.{Gives}
@@ -41,16 +42,16 @@ Kept (Refused x) before after = after ≡ before
 
 -- taking and resolving: the run and the answer are those of the step
 pub record Steps (c : Call) (before after : Run) (r : Reply) : Type 0 where
-  pub state : view after ≡ (runStep (view before) c) .state
-  pub answer : replied r ≡ (runStep (view before) c) .answer
+  pub state : view after ≡ (runStep kinds (view before) c) .state
+  pub answer : replied r ≡ (runStep kinds (view before) c) .answer
   pub kept : Kept r before after
 
 -- what a write and a listing into so much room answer
 unfoldable pub writtenFrom : RunState → ℕ → Answer
-writtenFrom s room = (runStep s (writes room)) .answer
+writtenFrom s room = (runStep kinds s (writes room)) .answer
 
 unfoldable pub listedFrom : RunState → ℕ → Answer
-listedFrom s room = (runStep s (lists room)) .answer
+listedFrom s room = (runStep kinds s (lists room)) .answer
 
 -- writing and listing: the run stays as it is, and gives the step's bytes for as much room as was lent
 abbrev pub Writes : Run → List ℕ → List ℕ → Writing → Type 0
@@ -61,7 +62,7 @@ Lists run = Gives printed (listedFrom (view run))
 
 -- asking for the new number of an old one, and for the reparented: the run stays as it is
 abbrev pub Maps : Run → ℕ → Number → Type 0
-Maps run old r = runStep (view run) (maps old) ≡ runOutcome (view run) (numbered r)
+Maps run old r = runStep kinds (view run) (maps old) ≡ runOutcome (view run) (numbered r)
 
 abbrev pub Counts : Run → Count → Type 0
-Counts run r = runStep (view run) counts ≡ runOutcome (view run) (countedAs r)
+Counts run r = runStep kinds (view run) counts ≡ runOutcome (view run) (countedAs r)

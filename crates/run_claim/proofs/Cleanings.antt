@@ -7,6 +7,8 @@ use native.Mathlib.Omega.{arith}
 use lib.Dec.{leb}
 use lib.ListN.{length}
 use borrow.Author.Tests.{le-leb}
+use Rattle.columns.specs.Limits.{kinds}
+use Rattle.columns.proofs.Served.{kinds-served}
 use Rattle.columns.specs.Refusal as verdict
 use Rattle.columns.specs.Refusal.{Verdict}
 use Rattle.columns.specs.declared.refusal.Refusal.the-variants.{SliceShort}
@@ -34,23 +36,23 @@ abbrev calls : List ℕ → ℕ → List Call
 calls b room = takes b ∷ resolves ∷ writes room ∷ []
 
 abbrev first : List ℕ → Outcome
-first b = step fresh (takes b)
+first b = step kinds fresh (takes b)
 
 abbrev second : List ℕ → Outcome
-second b = step ((first b) .state) resolves
+second b = step kinds ((first b) .state) resolves
 
 abbrev third : List ℕ → ℕ → Outcome
-third b room = step ((second b) .state) (writes room)
+third b room = step kinds ((second b) .state) (writes room)
 
 pub over-steps : (b : List ℕ) (room : ℕ) → cleanedFrom b room ≡ after ((first b) .answer) (after ((second b) .answer) ((third b room) .answer))
 unfolding cleanedFrom resolvedFrom writtenFrom hold heldOf Inv
 over-steps b room =
-    let i = step-after fresh (takes b) [] (refl, tt) in
-    let k = step-after ((first b) .state) resolves _ i in
-    ap (λ o. after (o .answer) (resolvedFrom (o .state) room)) (run-step fresh (takes b) [] (refl, tt))
+    let i = step-after kinds kinds-served fresh (takes b) [] (refl, tt) in
+    let k = step-after kinds kinds-served ((first b) .state) resolves _ i in
+    ap (λ o. after (o .answer) (resolvedFrom (o .state) room)) (run-step kinds kinds-served fresh (takes b) [] (refl, tt))
     ∙ ap (after ((first b) .answer))
-    (ap (λ o. after (o .answer) (writtenFrom (o .state) room)) (run-step ((first b) .state) resolves _ i)
-    ∙ ap (λ o. after ((second b) .answer) (o .answer)) (run-step ((second b) .state) (writes room) _ k))
+    (ap (λ o. after (o .answer) (writtenFrom (o .state) room)) (run-step kinds kinds-served ((first b) .state) resolves _ i)
+    ∙ ap (λ o. after ((second b) .answer) (o .answer)) (run-step kinds kinds-served ((second b) .state) (writes room) _ k))
 
 -- ── an accepted cleaning ─────────────────────────────────────────────────────────────────────
 
@@ -65,7 +67,7 @@ after-wrote (printed t) c w e = e
 
 -- the sources of a taking that something follows
 took-files : (b : List ℕ) (t : Taken) (v : Verdict (List Source)) (c : Answer) (w : Bytes) → after ((takeMore t v) .answer) c ≡ wrote w
-    → took (did (takes b) ((takeMore t v) .answer)) ≡ map sourceOf (filesIn (parse b))
+    → took kinds (did (takes b) ((takeMore t v) .answer)) ≡ map (sourceOf kinds) (filesIn (parse kinds b))
 took-files b t (verdict.refused x) c w e = let z : _≡_ {A = ℕ} 0 1 = cc in absurd (omega arith)
 took-files b t (verdict.accepted ss) c w e = refl
 
@@ -81,7 +83,7 @@ module _ (b : List ℕ) (room : ℕ) (w : Bytes) (e : cleanedFrom b room ≡ wro
   third-wrote = after-wrote ((second b) .answer) _ w (after-wrote ((first b) .answer) _ w by-steps)
 
   -- it is the write of the three calls
-  is-write : Wrote (history fresh (calls b room)) w
+  is-write : Wrote (history kinds fresh (calls b room)) w
   unfolding Wrote history
   is-write =
       mem-after w (bytesWritten (did (takes b) ((first b) .answer))) _
@@ -89,27 +91,27 @@ module _ (b : List ℕ) (room : ℕ) (w : Bytes) (e : cleanedFrom b room ≡ wro
       (rw third-wrote (List·Memᴰ·head refl)))
 
   -- of the archive that the bytes hold
-  is-archive : archiveIn (history fresh (calls b room)) ≡ archiveOfBytes b
+  is-archive : archiveIn kinds (history kinds fresh (calls b room)) ≡ archiveOfBytes kinds b
   unfolding archiveIn history step
   is-archive =
-      ap (λ ss. archiveOf (record { sources = ss }))
-      (append-nil (took (did (takes b) ((first b) .answer))) ∙ took-files b (record { sources = [] }) (takenFrom [] (parse b)) _ w by-steps)
+      ap (λ ss. archiveOf kinds (record { sources = ss }))
+      (append-nil (took kinds (did (takes b) ((first b) .answer))) ∙ took-files b (record { sources = [] }) (takenFrom kinds [] (parse kinds b)) _ w by-steps)
 
-  is-cleaned : w ≡ allOf (cleaned (archiveOfBytes b))
-  is-cleaned = (claim (calls b room) (calls b room)) .left w is-write ∙ ap (λ A. allOf (cleaned A)) is-archive
+  is-cleaned : w ≡ allOf (cleaned kinds (archiveOfBytes kinds b))
+  is-cleaned = (claim kinds kinds-served (calls b room) (calls b room)) .left w is-write ∙ ap (λ A. allOf (cleaned kinds A)) is-archive
 
 -- the same, literally by the contract
-pub cleaned-to : (b : List ℕ) (w : Bytes) → CleanedTo b w → w ≡ allOf (cleaned (archiveOfBytes b))
+pub cleaned-to : (b : List ℕ) (w : Bytes) → CleanedTo b w → w ≡ allOf (cleaned kinds (archiveOfBytes kinds b))
 cleaned-to b w (gave was is n g) = is-cleaned b (length was) w (sym (g .answers))
 
 -- two cleanings, by what each has written
-pub two-cleanings : (To : List ℕ → Bytes → Type 0) → ((b : List ℕ) (w : Bytes) → To b w → w ≡ allOf (cleaned (archiveOfBytes b)))
+pub two-cleanings : (To : List ℕ → Bytes → Type 0) → ((b : List ℕ) (w : Bytes) → To b w → w ≡ allOf (cleaned kinds (archiveOfBytes kinds b)))
     → (a b : List ℕ) → CleaningsClaimed To a b
 two-cleanings To each a b = record {
   left = each a;
   right = each b;
   same = λ l w v m n.
-      let e : w ≡ v = each a w m ∙ ap allOf (cleaned-alike (archiveOfBytes a) (archiveOfBytes b) l) ∙ sym (each b v n) in
+      let e : w ≡ v = each a w m ∙ ap allOf (cleaned-alike kinds kinds-served (archiveOfBytes kinds a) (archiveOfBytes kinds b) l) ∙ sym (each b v n) in
       (ap (λ x. x .length) e, ap (λ x. x .bytes) e);
 }
 
@@ -120,7 +122,7 @@ claim-of-cleanings = two-cleanings CleanedTo cleaned-to
 
 -- nothing where a step is refused, otherwise the bytes
 abbrev laid : State → List ℕ
-laid s = writingFrom (λ r. []) (λ A fs w. w) s
+laid s = writingFrom kinds (λ r. []) (λ A fs w. w) s
 
 abbrev following : Answer → List ℕ → List ℕ
 following a more = afterwards (λ r. []) a more
@@ -160,24 +162,24 @@ module _ (room : ℕ) where
   has-room (verdict.refused x) h k = absurd (omega arith)
   has-room (verdict.accepted l) h k = rw (le-leb (length l) room k)
 
-  write-is : (s : State) (w : Bytes) → (step s (writes room)) .answer ≡ wrote w → w ≡ allOf (laid s)
+  write-is : (s : State) (w : Bytes) → (step kinds s (writes room)) .answer ≡ wrote w → w ≡ allOf (laid s)
   unfolding step
   write-is (taking t) w e = let z : _≡_ {A = ℕ} 0 1 = cc in absurd (omega arith)
-  write-is (resolved t ts) w e = into (written (tabled (archiveOf t) ts)) w e
+  write-is (resolved t ts) w e = into (written kinds (tabled (archiveOf kinds t) ts)) w e
   write-is spoiled w e = let z : _≡_ {A = ℕ} 0 1 = cc in absurd (omega arith)
 
-  write-has : (s : State) → 0 < length (laid s) → length (laid s) ≤ room → (step s (writes room)) .answer ≡ wrote (allOf (laid s))
+  write-has : (s : State) → 0 < length (laid s) → length (laid s) ≤ room → (step kinds s (writes room)) .answer ≡ wrote (allOf (laid s))
   unfolding step
   write-has (taking t) h k = absurd (omega arith)
-  write-has (resolved t ts) h k = has-room (written (tabled (archiveOf t) ts)) h k
+  write-has (resolved t ts) h k = has-room (written kinds (tabled (archiveOf kinds t) ts)) h k
   write-has spoiled h k = absurd (omega arith)
 
 module _ (b : List ℕ) where
-  all-steps : cleanedBytes b ≡ following ((first b) .answer) (following ((second b) .answer) (laid ((second b) .state)))
+  all-steps : cleanedBytes kinds b ≡ following ((first b) .answer) (following ((second b) .answer) (laid ((second b) .state)))
   unfolding cleanedBytes cleaning
   all-steps = refl
 
-  computed : (w : Bytes) → CleanedTo b w → w ≡ allOf (cleanedBytes b)
+  computed : (w : Bytes) → CleanedTo b w → w ≡ allOf (cleanedBytes kinds b)
   computed w (gave was is n g) =
       let e = sym (over-steps b (length was)) ∙ sym (g .answers) in
       let more = laid ((second b) .state) in
@@ -185,7 +187,7 @@ module _ (b : List ℕ) where
       write-is (length was) ((second b) .state) w (after-wrote ((second b) .answer) _ w f)
       ∙ ap allOf (sym (all-steps ∙ after-follows ((first b) .answer) _ w _ e ∙ after-follows ((second b) .answer) _ w more f))
 
-  accepted : (room : ℕ) → 0 < length (cleanedBytes b) → length (cleanedBytes b) ≤ room → cleanedFrom b room ≡ wrote (allOf (cleanedBytes b))
+  accepted : (room : ℕ) → 0 < length (cleanedBytes kinds b) → length (cleanedBytes kinds b) ≤ room → cleanedFrom b room ≡ wrote (allOf (cleanedBytes kinds b))
   accepted room h k =
       let more = laid ((second b) .state) in
       let c = (third b room) .answer in

@@ -2,6 +2,8 @@
 use mathlib.Core.Path.{_≡_, refl, sym, ap, subst, _∙_}
 use mathlib.Core.List.{List, _∷_, map}
 use Prim.Native.Nat.{ℕ}
+use Rattle.columns.specs.Limits.{kinds}
+use Rattle.columns.proofs.Served.{kinds-served}
 use Rattle.cleaning.specs.Step as step
 use Rattle.cleaning.specs.Step.{Call, writes, lists, allOf, Answer, fresh}
 use Rattle.cleaning.specs.Runs.{RunState, taking, spoiled, runStep}
@@ -22,16 +24,16 @@ use lib.ListN.{length}
 
 -- the trace of steps, whose answers are those of the contracts
 abbrev StepTrace : Run → List Did → Type 0
-StepTrace = steps.Trace Run Answer view (λ a. a)
+StepTrace = steps.Trace kinds Run Answer view (λ a. a)
 
 -- a write and a listing leave a run as it is
-write-keeps : (s : RunState) (room : ℕ) → s ≡ (runStep s (writes room)) .state
+write-keeps : (s : RunState) (room : ℕ) → s ≡ (runStep kinds s (writes room)) .state
 unfolding runStep
 write-keeps (taking h) room = refl
 write-keeps (runs.resolved h s) room = refl
 write-keeps spoiled room = refl
 
-list-keeps : (s : RunState) (room : ℕ) → s ≡ (runStep s (lists room)) .state
+list-keeps : (s : RunState) (room : ℕ) → s ≡ (runStep kinds s (lists room)) .state
 unfolding runStep
 list-keeps (taking h) room = refl
 list-keeps (runs.resolved h s) room = refl
@@ -56,21 +58,21 @@ of-steps ended = steps.ended
 of-steps (linked after l t) = in-front l (of-steps t)
 
 pub claim-of-runs : ClaimOfRuns
-claim-of-runs r s er es h g t u = claim-of-traces Run Answer view (λ a. a) r s er es h g (of-steps t) (of-steps u)
+claim-of-runs r s er es h g t u = claim-of-traces kinds kinds-served Run Answer view (λ a. a) r s er es h g (of-steps t) (of-steps u)
 
 -- a trace from a fresh run is the history of its calls
-as-history : (run : Run) → Fresh run → (h : List Did) → Trace run h → {cs : List Call} → map callOf h ≡ cs → h ≡ history fresh cs
-as-history run f h t e = fresh-history Run Answer view (λ a. a) f (of-steps t) ∙ ap (history fresh) e
+as-history : (run : Run) → Fresh run → (h : List Did) → Trace run h → {cs : List Call} → map callOf h ≡ cs → h ≡ history kinds fresh cs
+as-history run f h t e = fresh-history kinds kinds-served Run Answer view (λ a. a) f (of-steps t) ∙ ap (history kinds fresh) e
 
 pub parents-written-by-runs : ParentsWrittenByRuns
 parents-written-by-runs run f h t o w m =
     let e = as-history run f h t refl in
-    subst (λ g. Renewed (archiveIn g) (w .bytes)) (sym e) (parents-written (map callOf h) o w (subst (λ g. Wrote g w) e m))
+    subst (λ g. Renewed kinds (archiveIn kinds g) (w .bytes)) (sym e) (parents-written kinds kinds-served (map callOf h) o w (subst (λ g. Wrote g w) e m))
 
 -- ── the claim speaks of something ────────────────────────────────────────────────────────────
 
 pub accepted-by-runs : AcceptedByRuns
-accepted-by-runs fs c room l run f h t e = subst (λ g. Wrote g (allOf (cleaned (archiveOfFiles fs)))) (sym (as-history run f h t e)) (accepted fs c room l)
+accepted-by-runs fs c room l run f h t e = subst (λ g. Wrote g (allOf (cleaned kinds (archiveOfFiles kinds fs)))) (sym (as-history run f h t e)) (accepted kinds kinds-served fs c room l)
 
 pub same-again : SameAgain
-same-again fs c room l run f h t e = subst (λ g. Wrote g (allOf (cleaned (archiveOfFiles fs)))) (sym (as-history run f h t e)) (idempotent fs c room l)
+same-again fs c room l run f h t e = subst (λ g. Wrote g (allOf (cleaned kinds (archiveOfFiles kinds fs)))) (sym (as-history run f h t e)) (idempotent kinds kinds-served fs c room l)

@@ -4,6 +4,7 @@ use mathlib.Core.Path.{_≡_}
 use mathlib.Core.List.{List, [], _∷_, map}
 use Prim.Native.Nat.{ℕ, _≤_}
 use lib.ListN.{length}
+use Rattle.columns.specs.Limits.{kinds}
 use Rattle.lists.specs.Lists.{Each}
 use Rattle.archive.specs.File.{File}
 use Rattle.archive.specs.Encode.{encode}
@@ -42,7 +43,7 @@ Fresh run = view run ≡ freshRun
 
 -- the claim, over two traces from fresh runs
 abbrev pub ClaimOfRuns : Type 0
-ClaimOfRuns = (r s : Run) → Fresh r → Fresh s → (h g : List Did) → Trace r h → Trace s g → Claimed h g
+ClaimOfRuns = (r s : Run) → Fresh r → Fresh s → (h g : List Did) → Trace r h → Trace s g → Claimed kinds h g
 
 -- the call of a link
 abbrev pub callOf : Did → Call
@@ -51,7 +52,7 @@ callOf (did c a) = c
 -- demand 2's sentence on new parents, over a trace from a fresh run whose takings are given bytes
 abbrev pub ParentsWrittenByRuns : Type 0
 ParentsWrittenByRuns = (run : Run) → Fresh run → (h : List Did) → Trace run h → Each OfBytes (map callOf h) → (w : Bytes) → Wrote h w
-    → Renewed (archiveIn h) (w .bytes)
+    → Renewed kinds (archiveIn kinds h) (w .bytes)
 
 -- ── the claim speaks of something ────────────────────────────────────────────────────────────
 
@@ -61,10 +62,10 @@ Cleans bytes room h = map callOf h ≡ takes bytes ∷ resolves ∷ writes room 
 
 -- valid files within the limits, with a survivor in every group and neither 10 nor 15, are taken, resolved and written by a fresh run
 abbrev pub AcceptedByRuns : Type 0
-AcceptedByRuns = (fs : List File) → Cleanable fs → (room : ℕ) → length (cleaned (archiveOfFiles fs)) ≤ room
-    → (run : Run) → Fresh run → (h : List Did) → Trace run h → Cleans (encode fs) room h → Wrote h (allOf (cleaned (archiveOfFiles fs)))
+AcceptedByRuns = (fs : List File) → Cleanable kinds fs → (room : ℕ) → length (cleaned kinds (archiveOfFiles kinds fs)) ≤ room
+    → (run : Run) → Fresh run → (h : List Did) → Trace run h → Cleans (encode fs) room h → Wrote h (allOf (cleaned kinds (archiveOfFiles kinds fs)))
 
 -- a cleaned archive, taken alone by a fresh run, is written as the same bytes
 abbrev pub SameAgain : Type 0
-SameAgain = (fs : List File) → Cleanable fs → (room : ℕ) → length (cleaned (archiveOfFiles fs)) ≤ room
-    → (run : Run) → Fresh run → (h : List Did) → Trace run h → Cleans (cleaned (archiveOfFiles fs)) room h → Wrote h (allOf (cleaned (archiveOfFiles fs)))
+SameAgain = (fs : List File) → Cleanable kinds fs → (room : ℕ) → length (cleaned kinds (archiveOfFiles kinds fs)) ≤ room
+    → (run : Run) → Fresh run → (h : List Did) → Trace run h → Cleans (cleaned kinds (archiveOfFiles kinds fs)) room h → Wrote h (allOf (cleaned kinds (archiveOfFiles kinds fs)))

@@ -5,6 +5,7 @@ use mathlib.Core.List.{List}
 use Prim.Native.Nat.{ℕ}
 use native.Mathlib.Omega.{arith}
 use lib.ListN.{length}
+use Rattle.columns.specs.Limits.{kinds}
 use Rattle.lists.specs.Lists.{Each}
 use Rattle.columns.specs.Refusal as verdict
 use Rattle.columns.specs.declared.refusal.Refusal.{Refusal}
@@ -38,15 +39,15 @@ use Rattle.run_clean.specs.Survived.{Alone, Gathered, Survived, untaken,
 
 -- a call, then others
 abbrev pub Then : Call → RunState → (RunState → ℕ → Answer) → ℕ → Answer
-Then c s more room = after ((runStep s c) .answer) (more ((runStep s c) .state) room)
+Then c s more room = after ((runStep kinds s c) .answer) (more ((runStep kinds s c) .state) room)
 
 module _ {made : Bytes → Answer} (c : Call) (more : RunState → ℕ → Answer) (s : RunState) (was : List ℕ) where
   -- a refused call ends it
-  pub stops : (x : Refusal) → runStep s c ≡ runOutcome s (refused x) → Gives made (Then c s more) was was (Refused x)
+  pub stops : (x : Refusal) → runStep kinds s c ≡ runOutcome s (refused x) → Gives made (Then c s more) was was (Refused x)
   stops x e = record { answers = ap (λ o. after (o .answer) (more (o .state) (length was))) (sym e); rest = refl; within = omega arith }
 
   -- an accepted one goes on
-  pub goes : {n : RunState} {is : List ℕ} {r : Writing} → runStep s c ≡ runOutcome n done → Gives made (more n) was is r → Gives made (Then c s more) was is r
+  pub goes : {n : RunState} {is : List ℕ} {r : Writing} → runStep kinds s c ≡ runOutcome n done → Gives made (more n) was is r → Gives made (Then c s more) was is r
   goes e g = record { answers = g .answers ∙ ap (λ o. after (o .answer) (more (o .state) (length was))) (sym e); rest = g .rest; within = g .within }
 
 two-rulings : {A : Type 0} {r : Ruling} (x : Refusal) → r ≡ Broken x → r ≡ Kept → A
@@ -86,11 +87,11 @@ module _ (l : List ℕ) (q : Resolution) (k : Survived l q) (e : q .ruling ≡ K
 -- ── the calls ────────────────────────────────────────────────────────────────────────────────
 
 module _ (l was : List ℕ) where
-  not-taken : (x : Refusal) → holdMore nothing (parse l) ≡ verdict.refused x → Gives wrote (cleanedFrom l) was was (Refused x)
+  not-taken : (x : Refusal) → holdMore kinds nothing (parse kinds l) ≡ verdict.refused x → Gives wrote (cleanedFrom l) was was (Refused x)
   unfolding cleanedFrom runStep
   not-taken x e = stops (takes l) resolvedFrom freshRun was x (rw e)
 
-  module _ (h : Held) (a : holdMore nothing (parse l) ≡ verdict.accepted (heldIn h)) where
+  module _ (h : Held) (a : holdMore kinds nothing (parse kinds l) ≡ verdict.accepted (heldIn h)) where
     then-resolved : {is : List ℕ} {r : Writing} → Gives wrote (resolvedFrom (taking (heldIn h))) was is r → Gives wrote (cleanedFrom l) was is r
     unfolding cleanedFrom runStep
     then-resolved g = goes (takes l) resolvedFrom freshRun was (rw a) g
@@ -121,16 +122,16 @@ module _ (l was : List ℕ) where
 
 -- ── the taking ───────────────────────────────────────────────────────────────────────────────
 
-module _ (h : Held) (f : (heldIn h ≡ nothing) × ((heldOk h ≡ true) × (h ≡ blank))) (l : List ℕ) {a : Ruling} (v : a ≡ ruling (archiveRules (heldIn h) (parse l))) where
+module _ (h : Held) (f : (heldIn h ≡ nothing) × ((heldOk h ≡ true) × (h ≡ blank))) (l : List ℕ) {a : Ruling} (v : a ≡ ruling (archiveRules (heldIn h) (parse kinds l))) where
   pub taking-stops : (x : Refusal) (r : Resolution) → a ≡ Broken x → r .ruling ≡ Broken x → Survived l r
-  taking-stops x r e b = untaken x (ap (λ m. holdMore m (parse l)) (sym (f .0)) ∙ not-held h (parse l) v e) b
+  taking-stops x r e b = untaken x (ap (λ m. holdMore kinds m (parse kinds l)) (sym (f .0)) ∙ not-held h (parse kinds l) v e) b
 
   module _ (e : a ≡ Kept) where
-    pub taken-alone : LongHeld h → Each FileFits (filesIn (parse l)) → Alone h l
+    pub taken-alone : LongHeld h → Each (FileFits kinds) (filesIn (parse kinds l)) → Alone h l
     taken-alone long fits = record {
       none = f .1 .1;
-      accepted = record { long = long; ok = f .1 .0; order = fresh-order h long (f .0) (f .1 .0); parsed = is-archive h (parse l) v e; fits = fits; rules = rules-kept h (parse l) v e };
+      accepted = record { long = long; ok = f .1 .0; order = fresh-order h long (f .0) (f .1 .0); parsed = is-archive h (parse kinds l) v e; fits = fits; rules = rules-kept h (parse kinds l) v e };
     }
 
     pub taking-goes : (r : Resolution) → Gathered h l r → Survived l r
-    taking-goes r g = taken (g .held) (ap (λ m. holdMore m (parse l)) (sym (f .0)) ∙ now-held h (parse l) v e ∙ ap verdict.accepted (sym (g .whole))) (g .ok) (g .order) (g .resolved)
+    taking-goes r g = taken (g .held) (ap (λ m. holdMore kinds m (parse kinds l)) (sym (f .0)) ∙ now-held h (parse kinds l) v e ∙ ap verdict.accepted (sym (g .whole))) (g .ok) (g .order) (g .resolved)

@@ -5,6 +5,7 @@ use mathlib.Core.List.{List}
 use Prim.Native.Nat.{ℕ, _+_, _-_, _^_, _≤_}
 use native.Mathlib.Omega.{arith}
 use lib.ListN.{length, take}
+use Rattle.columns.specs.Limits.{kinds}
 use Rattle.lists.specs.Lists.{all}
 use Rattle.lists.specs.Order.{notFalling}
 use Rattle.columns.specs.Building.{inFile}
@@ -132,10 +133,10 @@ module _ (h : Held) (l : List ℕ) (n : Names) (d : Named h l n) where
     roots-fit = rw is (roots-here (after .sheet) fine (take i fs) front-counted)
 
     module _ (some : n .groups .count ≡ 0 → ⊥) (g : Grown) (os os′ : List ℕ)
-        (k : Renewal (take i fs) (newLists (n .start) (take i fs) (slotsIn i (parts .edges))) (renewedOf g os os′)) where
+        (k : Renewal (take i fs) (newLists kinds (n .start) (take i fs) (slotsIn i (parts .edges))) (renewedOf g os os′)) where
       renewed : ListsRenewed after (renewedOf g os os′)
       renewed =
-          lists-renewed after (d .ok) (d .order) (d .long) (renewedOf g os os′) (subst (λ v. Renewal (flagsIn after) (newLists (v .start) (flagsIn after) (slotsIn (after .sheet .rows .count) (after .sheet .edges))) (renewedOf g os os′)) (d .names)
+          lists-renewed after (d .ok) (d .order) (d .long) (renewedOf g os os′) (subst (λ v. Renewal (flagsIn after) (newLists kinds (v .start) (flagsIn after) (slotsIn (after .sheet .rows .count) (after .sheet .edges))) (renewedOf g os os′)) (d .names)
           (rw (front-is, count-is, is) at k))
 
       sourced : after .sheet .groups .count ≡ 0 → ⊥

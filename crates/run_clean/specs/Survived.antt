@@ -3,6 +3,7 @@ use mathlib.Core.Path.{_≡_}
 use mathlib.Core.Bool.{true}
 use mathlib.Core.List.{List}
 use Prim.Native.Nat.{ℕ}
+use Rattle.columns.specs.Limits.{kinds}
 use Rattle.columns.specs.Refusal.{refused, accepted}
 use Rattle.columns.specs.declared.refusal.Refusal.{Refusal}
 use Rattle.columns.specs.declared.refusal.Ruling.the-variants.{Broken}
@@ -26,12 +27,12 @@ pub record Alone (h : Held) (l : List ℕ) : Type 0 where
 -- what is held after the files of an archive, resolved
 pub record Gathered (h : Held) (l : List ℕ) (r : Resolution) : Type 0 where
   pub held : Held
-  pub whole : heldIn held ≡ heldAfter h (parse l)
+  pub whole : heldIn held ≡ heldAfter h (parse kinds l)
   pub ok : heldOk held ≡ true
   pub order : ordered (held .sheet) ≡ true
   pub resolved : ResolvedBy held r
 
 -- a taking that is refused, or what is held after it, resolved
 pub data Survived (l : List ℕ) (r : Resolution) : Type 0 where
-  untaken : (x : Refusal) → holdMore nothing (parse l) ≡ refused x → r .ruling ≡ Broken x → Survived l r
-  taken : (h : Held) → holdMore nothing (parse l) ≡ accepted (heldIn h) → heldOk h ≡ true → ordered (h .sheet) ≡ true → ResolvedBy h r → Survived l r
+  untaken : (x : Refusal) → holdMore kinds nothing (parse kinds l) ≡ refused x → r .ruling ≡ Broken x → Survived l r
+  taken : (h : Held) → holdMore kinds nothing (parse kinds l) ≡ accepted (heldIn h) → heldOk h ≡ true → ordered (h .sheet) ≡ true → ResolvedBy h r → Survived l r

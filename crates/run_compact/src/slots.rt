@@ -62,7 +62,7 @@ fn add_slots(
     offs: &mut [u64],
     all: &mut [u64],
 ) -> usize
-    requires { ⌜ offsetsForm (length (now flags)) (length (now targets)) (now offsets) ≡ true ⌝ }
+    requires { ⌜ offsetsForm kinds (length (now flags)) (length (now targets)) (now offsets) ≡ true ⌝ }
     requires { ⌜ (kinds * length (now flags) < length (now offs)) × (length (now targets) ≤ length (now all)) ⌝ }
     requires { ⌜ Built (now offs) (now all) 0 0 [] ⌝ }
     ensures { λ r. ⌜ Built (now (offs .exit)) (now (all .exit)) (length (slotsFrom (now (flags .entry)) 0 (cut (now (offsets .entry)) (now (targets .entry))))) r
@@ -92,10 +92,10 @@ pub fn put_slots(
     offs: &mut [u64],
     all: &mut [u64],
 ) -> usize
-    requires { ⌜ offsetsForm (length (now flags)) (length (now targets)) (now offsets) ≡ true ⌝ }
+    requires { ⌜ offsetsForm kinds (length (now flags)) (length (now targets)) (now offsets) ≡ true ⌝ }
     requires { ⌜ (kinds * length (now flags) < length (now offs)) × (length (now targets) ≤ length (now all)) ⌝ }
-    ensures { λ r. ⌜ Built (now (offs .exit)) (now (all .exit)) (length (keepSlots (gone (now (flags .entry))) (cut (now (offsets .entry)) (now (targets .entry))))) r
-        (keepSlots (gone (now (flags .entry))) (cut (now (offsets .entry)) (now (targets .entry)))) ⌝ }
+    ensures { λ r. ⌜ Built (now (offs .exit)) (now (all .exit)) (length (keepSlots kinds (gone (now (flags .entry))) (cut (now (offsets .entry)) (now (targets .entry))))) r
+        (keepSlots kinds (gone (now (flags .entry))) (cut (now (offsets .entry)) (now (targets .entry)))) ⌝ }
 {
     offs[0] = 0;
     add_slots(flags, offsets, targets, offs, all)

@@ -11,6 +11,8 @@ use lib.Seq.{sets-eq, take-at, drop-at}
 use mir.Syntax.{w64}
 use mir.Val.{Fits}
 use borrow.Author.Tests.{lt-ltb, le-ltb}
+use Rattle.columns.specs.Limits.{kinds}
+use Rattle.columns.proofs.Served.{kinds-served}
 use Rattle.lists.specs.Lists.{upFrom}
 use Rattle.lists.proofs.Flat.{map-ext}
 use Rattle.lists.proofs.Filters.{each-below}
@@ -56,13 +58,13 @@ use Rattle.run_list.specs.Listed.{Lists, textWith}
 use Rattle.run_list.proofs.OverRows.{event-count}
 use Rattle.run_list.proofs.BySheet.{files-lines, files-need, spanned}
 
-files-sections : (s : plain.Sheet) → Tidy s → Filled s → outputs (summaryOf s) ≡ sectionFiles s
+files-sections : (s : plain.Sheet) → Tidy kinds s → Filled s → outputs kinds (summaryOf kinds s) ≡ sectionFiles s
 unfolding outputs sectionFiles summaryOf groupsOfSheet
 files-sections s t f =
-    let e : groupNumbers (summaryOf s) ≡ upFrom 0 (length (s .groups)) = ap (upFrom 0) (groups-length (s .links) 0 (s .groups)) in
+    let e : groupNumbers (summaryOf kinds s) ≡ upFrom 0 (length (s .groups)) = ap (upFrom 0) (groups-length (s .links) 0 (s .groups)) in
     rw e
-    (map-ext (outputOf (summaryOf s)) (sectionFile s) (upFrom 0 (length (s .groups)))
-    (each-below _ (length (s .groups)) (λ g l. file-section s t g l (filled-section s f g l))))
+    (map-ext (outputOf kinds (summaryOf kinds s)) (sectionFile kinds s) (upFrom 0 (length (s .groups)))
+    (each-below _ (length (s .groups)) (λ g l. file-section kinds kinds-served s t g l (filled-section s f g l))))
 
 module _ (h : Held) (ok : heldOk h ≡ true) (o : ordered (h .sheet) ≡ true) (hl : LongHeld h) where
   pub rows-fit : Fits w64 (46 * h .sheet .rows .count)
@@ -77,22 +79,22 @@ module _ (h : Held) (ok : heldOk h ≡ true) (o : ordered (h .sheet) ≡ true) (
     abbrev S : plain.Sheet
     S = sheetOf z subject groups rows unresolved roots links offsets targets
 
-    by-sections : (room : ℕ) → listed room (archiveIn h) (summaryOf S)
-        ≡ unless (firstOf (sectionRules S ∷ refuse SliceShort (ltb room (listingNeed (archiveIn h) (sectionFiles S))) ∷ [])) (listingText (archiveIn h) (sectionFiles S))
+    by-sections : (room : ℕ) → listed kinds room (archiveIn h) (summaryOf kinds S)
+        ≡ unless (firstOf (sectionRules kinds S ∷ refuse SliceShort (ltb room (listingNeed (archiveIn h) (sectionFiles S))) ∷ [])) (listingText (archiveIn h) (sectionFiles S))
     unfolding listed
-    by-sections room = rw (rules-sections S (ready .tidy) whole, files-sections S (ready .tidy) whole)
+    by-sections room = rw (rules-sections kinds kinds-served S (ready .tidy) whole, files-sections S (ready .tidy) whole)
 
     pub list-refused : (was : List ℕ) (x : Refusal) → m .ruling ≡ Broken x → Lists (heldIn h) S was was (Refused x)
     unfolding unless firstOf
     list-refused was x e = record {
-      answers = sym (ap listInto {y = verdict.refused x} (by-sections (length was) ∙ rw (told (sectionRules S) (d .rules) e)));
+      answers = sym (ap listInto {y = verdict.refused x} (by-sections (length was) ∙ rw (told (sectionRules kinds S) (d .rules) e)));
       rest = refl;
       within = omega arith;
     }
 
     module _ (e : m .ruling ≡ Kept) {starts kids : List ℕ} (children : Children z offsets targets starts kids) where
-      rules-kept : sectionRules S ≡ none
-      rules-kept = told-kept (sectionRules S) (d .rules) e
+      rules-kept : sectionRules kinds S ≡ none
+      rules-kept = told-kept (sectionRules kinds S) (d .rules) e
 
       pub in-reach : Spanned z (groups .count) rows offsets targets starts kids
       in-reach = spanned z subject groups rows unresolved roots links offsets targets ready children rules-kept

@@ -14,6 +14,7 @@ use Rattle.lists.proofs.Flat.{flat-ext, flat-map, getD-upFrom, length-upFrom}
 use Rattle.lists.proofs.Sums.{sum-map, sum-ext}
 use Rattle.lists.proofs.Filters.{each-below}
 use Rattle.columns.specs.Limits.{kinds, end64}
+use Rattle.columns.proofs.Served.{kinds-served}
 use Rattle.columns.specs.EdgeSet.{cut}
 use Rattle.columns.specs.Building.{Built, slotRules, rowsWithin, deltasFit, buildRules, builtOf}
 use Rattle.columns.specs.declared.refusal.Refusal.the-variants.{DeltaRange}
@@ -48,7 +49,7 @@ module _ (z : Counts) (subject : List ℕ) (groups : Groups) (rows unresolved ro
   abbrev S : Sheet
   S = sheetOf z subject groups rows unresolved roots links offsets targets
 
-  once : slotRules (S .start) 0 (S .lists) ≡ none
+  once : slotRules kinds (S .start) 0 (S .lists) ≡ none
   unfolding sheetOf
   once = ready .once
 
@@ -59,7 +60,7 @@ module _ (z : Counts) (subject : List ℕ) (groups : Groups) (rows unresolved ro
   all-rows : rowCount S ≡ z .rows
   all-rows = rows-count z subject groups rows unresolved roots links offsets targets
 
-  all-children : childLists S ≡ cut starts kids
+  all-children : childLists kinds S ≡ cut starts kids
   unfolding childLists sheetOf
   all-children = rw all-rows (sym (children .are))
 
@@ -86,22 +87,22 @@ module _ (z : Counts) (subject : List ℕ) (groups : Groups) (rows unresolved ro
     unfolding sheetOf
     lists-are = refl
 
-    sets-are : builtOf (sectionGraph S g) ≡ setsOver z (startAt z rows g) (startAt z rows (g + 1)) offsets targets starts kids
+    sets-are : builtOf kinds (sectionGraph kinds S g) ≡ setsOver z (startAt z rows g) (startAt z rows (g + 1)) offsets targets starts kids
     unfolding setsOver
-    sets-are = section-built S (ready .tidy) g once end ∙ rw (starts-at, ends-at, rows-at, all-rows, all-children, start-is, lists-are)
+    sets-are = section-built kinds kinds-served S (ready .tidy) g once end ∙ rw (starts-at, ends-at, rows-at, all-rows, all-children, start-is, lists-are)
 
-    tags-count : length (sectionFile S g .rows) ≡ startAt z rows (g + 1) - startAt z rows g
+    tags-count : length (sectionFile kinds S g .rows) ≡ startAt z rows (g + 1) - startAt z rows g
     unfolding sectionFile
     tags-count =
         length-map (sectionTags S g) unerasedRow
-        ∙ length-part (sectionStart S g) (sectionRows S g) (S .tags) (omega (arith, section-end S (ready .tidy) g, section-within S (ready .tidy) g))
+        ∙ length-part (sectionStart S g) (sectionRows S g) (S .tags) (omega (arith, section-end kinds kinds-served S (ready .tidy) g, section-within kinds kinds-served S (ready .tidy) g))
         ∙ rows-at
 
-    pub lines-shown : fileLines (sectionFile S g) ≡ linesAt z rows offsets targets starts kids g
+    pub lines-shown : fileLines (sectionFile kinds S g) ≡ linesAt z rows offsets targets starts kids g
     unfolding sectionFile linesAt linesOver
-    lines-shown = section-lines S g (builtOf (sectionGraph S g)) ∙ rw (tags-count, sets-are, starts-at, start-is)
+    lines-shown = section-lines S g (builtOf kinds (sectionGraph kinds S g)) ∙ rw (tags-count, sets-are, starts-at, start-is)
 
-    need-shown : fileNeed (sectionFile S g) ≡ needAt z rows offsets targets starts kids g
+    need-shown : fileNeed (sectionFile kinds S g) ≡ needAt z rows offsets targets starts kids g
     unfolding fileNeed sectionFile needAt needOver setsOver
     need-shown =
         let a = startAt z rows g in
@@ -113,28 +114,28 @@ module _ (z : Counts) (subject : List ℕ) (groups : Groups) (rows unresolved ro
           ap (λ s. length (s .forward .deltas)) sets-are,
           ap (λ s. length (s .reverse .deltas)) sets-are,
           ap (λ s. length (s .inbound .deltas)) sets-are,
-          set-count first (rowsWithin 0 (z .start + z .rows) a (b - a) offsets targets),
-          set-count first (rowsWithin 0 (z .start + b) a (b - a) starts kids),
-          set-count first (rowsWithin (z .start + b) (z .start + z .rows) a (b - a) starts kids),
+          set-count kinds first (rowsWithin kinds 0 (z .start + z .rows) a (b - a) offsets targets),
+          set-count kinds first (rowsWithin kinds 0 (z .start + b) a (b - a) starts kids),
+          set-count kinds first (rowsWithin kinds (z .start + b) (z .start + z .rows) a (b - a) starts kids),
         )
 
-    lists-spans : deltasFit (sectionFirst S g) (sectionLists S g) ≡ spansIn (z .start) (startAt z rows g) (startAt z rows (g + 1) - startAt z rows g) offsets targets
+    lists-spans : deltasFit kinds (sectionFirst S g) (sectionLists kinds S g) ≡ spansIn (z .start) (startAt z rows g) (startAt z rows (g + 1) - startAt z rows g) offsets targets
     unfolding sheetOf spansIn
     lists-spans = rw (starts-at, rows-at)
 
-    children-spans : deltasFit (sectionFirst S g) (sectionChildren S g) ≡ spansIn (z .start) (startAt z rows g) (startAt z rows (g + 1) - startAt z rows g) starts kids
+    children-spans : deltasFit kinds (sectionFirst S g) (sectionChildren kinds S g) ≡ spansIn (z .start) (startAt z rows g) (startAt z rows (g + 1) - startAt z rows g) starts kids
     unfolding sheetOf spansIn
     children-spans = rw (all-children, starts-at, rows-at)
 
     -- the rules of a group say that its numbers are in reach
-    module _ (e : buildRules (sectionGraph S g) ≡ none) where
-      lists-reach : deltasFit (sectionFirst S g) (sectionLists S g) ≡ true
+    module _ (e : buildRules kinds (sectionGraph kinds S g) ≡ none) where
+      lists-reach : deltasFit kinds (sectionFirst S g) (sectionLists kinds S g) ≡ true
       unfolding sectionFaults
-      lists-reach = passed DeltaRange (deltasFit (sectionFirst S g) (sectionLists S g)) (each-none _ (sym (section-rules S (ready .tidy) g once end) ∙ e) .1 .1 .1 .1 .0)
+      lists-reach = passed DeltaRange (deltasFit kinds (sectionFirst S g) (sectionLists kinds S g)) (each-none _ (sym (section-rules kinds kinds-served S (ready .tidy) g once end) ∙ e) .1 .1 .1 .1 .0)
 
-      children-reach : deltasFit (sectionFirst S g) (sectionChildren S g) ≡ true
+      children-reach : deltasFit kinds (sectionFirst S g) (sectionChildren kinds S g) ≡ true
       unfolding sectionFaults
-      children-reach = passed DeltaRange (deltasFit (sectionFirst S g) (sectionChildren S g)) (each-none _ (sym (section-rules S (ready .tidy) g once end) ∙ e) .1 .1 .1 .1 .1 .0)
+      children-reach = passed DeltaRange (deltasFit kinds (sectionFirst S g) (sectionChildren kinds S g)) (each-none _ (sym (section-rules kinds kinds-served S (ready .tidy) g once end) ∙ e) .1 .1 .1 .1 .1 .0)
 
       parents-spanned : spansIn (z .start) (startAt z rows g) (startAt z rows (g + 1) - startAt z rows g) offsets targets ≡ true
       parents-spanned = sym lists-spans ∙ lists-reach
@@ -150,16 +151,16 @@ module _ (z : Counts) (subject : List ℕ) (groups : Groups) (rows unresolved ro
   pub files-lines : flat fileLines (sectionFiles S) ≡ linesOf z (groups .count) rows offsets targets starts kids
   unfolding sectionFiles linesOf
   files-lines =
-      flat-map fileLines (sectionFile S) (upFrom 0 (length (S .groups)))
+      flat-map fileLines (sectionFile kinds S) (upFrom 0 (length (S .groups)))
       ∙ rw count-is
-      (flat-ext (λ g. fileLines (sectionFile S g)) (linesAt z rows offsets targets starts kids) (upFrom 0 (groups .count)) (each-below _ (groups .count) (λ g h. lines-shown g)))
+      (flat-ext (λ g. fileLines (sectionFile kinds S g)) (linesAt z rows offsets targets starts kids) (upFrom 0 (groups .count)) (each-below _ (groups .count) (λ g h. lines-shown g)))
 
   pub files-need : filesNeed (sectionFiles S) ≡ needOf z (groups .count) rows offsets targets starts kids
   unfolding filesNeed sectionFiles needOf
   files-need =
-      sum-map fileNeed (sectionFile S) (upFrom 0 (length (S .groups)))
+      sum-map fileNeed (sectionFile kinds S) (upFrom 0 (length (S .groups)))
       ∙ rw count-is
-      (sum-ext (λ g. fileNeed (sectionFile S g)) (needAt z rows offsets targets starts kids) (upFrom 0 (groups .count)) (each-below _ (groups .count) (λ g h. need-shown g)))
+      (sum-ext (λ g. fileNeed (sectionFile kinds S g)) (needAt z rows offsets targets starts kids) (upFrom 0 (groups .count)) (each-below _ (groups .count) (λ g h. need-shown g)))
 
   pub tabled : Tabled z (groups .count) rows offsets targets starts kids
   tabled = record {
@@ -170,15 +171,15 @@ module _ (z : Counts) (subject : List ℕ) (groups : Groups) (rows unresolved ro
     lists = both-lists z subject groups rows unresolved roots links offsets targets ready children;
   }
 
-  module _ (none-broken : sectionRules S ≡ none) where
-    kept : (g : ℕ) → g < groups .count → buildRules (sectionGraph S g) ≡ none
+  module _ (none-broken : sectionRules kinds S ≡ none) where
+    kept : (g : ℕ) → g < groups .count → buildRules kinds (sectionGraph kinds S g) ≡ none
     unfolding sectionRules
     kept g h =
-        let all = each-none-in (λ g. buildRules (sectionGraph S g)) (upFrom 0 (length (S .groups))) none-broken in
+        let all = each-none-in (λ g. buildRules kinds (sectionGraph kinds S g)) (upFrom 0 (length (S .groups))) none-broken in
         let h′ : g < length (S .groups) = omega (arith, count-is) in
         let e : getD (upFrom 0 (length (S .groups))) g 0 ≡ g = getD-upFrom 0 (length (S .groups)) g 0 h′ ∙ zero-add g in
-        ap (λ k. buildRules (sectionGraph S k)) (sym e)
-        ∙ each-getD (λ k. buildRules (sectionGraph S k) ≡ none) (upFrom 0 (length (S .groups))) g 0 all (omega (arith, length-upFrom 0 (length (S .groups))))
+        ap (λ k. buildRules kinds (sectionGraph kinds S k)) (sym e)
+        ∙ each-getD (λ k. buildRules kinds (sectionGraph kinds S k) ≡ none) (upFrom 0 (length (S .groups))) g 0 all (omega (arith, length-upFrom 0 (length (S .groups))))
 
     pub spanned : Spanned z (groups .count) rows offsets targets starts kids
     spanned = record { parents = λ g h. parents-spanned g (kept g h); children = λ g h. children-spanned g (kept g h) }

@@ -26,29 +26,29 @@ use Rattle.run_list.specs.Groups.{setOver, Shown}
 
 module _ (z : Counts) (a b : ℕ) (offsets targets : List ℕ) (s : Shown z a b offsets targets) where
   pub lists-climb : fromTo 0 (length targets) offsets ≡ true
-  lists-climb = form-climbs (z .rows) (length targets) offsets (s .form)
+  lists-climb = form-climbs kinds (z .rows) (length targets) offsets (s .form)
 
   pub lists-there : 2 * (a + (b - a)) < length offsets
-  lists-there = omega (arith, s .rises, s .within, form-length (z .rows) (length targets) offsets (s .form))
+  lists-there = omega (arith, s .rises, s .within, form-length kinds (z .rows) (length targets) offsets (s .form))
 
   module _ (low high : ℕ) where
     abbrev set : EdgeSet
     set = setOver z a b low high offsets targets
 
-    pub in-reach : deltasFit (z .start + a) (rowsWithin low high a (b - a) offsets targets) ≡ true
+    pub in-reach : deltasFit kinds (z .start + a) (rowsWithin kinds low high a (b - a) offsets targets) ≡ true
     unfolding spansIn
-    in-reach = within-fits low high (z .start + a) (part (kinds * a) (kinds * (b - a)) (cut offsets targets)) (s .spans)
+    in-reach = within-fits kinds low high (z .start + a) (part (kinds * a) (kinds * (b - a)) (cut offsets targets)) (s .spans)
 
     has : SetHas (b - a) (set .count) set
     has = set-has (z .start + a) low high a (b - a) (z .rows) offsets targets (s .form) (omega (arith, s .rises, s .within)) refl
 
     count-few : set .count ≤ maxNumbers
     unfolding setOf
-    count-few = omega (arith, section-few low high a (b - a) offsets targets lists-climb, s .numbers)
+    count-few = omega (arith, section-few kinds low high a (b - a) offsets targets lists-climb, s .numbers)
 
     -- ── its columns ────────────────────────────────────────────────────────────────────────────
 
-    module _ (was is : List ℕ) (e : is ≡ sets was 0 (set .offsets)) (long : length was ≡ offsetsRoom) where
+    module _ (was is : List ℕ) (e : is ≡ sets was 0 (set .offsets)) (long : length was ≡ offsetsRoom kinds) where
       offsets-are : take (2 * (b - a) + 1) is ≡ set .offsets
       offsets-are = rw e (take-sets was (set .offsets) (2 * (b - a) + 1) (has .offsets) (omega (arith, s .few, s .rises, s .within)))
 
@@ -68,7 +68,7 @@ module _ (z : Counts) (a b : ℕ) (offsets targets : List ℕ) (s : Shown z a b 
 
         -- ── its lines ────────────────────────────────────────────────────────────────────────────
 
-        module _ (was′ is′ : List ℕ) (e′ : is′ ≡ sets was′ 0 (set .offsets)) (long′ : length was′ ≡ offsetsRoom) where
+        module _ (was′ is′ : List ℕ) (e′ : is′ ≡ sets was′ 0 (set .offsets)) (long′ : length was′ ≡ offsetsRoom kinds) where
           pub set-room : (at name : ℕ) {m : ℕ} → at + setSize name (2 * (b - a) + 1) (set .count) ≤ m
               → at + setSize name (length (take (2 * (b - a) + 1) is′)) (length (take n is)) ≤ m
           set-room at name h = omega (arith, h, offsets-count was′ is′ e′ long′, deltas-count, same)

@@ -8,6 +8,8 @@ use native.Mathlib.Nat.{add-suc}
 use native.Mathlib.Omega.{arith}
 use lib.ListN.{length, getD, take}
 use lib.Seq.{getD-take}
+use Rattle.columns.specs.Limits.{kinds}
+use Rattle.columns.proofs.Served.{kinds-served}
 use Rattle.lists.specs.Lists.{flat, upFrom}
 use Rattle.run_renumber.specs.Numbers.{numbersFrom}
 use Rattle.cleaning.specs.Archive.{Archive, at}
@@ -71,7 +73,7 @@ shifted f g a (suc n) k h =
     shifted f g a n (suc k) (λ i l. h i (omega arith)) ∙ ap (λ j. flat g (upFrom j n)) (add-suc a k) in
     ap₂ _++_ (h k (omega arith)) e
 
-module _ (A : Archive) (flags : List ℕ) (slots : List (List ℕ)) (c : Columns A flags slots) (numbers : List ℕ)
+module _ (A : Archive) (flags : List ℕ) (slots : List (List ℕ)) (c : Columns kinds A flags slots) (numbers : List ℕ)
     (e : take (length flags) numbers ≡ numbersFrom (A .start) flags) where
   row-line : (i : ℕ) → i < 0 + length flags → rowText (A .start) flags numbers i ≡ mapLine A (A .start + i)
   unfolding mapLine newNumber
@@ -79,10 +81,10 @@ module _ (A : Archive) (flags : List ℕ) (slots : List (List ℕ)) (c : Columns
       let p = A .start + i in
       let n = flags-length (A .events) flags (c .erased) in
       let z : p - A .start ≡ i = omega arith in
-      let a : flagged (getD flags i 0) ≡ (at A p) .erased = sym (erased-says A flags slots c p ∙ ap (λ j. flagged (getD flags j 0)) z) in
+      let a : flagged (getD flags i 0) ≡ (at A p) .erased = sym (erased-says kinds kinds-served A flags slots c p ∙ ap (λ j. flagged (getD flags j 0)) z) in
       let b : getD numbers i 0 ≡ renumber A p =
       sym (getD-take (length flags) numbers i 0 (omega arith)) ∙ ap (λ ns. getD ns i 0) e ∙ ap (λ j. getD (numbersFrom (A .start) flags) j 0) (sym z)
-      ∙ numbers-new A flags slots c p (omega arith) (omega arith) in
+      ∙ numbers-new kinds kinds-served A flags slots c p (omega arith) (omega arith) in
       ap₂ (mapText p) a b
 
   rows-are-maps : rowsText (A .start) flags numbers ≡ mapsText A
@@ -92,9 +94,9 @@ module _ (A : Archive) (flags : List ℕ) (slots : List (List ℕ)) (c : Columns
       ∙ ap₂ (λ j n. flat (mapLine A) (upFrom j n)) {x = A .start + 0} {y = A .start} (omega arith) (sym (flags-length (A .events) flags (c .erased)))
 
 module _ (h : Held) (ok : heldOk h ≡ true) (o : ordered (h .sheet) ≡ true) (long : LongHeld h) where
-  columns : Columns (archiveIn h) (flagsIn h) (slotsIn (h .sheet .rows .count) (h .sheet .edges))
+  columns : Columns kinds (archiveIn h) (flagsIn h) (slotsIn (h .sheet .rows .count) (h .sheet .edges))
   unfolding heldIn sheetIn
-  columns = held-columns (heldIn h) (neat-held h long ok o .rows) (flagsIn h) refl
+  columns = held-columns kinds kinds-served (heldIn h) (neat-held h long ok o .rows) (flagsIn h) refl
 
   pub event-count : length ((archiveIn h) .events) ≡ h .sheet .rows .count
   event-count = flags-length ((archiveIn h) .events) (flagsIn h) (columns .erased) ∙ flags-count h ok o long

@@ -5,7 +5,7 @@ use mathlib.Core.List.{List, map}
 use Prim.Native.Nat.{ℕ, _+_, _-_, _≤_, _<_}
 use lib.ListN.{length}
 use Rattle.lists.specs.Lists.{flat, sum, upFrom}
-use Rattle.columns.specs.Limits.{end64, maxRecords, maxNumbers, maxGroups}
+use Rattle.columns.specs.Limits.{kinds, end64, maxRecords, maxNumbers, maxGroups}
 use Rattle.columns.specs.EdgeSet.{EdgeSet, offsetsForm, setOf}
 use Rattle.columns.specs.Building.{Built, rowsWithin}
 use Rattle.archive.specs.File.{File}
@@ -21,13 +21,13 @@ use Rattle.run_text.specs.files.Files.{fileText}
 
 -- the output files, groups rising
 unfoldable pub sectionFiles : Sheet → List File
-sectionFiles s = map (sectionFile s) (upFrom 0 (length (s .groups)))
+sectionFiles s = map (sectionFile kinds s) (upFrom 0 (length (s .groups)))
 
 -- ── the rows from row a up to row b ──────────────────────────────────────────────────────────
 
 -- one of their sets: of their lists the numbers from low up to high
 abbrev pub setOver : Counts → ℕ → ℕ → ℕ → ℕ → List ℕ → List ℕ → EdgeSet
-setOver z a b low high offsets targets = setOf (z .start + a) (rowsWithin low high a (b - a) offsets targets)
+setOver z a b low high offsets targets = setOf kinds (z .start + a) (rowsWithin kinds low high a (b - a) offsets targets)
 
 -- the edges of three sets
 abbrev pub entries : Built → ℕ
@@ -46,7 +46,7 @@ pub record Shown (z : Counts) (a b : ℕ) (offsets targets : List ℕ) : Type 0 
   pub end : z .start + z .rows < end64
   pub rises : a ≤ b
   pub within : b ≤ z .rows
-  pub form : offsetsForm (z .rows) (length targets) offsets ≡ true
+  pub form : offsetsForm kinds (z .rows) (length targets) offsets ≡ true
   pub numbers : length targets ≤ maxNumbers
   pub spans : spansIn (z .start) a (b - a) offsets targets ≡ true
 

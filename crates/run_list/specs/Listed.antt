@@ -3,6 +3,7 @@ use mathlib.Core.Path.{_≡_}
 use mathlib.Core.Bool.{true}
 use mathlib.Core.List.{List, [], _∷_, _++_}
 use Prim.Native.Nat.{ℕ}
+use Rattle.columns.specs.Limits.{kinds}
 use Rattle.lists.specs.Text.{text}
 use Rattle.cleaning.specs.Archive.{Archive}
 use Rattle.cleaning.specs.Cleaning.{reparented}
@@ -30,7 +31,7 @@ pub record Ready (h : holds.Held) (s : sheets.Sheet) : Type 0 where
 
 -- the listing of what a run holds, and of the sheet of its survivors
 abbrev pub Lists : Held → Sheet → List ℕ → List ℕ → Writing → Type 0
-Lists h s = Gives printed (λ room. listInto (listed room (archiveHeld h) (summaryOf s)))
+Lists h s = Gives printed (λ room. listInto (listed kinds room (archiveHeld kinds h) (summaryOf kinds s)))
 
 -- its text, with these lines for the output files
 unfoldable pub textWith : Archive → List ℕ → List ℕ

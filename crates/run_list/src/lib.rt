@@ -20,6 +20,7 @@ ghost use mathlib.Core.Path.{_≡_};
 ghost use mathlib.Core.Bool.{true};
 ghost use Prim.Native.Nat.{_+_, _*_, _≤_};
 ghost use lib.ListN.{length};
+ghost use Rattle.columns.specs.Limits.{kinds};
 ghost use Rattle.cleaning.specs.Held.{archiveHeld};
 ghost use Rattle.cleaning.specs.Sections.{Filled};
 ghost use Rattle.run_state.specs.View.{sheetIn, heldIn};
@@ -50,7 +51,7 @@ fn put_listing(
     requires { ⌜ (heldOk h ≡ true) × (ordered (h .sheet) ≡ true) ⌝ }
     requires { ⌜ (Tabled z n (now rows) (now offsets) (now targets) (now starts) (now kids)) × (Spanned z n (now rows) (now offsets) (now targets) (now starts) (now kids)) ⌝ }
     requires { ⌜ 46 * h .sheet .rows .count + (needOf z n (now rows) (now offsets) (now targets) (now starts) (now kids) + 32) ≤ length (now out) ⌝ }
-    ensures { λ r. ⌜ Wrote (textWith (archiveHeld (heldIn h)) (linesOf z n (now (rows .entry)) (now (offsets .entry)) (now (targets .entry)) (now (starts .entry)) (now (kids .entry))))
+    ensures { λ r. ⌜ Wrote (textWith (archiveHeld kinds (heldIn h)) (linesOf z n (now (rows .entry)) (now (offsets .entry)) (now (targets .entry)) (now (starts .entry)) (now (kids .entry))))
         (46 * h .sheet .rows .count + (needOf z n (now (rows .entry)) (now (offsets .entry)) (now (targets .entry)) (now (starts .entry)) (now (kids .entry)) + 32))
         (now (out .entry)) 0 (now (out .exit)) r ⌝ }
 {

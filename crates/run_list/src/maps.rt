@@ -6,6 +6,7 @@ ghost use mathlib.Core.Path.{_≡_};
 ghost use mathlib.Core.Bool.{true};
 ghost use Prim.Native.Nat.{_+_, _*_, _-_, _^_, _≤_};
 ghost use lib.ListN.{length};
+ghost use Rattle.columns.specs.Limits.{kinds};
 ghost use Rattle.cleaning.specs.Held.{archiveHeld};
 ghost use Rattle.run_state.specs.View.{heldIn};
 ghost use Rattle.run_state.specs.Valid.{heldOk};
@@ -31,7 +32,7 @@ fn put_rows(out: &mut [u8], start: u64, flags: &[u8], numbers: &[u64]) -> usize
 pub(crate) fn put_held(out: &mut [u8], h: Held) -> usize
     requires { ⌜ (heldOk h ≡ true) × (ordered (h .sheet) ≡ true) ⌝ }
     requires { ⌜ 46 * h .sheet .rows .count ≤ length (now out) ⌝ }
-    ensures { λ r. ⌜ Wrote (mapsText (archiveHeld (heldIn h))) (46 * h .sheet .rows .count) (now (out .entry)) 0 (now (out .exit)) r ⌝ }
+    ensures { λ r. ⌜ Wrote (mapsText (archiveHeld kinds (heldIn h))) (46 * h .sheet .rows .count) (now (out .entry)) 0 (now (out .exit)) r ⌝ }
 {
     held_long(h);
     let start = h.sheet.start;

@@ -6,6 +6,7 @@ use Prim.Native.Nat.{ℕ, _≤_, _<_}
 use native.Mathlib.Omega.{arith}
 use lib.ListN.{length}
 use borrow.Author.Tests.{lt-ltb, le-ltb}
+use Rattle.columns.specs.Limits.{kinds}
 use Rattle.columns.specs.declared.refusal.Refusal.{Refusal}
 use Rattle.columns.specs.declared.refusal.Refusal.the-variants.{SliceShort}
 use Rattle.columns.specs.declared.refusal.Ruling.the-variants.{Kept, Broken}
@@ -53,7 +54,7 @@ module _ (bytes was : List ℕ) where
   unfolding listingFrom
   too-long g = record { answers = rw (lt-ltb 65536 (length bytes) g); rest = refl; within = omega arith }
 
-  module _ (g : length bytes ≤ 65536) (k : Held) (f : heldIn k ≡ nothing) (t : Taken) (m : TookBy (holdMore (heldIn k) (parse bytes)) k t) where
+  module _ (g : length bytes ≤ 65536) (k : Held) (f : heldIn k ≡ nothing) (t : Taken) (m : TookBy (holdMore kinds (heldIn k) (parse kinds bytes)) k t) where
     -- what follows the taking is the listing
     short : {is : List ℕ} {r : Writing} → Gives printed (takenList bytes) was is r → Gives printed (listingFrom bytes) was is r
     unfolding listingFrom

@@ -9,7 +9,8 @@ use lib.Dec.{ltb}
 use lib.ListN.{length}
 use borrow.Author.Tests.{le-ltb, ltb-false, not-false}
 use Rattle.lists.specs.Lists.{isEmpty, last, Each}
-use Rattle.columns.specs.Limits.{maxNumbers, maxListed}
+use Rattle.columns.specs.Limits.{kinds, maxNumbers, maxListed}
+use Rattle.columns.proofs.Served.{kinds-served}
 use Rattle.columns.specs.Refusal.{unless, refuse, firstOf}
 use Rattle.columns.specs.declared.refusal.Refusal.{Refusal}
 use Rattle.columns.specs.declared.refusal.Refusal.the-variants.{OverRecords, OverNumbers, GroupOrder, NoSurvivor, SliceShort}
@@ -54,79 +55,79 @@ abbrev lines : Archive → List File → List ℕ → List ℕ
 lines A fs w = listingText A fs
 
 module _ (room : ℕ) where
-  said-listed : (A : Archive) (S : Summary) → listingNeed A (outputs S) ≤ room → said (listInto (listed room A S)) ≡ writing refusedLine (lines A (outputs S)) (written S)
+  said-listed : (A : Archive) (S : Summary) → listingNeed A (outputs kinds S) ≤ room → said (listInto (listed kinds room A S)) ≡ writing refusedLine (lines A (outputs kinds S)) (written kinds S)
   unfolding listed written unless firstOf
-  said-listed A S h = rw (le-ltb room (listingNeed A (outputs S)) h) (go (writeRules S))
+  said-listed A S h = rw (le-ltb room (listingNeed A (outputs kinds S)) h) (go (writeRules kinds S))
     where
-      go : (x : Option Refusal) → said (listInto (unless (firstOf (x ∷ none ∷ [])) (listingText A (outputs S)))) ≡ writing refusedLine (lines A (outputs S)) (unless x (bytesOf S))
+      go : (x : Option Refusal) → said (listInto (unless (firstOf (x ∷ none ∷ [])) (listingText A (outputs kinds S)))) ≡ writing refusedLine (lines A (outputs kinds S)) (unless x (bytesOf kinds S))
       go none = refl
       go (some x) = refl
 
-  module _ (r : listingRoom ≤ room) (t : Taken) (f : Followed none (t .sources)) (h : Each Fitting (t .sources)) (l : Limited (t .sources)) where
-    resolved-says : resolveRules t (archiveOf t) (tables (archiveOf t)) ≡ none
-        → said (listedFrom (hold (resolved t (tables (archiveOf t)))) room) ≡ writingFrom refusedLine lines (resolved t (tables (archiveOf t)))
+  module _ (r : listingRoom ≤ room) (t : Taken) (f : Followed kinds none (t .sources)) (h : Each Fitting (t .sources)) (l : Limited (t .sources)) where
+    resolved-says : resolveRules t (archiveOf kinds t) (tables kinds (archiveOf kinds t)) ≡ none
+        → said (listedFrom (hold kinds (resolved t (tables kinds (archiveOf kinds t)))) room) ≡ writingFrom kinds refusedLine lines (resolved t (tables kinds (archiveOf kinds t)))
     unfolding listedFrom Inv step resolveRules
     resolved-says e =
-        let A = archiveOf t in
-        let ts = tables A in
+        let A = archiveOf kinds t in
+        let ts = tables kinds A in
         let rules = each-none (refuse GroupOrder (isEmpty (t .sources)) ∷ refuse OverNumbers (ltb maxNumbers (entries ts)) ∷ refuse NoSurvivor (not (groupsSurvive A)) ∷ []) e in
         let some-source = not-refused GroupOrder (isEmpty (t .sources)) (rules .0) in
         let few = ltb-false maxNumbers (entries ts) (not-refused OverNumbers (ltb maxNumbers (entries ts)) (rules .1 .0)) in
         let survive = not-false (groupsSurvive A) (not-refused NoSurvivor (not (groupsSurvive A)) (rules .1 .1 .0)) in
-        ap (λ o. said (o .answer)) (run-step (resolved t ts) (lists room) (t .sources) (refl, f, refl))
+        ap (λ o. said (o .answer)) (run-step kinds kinds-served (resolved t ts) (lists room) (t .sources) (refl, f, refl))
         ∙ said-listed A (tabled A ts) (omega (arith, room-enough t f h l some-source few survive))
 
-    taken-by : (x : Option Refusal) → resolveRules t (archiveOf t) (tables (archiveOf t)) ≡ x
-        → afterwards refusedLine ((resolveBy t (tables (archiveOf t)) x) .answer) (said (listedFrom (hold ((resolveBy t (tables (archiveOf t)) x) .state)) room))
-        ≡ afterwards refusedLine ((resolveBy t (tables (archiveOf t)) x) .answer) (writingFrom refusedLine lines ((resolveBy t (tables (archiveOf t)) x) .state))
+    taken-by : (x : Option Refusal) → resolveRules t (archiveOf kinds t) (tables kinds (archiveOf kinds t)) ≡ x
+        → afterwards refusedLine ((resolveBy t (tables kinds (archiveOf kinds t)) x) .answer) (said (listedFrom (hold kinds ((resolveBy t (tables kinds (archiveOf kinds t)) x) .state)) room))
+        ≡ afterwards refusedLine ((resolveBy t (tables kinds (archiveOf kinds t)) x) .answer) (writingFrom kinds refusedLine lines ((resolveBy t (tables kinds (archiveOf kinds t)) x) .state))
     taken-by none e = resolved-says e
     taken-by (some x) e = refl
 
-    taken-says : said (resolvedList (hold (taking t)) room)
-        ≡ afterwards refusedLine ((step (taking t) resolves) .answer) (writingFrom refusedLine lines ((step (taking t) resolves) .state))
+    taken-says : said (resolvedList (hold kinds (taking t)) room)
+        ≡ afterwards refusedLine ((step kinds (taking t) resolves) .answer) (writingFrom kinds refusedLine lines ((step kinds (taking t) resolves) .state))
     unfolding resolvedList Inv step resolve
     taken-says =
-        ap (λ o. said (after (o .answer) (listedFrom (o .state) room))) (run-step (taking t) resolves (t .sources) (refl, f))
-        ∙ said-after ((step (taking t) resolves) .answer) (listedFrom (hold ((step (taking t) resolves) .state)) room)
-        ∙ taken-by (resolveRules t (archiveOf t) (tables (archiveOf t))) refl
+        ap (λ o. said (after (o .answer) (listedFrom (o .state) room))) (run-step kinds kinds-served (taking t) resolves (t .sources) (refl, f))
+        ∙ said-after ((step kinds (taking t) resolves) .answer) (listedFrom (hold kinds ((step kinds (taking t) resolves) .state)) room)
+        ∙ taken-by (resolveRules t (archiveOf kinds t) (tables kinds (archiveOf kinds t))) refl
 
   -- ── an archive taken alone ───────────────────────────────────────────────────────────────────
 
   abbrev Says : Outcome → Type 0
-  Says o = said (after (o .answer) (resolvedList (hold (o .state)) room))
-      ≡ afterwards refusedLine (o .answer) (afterwards refusedLine ((step (o .state) resolves) .answer) (writingFrom refusedLine lines ((step (o .state) resolves) .state)))
+  Says o = said (after (o .answer) (resolvedList (hold kinds (o .state)) room))
+      ≡ afterwards refusedLine (o .answer) (afterwards refusedLine ((step kinds (o .state) resolves) .answer) (writingFrom kinds refusedLine lines ((step kinds (o .state) resolves) .state)))
 
   abbrev noSource : Taken
   noSource = record { sources = [] }
 
   module _ (r : listingRoom ≤ room) where
-    rules-say : (fs : List File) → Each FileFits fs → (x : Option Refusal) → takeRules [] fs ≡ x → Says (takeMore noSource (unless x (map sourceOf fs)))
+    rules-say : (fs : List File) → Each (FileFits kinds) fs → (x : Option Refusal) → takeRules kinds [] fs ≡ x → Says (takeMore noSource (unless x (map (sourceOf kinds) fs)))
     unfolding unless takeRules last
     rules-say fs h (some x) e = refl
     rules-say fs h none e =
-        let rules = each-none (refuse OverRecords (overRecords [] fs) ∷ refuse OverNumbers (overNumbers [] fs) ∷ filesRules none fs ∷ []) e in
-        let kept : filesRules none fs ≡ none = rules .1 .1 .0 in
+        let rules = each-none (refuse OverRecords (overRecords [] fs) ∷ refuse OverNumbers (overNumbers [] fs) ∷ filesRules kinds none fs ∷ []) e in
+        let kept : filesRules kinds none fs ≡ none = rules .1 .1 .0 in
         let few = not-refused OverRecords (overRecords [] fs) (rules .0) in
-        taken-says r (record { sources = map sourceOf fs }) (taken-followed none fs kept) (fitting-taken none fs kept h) (limited-taken fs kept h few)
+        taken-says r (record { sources = map (sourceOf kinds) fs }) (taken-followed kinds kinds-served none fs kept) (fitting-taken kinds kinds-served none fs kept h) (limited-taken kinds kinds-served fs kept h few)
 
-    parse-says : (x : Parsed (List File)) → Each FileFits (filesIn x) → Says (takeMore noSource (takenFrom [] x))
+    parse-says : (x : Parsed (List File)) → Each (FileFits kinds) (filesIn x) → Says (takeMore noSource (takenFrom kinds [] x))
     parse-says broken h = refl
-    parse-says (got fs end) h = rules-say fs h (takeRules [] fs) refl
+    parse-says (got fs end) h = rules-say fs h (takeRules kinds [] fs) refl
 
-    step-says : (b : List ℕ) → Each FileFits (filesIn (parse b)) → Says (step fresh (takes b))
+    step-says : (b : List ℕ) → Each (FileFits kinds) (filesIn (parse kinds b)) → Says (step kinds fresh (takes b))
     unfolding step
-    step-says b h = parse-says (parse b) h
+    step-says b h = parse-says (parse kinds b) h
 
-    bytes-say : (b : List ℕ) → Each FileFits (filesIn (parse b)) → said (takenList b room) ≡ cleaning refusedLine lines b
+    bytes-say : (b : List ℕ) → Each (FileFits kinds) (filesIn (parse kinds b)) → said (takenList b room) ≡ cleaning kinds refusedLine lines b
     unfolding takenList cleaning Inv hold heldOf
     bytes-say b h =
-        ap (λ o. said (after (o .answer) (resolvedList (o .state) room))) (run-step fresh (takes b) [] (refl, tt)) ∙ step-says b h
+        ap (λ o. said (after (o .answer) (resolvedList (o .state) room))) (run-step kinds kinds-served fresh (takes b) [] (refl, tt)) ∙ step-says b h
 
     -- the whole output of the listing program
-    pub listing-said : (b : List ℕ) → Each FileFits (filesIn (parse b)) → said (listingFrom b room) ≡ listing b
+    pub listing-said : (b : List ℕ) → Each (FileFits kinds) (filesIn (parse kinds b)) → said (listingFrom b room) ≡ listing kinds b
     unfolding listingFrom listing
     listing-said b h = go (ltb maxListed (length b))
       where
-        go : (long : Bool) → said (cond long (refused SliceShort) (takenList b room)) ≡ cond long (refusedLine SliceShort) (cleaning refusedLine lines b)
+        go : (long : Bool) → said (cond long (refused SliceShort) (takenList b room)) ≡ cond long (refusedLine SliceShort) (cleaning kinds refusedLine lines b)
         go true = refl
         go false = bytes-say b h

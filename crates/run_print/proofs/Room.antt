@@ -8,7 +8,8 @@ use native.Mathlib.Omega.{arith}
 use lib.ListN.{length, length-map}
 use Rattle.lists.specs.Lists.{isEmpty, sum, Each}
 use Rattle.lists.proofs.Flat.{length-upFrom}
-use Rattle.columns.specs.Limits.{maxNumbers}
+use Rattle.columns.specs.Limits.{kinds, maxNumbers}
+use Rattle.columns.proofs.Served.{kinds-served}
 use Rattle.archive.specs.File.{File}
 use Rattle.cleaning.specs.Archive.{Taken, archiveOf}
 use Rattle.cleaning.specs.Memo.{tables}
@@ -34,26 +35,26 @@ unfolding filesNeed fileNeed sum
 needs-sum [] = refl
 needs-sum (f ∷ fs) = omega (arith, needs-sum fs)
 
-files-within : (S : Summary) → Good S → filesNeed (outputs S) ≤ filesRoom
+files-within : (S : Summary) → Good kinds S → filesNeed (outputs kinds S) ≤ filesRoom
 unfolding outputs
 files-within S good =
     omega (
       arith,
-      needs-sum (outputs S),
-      length-map (groupNumbers S) (outputOf S),
+      needs-sum (outputs kinds S),
+      length-map (groupNumbers S) (outputOf kinds S),
       length-upFrom 0 (length (S .groups)),
       good .groupCount,
-      few-events S good,
-      few-forward S good,
-      few-reverse S good,
-      few-inbound S good,
+      few-events kinds kinds-served S good,
+      few-forward kinds kinds-served S good,
+      few-reverse kinds kinds-served S good,
+      few-inbound kinds kinds-served S good,
     )
 
-module _ (t : Taken) (f : Followed none (t .sources)) (h : Each Fitting (t .sources)) (l : Limited (t .sources))
-    (e : isEmpty (t .sources) ≡ false) (n : entries (tables (archiveOf t)) ≤ maxNumbers) (g : groupsSurvive (archiveOf t) ≡ true) where
-  pub room-enough : listingNeed (archiveOf t) (outputs (tabled (archiveOf t) (tables (archiveOf t)))) ≤ listingRoom
+module _ (t : Taken) (f : Followed kinds none (t .sources)) (h : Each Fitting (t .sources)) (l : Limited (t .sources))
+    (e : isEmpty (t .sources) ≡ false) (n : entries (tables kinds (archiveOf kinds t)) ≤ maxNumbers) (g : groupsSurvive (archiveOf kinds t) ≡ true) where
+  pub room-enough : listingNeed (archiveOf kinds t) (outputs kinds (tabled (archiveOf kinds t) (tables kinds (archiveOf kinds t)))) ≤ listingRoom
   unfolding listingNeed archiveOf
   room-enough =
-      let good : Good (tabled (archiveOf t) (tables (archiveOf t))) =
-      subst Good (sym (tabled-summary (archiveOf t) (valid-sources (t .sources) f))) (good-sources (t .sources) e f h l n g) in
-      omega (arith, files-within (tabled (archiveOf t) (tables (archiveOf t))) good, length-events t (t .sources), l .events)
+      let good : Good kinds (tabled (archiveOf kinds t) (tables kinds (archiveOf kinds t))) =
+      subst (Good kinds) (sym (tabled-summary kinds kinds-served (archiveOf kinds t) (valid-sources kinds kinds-served (t .sources) f))) (good-sources kinds kinds-served (t .sources) e f h l n g) in
+      omega (arith, files-within (tabled (archiveOf kinds t) (tables kinds (archiveOf kinds t))) good, length-events kinds kinds-served t (t .sources), l .events)

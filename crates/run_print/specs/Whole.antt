@@ -5,7 +5,7 @@ use mathlib.Core.List.{List, []}
 use Prim.Native.Nat.{ℕ}
 use lib.Dec.{ltb}
 use lib.ListN.{length}
-use Rattle.columns.specs.Limits.{maxListed}
+use Rattle.columns.specs.Limits.{kinds, maxListed}
 use Rattle.columns.specs.declared.refusal.Refusal.the-variants.{SliceShort}
 use Rattle.cleaning.specs.Lines.{refusedLine}
 use Rattle.cleaning.specs.Step.{takes, resolves, Answer, refused, done, wrote, told, counted, printed}
@@ -15,11 +15,11 @@ use Rattle.run_clean.specs.Cleans.{after}
 
 -- resolving, then listing
 unfoldable pub resolvedList : RunState → ℕ → Answer
-resolvedList s room = let o = runStep s resolves in after (o .answer) (listedFrom (o .state) room)
+resolvedList s room = let o = runStep kinds s resolves in after (o .answer) (listedFrom (o .state) room)
 
 -- taking, then the others
 unfoldable pub takenList : List ℕ → ℕ → Answer
-takenList bytes room = let o = runStep freshRun (takes bytes) in after (o .answer) (resolvedList (o .state) room)
+takenList bytes room = let o = runStep kinds freshRun (takes bytes) in after (o .answer) (resolvedList (o .state) room)
 
 -- over 65,536 bytes are 41 whatever they hold
 unfoldable pub listingFrom : List ℕ → ℕ → Answer

@@ -9,6 +9,7 @@ use mir.Syntax.{w64}
 use mir.Val.{Fits}
 use lib.ListN.{length, length-append}
 use lib.Seq.{sets}
+use Rattle.columns.specs.Limits.{kinds}
 use Rattle.lists.specs.Lists.{upFrom}
 use Rattle.lists.proofs.Slices.{sets-append}
 use Rattle.columns.specs.Refusal.{firstOf, firstIn}
@@ -30,10 +31,10 @@ use Rattle.run_records.specs.Lengths.{MeasuredBy}
 
 -- of the groups from g up to n
 unfoldable pub rulesFrom : Sheet → ℕ → ℕ → Option Refusal
-rulesFrom s g n = firstIn (λ k. buildRules (sectionGraph s k)) (upFrom g (n - g))
+rulesFrom s g n = firstIn (λ k. buildRules kinds (sectionGraph kinds s k)) (upFrom g (n - g))
 
 unfoldable pub bytesFrom : Sheet → ℕ → ℕ → List ℕ
-bytesFrom s g n = encode (map (sectionFile s) (upFrom g (n - g)))
+bytesFrom s g n = encode (map (sectionFile kinds s) (upFrom g (n - g)))
 
 module _ (s : Sheet) (g n : ℕ) where
   no-more : n ≤ g → upFrom g (n - g) ≡ []
@@ -52,30 +53,30 @@ module _ (s : Sheet) (g n : ℕ) where
   unfolding bytesFrom encode
   bytes-end h = rw (no-more h)
 
-  pub rules-next : g < n → buildRules (sectionGraph s g) ≡ none → rulesFrom s g n ≡ rulesFrom s (suc g) n
+  pub rules-next : g < n → buildRules kinds (sectionGraph kinds s g) ≡ none → rulesFrom s g n ≡ rulesFrom s (suc g) n
   unfolding rulesFrom firstIn firstOf
-  rules-next h e = rw (more h, e) (last-rule (firstIn (λ k. buildRules (sectionGraph s k)) (upFrom (suc g) (n - suc g))))
+  rules-next h e = rw (more h, e) (last-rule (firstIn (λ k. buildRules kinds (sectionGraph kinds s k)) (upFrom (suc g) (n - suc g))))
 
-  pub rules-broken : g < n → (x : Refusal) → buildRules (sectionGraph s g) ≡ some x → rulesFrom s g n ≡ some x
+  pub rules-broken : g < n → (x : Refusal) → buildRules kinds (sectionGraph kinds s g) ≡ some x → rulesFrom s g n ≡ some x
   unfolding rulesFrom firstIn firstOf
   rules-broken h x e = rw (more h, e)
 
-  pub rules-first : g < n → rulesFrom s g n ≡ none → buildRules (sectionGraph s g) ≡ none
+  pub rules-first : g < n → rulesFrom s g n ≡ none → buildRules kinds (sectionGraph kinds s g) ≡ none
   unfolding rulesFrom firstIn firstOf
-  rules-first h e = go (buildRules (sectionGraph s g)) (sym (rw (more h) refl) ∙ e)
+  rules-first h e = go (buildRules kinds (sectionGraph kinds s g)) (sym (rw (more h) refl) ∙ e)
     where
-      go : (r : Option Refusal) → firstOf (r ∷ (firstIn (λ k. buildRules (sectionGraph s k)) (upFrom (suc g) (n - suc g)) ∷ [])) ≡ none → r ≡ none
+      go : (r : Option Refusal) → firstOf (r ∷ (firstIn (λ k. buildRules kinds (sectionGraph kinds s k)) (upFrom (suc g) (n - suc g)) ∷ [])) ≡ none → r ≡ none
       go none d = refl
       go (some x) d = let z : _≡_ {A = ℕ} 0 1 = cc in absurd (omega arith)
 
-  pub bytes-next : g < n → bytesFrom s g n ≡ fileBytes (sectionFile s g) ++ bytesFrom s (suc g) n
+  pub bytes-next : g < n → bytesFrom s g n ≡ fileBytes (sectionFile kinds s g) ++ bytesFrom s (suc g) n
   unfolding bytesFrom encode
   bytes-next h = rw (more h)
 
 -- what the loop has come to at group g of n
 pub record Going (s : Sheet) (n g total : ℕ) : Type 0 where
-  pub rules-left : sectionRules s ≡ rulesFrom s g n
-  pub bytes-left : length (sectionBytes s) ≡ total + length (bytesFrom s g n)
+  pub rules-left : sectionRules kinds s ≡ rulesFrom s g n
+  pub bytes-left : length (sectionBytes kinds s) ≡ total + length (bytesFrom s g n)
   pub so-far : total ≤ g * 223606
   pub few : n ≤ 16
 
@@ -83,13 +84,13 @@ pub record Going (s : Sheet) (n g total : ℕ) : Type 0 where
 
 module _ (s : Sheet) (g n total : ℕ) {m : Measured} (measured : MeasuredGroup s g m) (h : g < n) where
   module _ (k : m .ruling ≡ Kept) where
-    kept : buildRules (sectionGraph s g) ≡ none
-    kept = told-kept (buildRules (sectionGraph s g)) (measured .rules) k
+    kept : buildRules kinds (sectionGraph kinds s g) ≡ none
+    kept = told-kept (buildRules kinds (sectionGraph kinds s g)) (measured .rules) k
 
     two-lengths : length (bytesFrom s g n) ≡ m .length + length (bytesFrom s (g + 1) n)
     two-lengths =
-        ap length (bytes-next s g n h ∙ ap (λ k. fileBytes (sectionFile s g) ++ bytesFrom s k n) (sym (add-one g)))
-        ∙ length-append (fileBytes (sectionFile s g)) (bytesFrom s (g + 1) n) ∙ ap (λ l. l + length (bytesFrom s (g + 1) n)) (sym (measured .length-is kept))
+        ap length (bytes-next s g n h ∙ ap (λ k. fileBytes (sectionFile kinds s g) ++ bytesFrom s k n) (sym (add-one g)))
+        ∙ length-append (fileBytes (sectionFile kinds s g)) (bytesFrom s (g + 1) n) ∙ ap (λ l. l + length (bytesFrom s (g + 1) n)) (sym (measured .length-is kept))
 
     pub going-on : Going s n g total → Going s n (g + 1) (total + m .length)
     going-on w = record {
@@ -104,7 +105,7 @@ module _ (s : Sheet) (g n total : ℕ) {m : Measured} (measured : MeasuredGroup 
 
   pub all-broken : (x : Refusal) → m .ruling ≡ Broken x → Going s n g total → MeasuredBy s (record { ruling = Broken x; length = 0 })
   all-broken x b w =
-      let f : Broken x ≡ ruling (sectionRules s) = rw (w .rules-left, rules-broken s g n h x (told (buildRules (sectionGraph s g)) (measured .rules) b)) in
+      let f : Broken x ≡ ruling (sectionRules kinds s) = rw (w .rules-left, rules-broken s g n h x (told (buildRules kinds (sectionGraph kinds s g)) (measured .rules) b)) in
       record { rules = f; length-is = λ k. absurd (let d : Broken x ≡ Kept = f ∙ ap ruling k in let z : _≡_ {A = ℕ} 0 1 = cc in omega arith) }
 
 -- ── where the loop starts and ends ───────────────────────────────────────────────────────────

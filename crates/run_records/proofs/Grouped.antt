@@ -12,7 +12,7 @@ use Rattle.lists.specs.Lists.{flat, part, Each}
 use Rattle.lists.proofs.Tests.{tested}
 use Rattle.lists.proofs.Each.{each-imp, each-flat, each-mem}
 use Rattle.lists.proofs.Filters.{each-left, each-right}
-use Rattle.columns.specs.Limits.{maxRecords}
+use Rattle.columns.specs.Limits.{kinds, maxRecords}
 use Rattle.columns.specs.Reading.{Label}
 use Rattle.cover.specs.Chains.{rangesOf}
 use Rattle.cover.proofs.Extremes.{Ends, ranges-ends}
@@ -203,7 +203,7 @@ module _ (z : Counts) (subject : List ℕ) (groups : Groups) (covers : Covers) (
       abbrev back : List ℕ
       back = backAt s f rows unresolved roots links ranges
 
-      file-halves : fileBytes (sectionFile S g) ≡ front ++ back
+      file-halves : fileBytes (sectionFile kinds S g) ≡ front ++ back
       unfolding fileBytes fileAt headBytes edgesBytes frontAt backAt middleAt
       file-halves =
           let n : length (map unerasedRow (tagsAt s rows)) ≡ many (s .rows) =

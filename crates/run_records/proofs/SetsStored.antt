@@ -6,6 +6,7 @@ use Prim.Native.Nat.{ℕ, _+_, _*_, _≤_, _<_}
 use native.Mathlib.Omega.{arith}
 use lib.ListN.{length}
 use lib.Seq.{sets, length-sets}
+use Rattle.columns.specs.Limits.{kinds}
 use Rattle.lists.specs.Lists.{joined}
 use Rattle.lists.proofs.Flat.{length-starts}
 use Rattle.columns.specs.EdgeSet.{EdgeSet, offsetsForm, setOf}
@@ -29,9 +30,9 @@ use Rattle.run_records.specs.Front.{setIn, builtBytes, edgesBody}
 -- ── one set ──────────────────────────────────────────────────────────────────────────────────
 
 module _ (z : Counts) (s : Section) (offsets targets : List ℕ) (rises : s .rows .from ≤ s .rows .to) (there : s .rows .to ≤ z .rows)
-    (form : offsetsForm (z .rows) (length targets) offsets ≡ true) where
+    (form : offsetsForm kinds (z .rows) (length targets) offsets ≡ true) where
   pub lists-there : 2 * (s .rows .from + many (s .rows)) < length offsets
-  lists-there = omega (arith, form-length (z .rows) (length targets) offsets form)
+  lists-there = omega (arith, form-length kinds (z .rows) (length targets) offsets form)
 
   module _ (low high : ℕ) where
     set-size : length (setBytes (setIn z s low high offsets targets))
@@ -39,16 +40,16 @@ module _ (z : Counts) (s : Section) (offsets targets : List ℕ) (rises : s .row
     unfolding setOf
     set-size =
         let first = z .start + s .rows .from in
-        let ls = rowsWithin low high (s .rows .from) (many (s .rows)) offsets targets in
-        omega (arith, lengths.length-set (setOf first ls), length-starts 0 ls, section-long low high (s .rows .from) (many (s .rows)) offsets targets lists-there, set-count first ls)
+        let ls = rowsWithin kinds low high (s .rows .from) (many (s .rows)) offsets targets in
+        omega (arith, lengths.length-set (setOf kinds first ls), length-starts 0 ls, section-long kinds low high (s .rows .from) (many (s .rows)) offsets targets lists-there, set-count kinds first ls)
 
     module _ (at : ℕ) where
       pub set-room : {room : ℕ} → at + length (setBytes (setIn z s low high offsets targets)) ≤ room
-          → at + setSize (2 * many (s .rows) + 1) (length (joined (rowsWithin low high (s .rows .from) (many (s .rows)) offsets targets))) ≤ room
+          → at + setSize (2 * many (s .rows) + 1) (length (joined (rowsWithin kinds low high (s .rows .from) (many (s .rows)) offsets targets))) ≤ room
       unfolding setOf
       set-room h = omega (arith, set-size)
 
-      pub set-after : {r : ℕ} → r ≡ at + setSize (2 * many (s .rows) + 1) (length (joined (rowsWithin low high (s .rows .from) (many (s .rows)) offsets targets)))
+      pub set-after : {r : ℕ} → r ≡ at + setSize (2 * many (s .rows) + 1) (length (joined (rowsWithin kinds low high (s .rows .from) (many (s .rows)) offsets targets)))
           → r ≡ at + length (setBytes (setIn z s low high offsets targets))
       unfolding setOf
       set-after e = omega (arith, set-size)

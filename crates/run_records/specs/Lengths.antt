@@ -2,6 +2,7 @@
 use mathlib.Core.Path.{_≡_}
 use mathlib.Core.Option.{none}
 use lib.ListN.{length}
+use Rattle.columns.specs.Limits.{kinds}
 use Rattle.columns.specs.Answers.{ruling}
 use Rattle.cleaning.specs.Sheet.{Sheet}
 use Rattle.cleaning.specs.Sections.{sectionRules, sectionBytes}
@@ -9,5 +10,5 @@ use Rattle.run_section.specs.declared.measures.Measured.{Measured}
 
 -- the first broken rule of all groups; where there is none, how long the archive is
 pub record MeasuredBy (s : Sheet) (r : Measured) : Type 0 where
-  pub rules : r .ruling ≡ ruling (sectionRules s)
-  pub length-is : sectionRules s ≡ none → r .length ≡ length (sectionBytes s)
+  pub rules : r .ruling ≡ ruling (sectionRules kinds s)
+  pub length-is : sectionRules kinds s ≡ none → r .length ≡ length (sectionBytes kinds s)

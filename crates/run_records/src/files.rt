@@ -18,6 +18,7 @@ ghost use mathlib.Core.Path.{_≡_};
 ghost use Prim.Native.Nat.{_+_, _≤_};
 ghost use lib.ListN.{length};
 ghost use lib.Seq.{sets};
+ghost use Rattle.columns.specs.Limits.{kinds};
 ghost use Rattle.cleaning.specs.Sections.{sectionBytes};
 ghost use Rattle.run_section.specs.Tables.{sheetOf};
 ghost use Rattle.run_section.specs.Files.{setsAt};
@@ -160,9 +161,9 @@ pub fn put_groups(
     requires { ⌜ Ready z (now subject) groups (now rows) (now unresolved) (now roots) (now links) (now offsets) (now targets) ⌝ }
     requires { ⌜ (Children z (now offsets) (now targets) (now starts) (now kids)) × (CoversAt z groups (now rows) (now ranges) covers) ⌝ }
     requires { ⌜ Stores z (now rows) (now unresolved) (now links) (now ranges) ⌝ }
-    requires { ⌜ length (sectionBytes (sheetOf z (now subject) groups (now rows) (now unresolved) (now roots) (now links) (now offsets) (now targets))) ≤ length (now out) ⌝ }
+    requires { ⌜ length (sectionBytes kinds (sheetOf z (now subject) groups (now rows) (now unresolved) (now roots) (now links) (now offsets) (now targets))) ≤ length (now out) ⌝ }
     ensures { λ _. ⌜ now (out .exit) ≡ sets (now (out .entry)) 0
-        (sectionBytes (sheetOf z (now (subject .entry)) groups (now (rows .entry)) (now (unresolved .entry)) (now (roots .entry)) (now (links .entry))
+        (sectionBytes kinds (sheetOf z (now (subject .entry)) groups (now (rows .entry)) (now (unresolved .entry)) (now (roots .entry)) (now (links .entry))
         (now (offsets .entry)) (now (targets .entry)))) ⌝ }
 {
     let mut at = 0;

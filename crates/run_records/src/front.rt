@@ -13,7 +13,7 @@ ghost use mathlib.Core.Bool.{true};
 ghost use Prim.Native.Nat.{_+_, _-_, _≤_, _<_};
 ghost use lib.ListN.{length};
 ghost use lib.Seq.{sets};
-ghost use Rattle.columns.specs.Limits.{end64, maxRecords, maxSubject, maxNumbers};
+ghost use Rattle.columns.specs.Limits.{kinds, end64, maxRecords, maxSubject, maxNumbers};
 ghost use Rattle.columns.specs.EdgeSet.{offsetsForm};
 ghost use Rattle.archive.specs.Encode.{recordBytes, headFields, setBytes};
 ghost use Rattle.archive_store.specs.Lent.{startBytes};
@@ -64,7 +64,7 @@ fn put_set(
     high: u64,
 ) -> usize
     requires { ⌜ (z .rows ≤ 1024) × ((z .start + z .rows < end64) × ((s .rows .from ≤ s .rows .to) × (s .rows .to ≤ z .rows))) ⌝ }
-    requires { ⌜ (offsetsForm (z .rows) (length (now targets)) (now offsets) ≡ true) × (length (now targets) ≤ maxNumbers) ⌝ }
+    requires { ⌜ (offsetsForm kinds (z .rows) (length (now targets)) (now offsets) ≡ true) × (length (now targets) ≤ maxNumbers) ⌝ }
     requires { ⌜ at + length (setBytes (setIn z s low high (now offsets) (now targets))) ≤ length (now out) ⌝ }
     ensures { λ _. ⌜ now (out .exit) ≡ sets (now (out .entry)) at (setBytes (setIn z s low high (now (offsets .entry)) (now (targets .entry)))) ⌝ }
     ensures { λ r. ⌜ r ≡ at + length (setBytes (setIn z s low high (now (offsets .entry)) (now (targets .entry)))) ⌝ }

@@ -3,6 +3,7 @@ use mathlib.Core.Path.{_≡_, _∙_}
 use mathlib.Core.Bool.{Bool, true, false, not}
 use mathlib.Core.List.{List}
 use Prim.Native.Nat.{ℕ, suc, _≤_, _<_, _+_, _-_, _*_}
+use native.Mathlib.Nat.{mul-le-mul-left}
 use native.Mathlib.Numerals.{add-one}
 use native.Mathlib.Omega.{arith}
 use lib.Dec.{eqb}
@@ -11,7 +12,6 @@ use lib.Seq.{slice, slice-cons}
 use borrow.Author.Tests.{lt-ltb, le-ltb, eq-eqb, ne-eqb}
 use Rattle.lists.specs.Lists.{any, filter, joined, part, upFrom}
 use Rattle.lists.proofs.Slices.{slice-none}
-use Rattle.columns.specs.Limits.{kinds}
 use Rattle.columns.specs.EdgeSet.{fromTo, offsetsForm, cut}
 use Rattle.run_renumber.specs.Reparented.{isErased, isReparented, reparented}
 use Rattle.run_renumber.proofs.Tables.{table-rises, table-within, joined-slots, form-length, form-table}
@@ -45,61 +45,61 @@ module _ {t : Bool} (start : ℕ) (flags : List ℕ) (i b : ℕ) (ps : List ℕ)
 
 -- ── an event ─────────────────────────────────────────────────────────────────────────────────
 
-module _ (start : ℕ) (flags offsets targets : List ℕ) (i : ℕ) where
-  pub not-erased : (getD flags i 0 ≡ 0 → ⊥) → false ≡ isReparented start flags (cut offsets targets) i
+module _ (K : ℕ) (start : ℕ) (flags offsets targets : List ℕ) (i : ℕ) where
+  pub not-erased : (getD flags i 0 ≡ 0 → ⊥) → false ≡ isReparented K start flags (cut offsets targets) i
   unfolding isReparented
   not-erased h = rw (ne-eqb (getD flags i 0) 0 h)
 
-  module _ (ok : offsetsForm (length flags) (length targets) offsets ≡ true) (h : i < length flags) where
-    far : (j : ℕ) → j ≤ kinds → kinds * i + j < length offsets
-    far j w = omega (arith, form-length (length flags) (length targets) offsets ok)
+  module _ (ok : offsetsForm K (length flags) (length targets) offsets ≡ true) (h : i < length flags) where
+    far : (j : ℕ) → j ≤ K → K * i + j < length offsets
+    far j w = omega (arith, mul-le-mul-left K h, form-length K (length flags) (length targets) offsets ok)
 
     table : fromTo 0 (length targets) offsets ≡ true
-    table = form-table (length flags) (length targets) offsets ok
+    table = form-table K (length flags) (length targets) offsets ok
 
     -- up to the end of any of the event's slots
-    pub event-within : (b j : ℕ) → b ≡ getD offsets (kinds * i + j) 0 → j ≤ kinds → b ≤ length targets
-    event-within b j f w = rw f (table-within (length targets) offsets table (kinds * i + j) (far j w))
+    pub event-within : (b j : ℕ) → b ≡ getD offsets (K * i + j) 0 → j ≤ K → b ≤ length targets
+    event-within b j f w = rw f (table-within (length targets) offsets table (K * i + j) (far j w))
 
-    module _ (a b : ℕ) (e : a ≡ getD offsets (kinds * i) 0) where
-      pub event-ordered : (j : ℕ) → b ≡ getD offsets (kinds * i + j) 0 → j ≤ kinds → a ≤ b
-      event-ordered j f w = rw (e, f) (table-rises (length targets) offsets table (kinds * i) (kinds * i + j) (omega arith) (far j w))
+    module _ (a b : ℕ) (e : a ≡ getD offsets (K * i) 0) where
+      pub event-ordered : (j : ℕ) → b ≡ getD offsets (K * i + j) 0 → j ≤ K → a ≤ b
+      event-ordered j f w = rw (e, f) (table-rises (length targets) offsets table (K * i) (K * i + j) (omega arith) (far j w))
 
-      pub event-named : (r : Bool) → b ≡ getD offsets (kinds * i + kinds) 0 → r ≡ any (isErased start flags) (slice a b targets) → getD flags i 0 ≡ 0 → r ≡ isReparented start flags (cut offsets targets) i
+      pub event-named : (r : Bool) → b ≡ getD offsets (K * i + K) 0 → r ≡ any (isErased start flags) (slice a b targets) → getD flags i 0 ≡ 0 → r ≡ isReparented K start flags (cut offsets targets) i
       unfolding isReparented
       event-named r f g z =
-          let w : joined (part (kinds * i) kinds (cut offsets targets)) ≡ slice a b targets =
-          joined-slots (length targets) offsets targets table (omega arith) kinds (kinds * i) (far kinds (omega arith)) ∙ rw (e, f) in
+          let w : joined (part (K * i) K (cut offsets targets)) ≡ slice a b targets =
+          joined-slots (length targets) offsets targets table (omega arith) K (K * i) (far K (omega arith)) ∙ rw (e, f) in
           rw (eq-eqb (getD flags i 0) 0 z, w) g
 
 -- ── all events ───────────────────────────────────────────────────────────────────────────────
 
-module _ (start : ℕ) (flags : List ℕ) (slots : List (List ℕ)) where
-  pub count-begins : reparented start flags slots ≡ 0 + length (filter (isReparented start flags slots) (upFrom 0 (length flags - 0)))
+module _ (K : ℕ) (start : ℕ) (flags : List ℕ) (slots : List (List ℕ)) where
+  pub count-begins : reparented K start flags slots ≡ 0 + length (filter (isReparented K start flags slots) (upFrom 0 (length flags - 0)))
   unfolding reparented
   count-begins =
       let z : length flags - 0 ≡ length flags = omega arith in
       rw z (omega arith)
 
-module _ (start : ℕ) (flags : List ℕ) (slots : List (List ℕ)) (n i : ℕ) {t : ℕ}
-    (e : t ≡ n + length (filter (isReparented start flags slots) (upFrom i (length flags - i)))) where
+module _ (K : ℕ) (start : ℕ) (flags : List ℕ) (slots : List (List ℕ)) (n i : ℕ) {t : ℕ}
+    (e : t ≡ n + length (filter (isReparented K start flags slots) (upFrom i (length flags - i)))) where
   pub count-ends : length flags ≤ i → n ≡ t
   unfolding upFrom filter
   count-ends h =
       let z : length flags - i ≡ 0 = omega arith in
       rw (e, z) (omega arith)
 
-  module _ (h : i < length flags) (r : Bool) (f : r ≡ isReparented start flags slots i) where
+  module _ (h : i < length flags) (r : Bool) (f : r ≡ isReparented K start flags slots i) where
     one-on : length flags - i ≡ suc (length flags - (i + 1))
     one-on = omega arith
 
     rest : ℕ
-    rest = length (filter (isReparented start flags slots) (upFrom (suc i) (length flags - (i + 1))))
+    rest = length (filter (isReparented K start flags slots) (upFrom (suc i) (length flags - (i + 1))))
 
-    pub counted : (m : ℕ) → r ≡ true → m ≡ n + 1 → t ≡ m + length (filter (isReparented start flags slots) (upFrom (i + 1) (length flags - (i + 1))))
+    pub counted : (m : ℕ) → r ≡ true → m ≡ n + 1 → t ≡ m + length (filter (isReparented K start flags slots) (upFrom (i + 1) (length flags - (i + 1))))
     unfolding upFrom filter
     counted m g k = rw (e, one-on, add-one i, ← f, g, k) (omega arith)
 
-    pub passed : (m : ℕ) → r ≡ false → m ≡ n → t ≡ m + length (filter (isReparented start flags slots) (upFrom (i + 1) (length flags - (i + 1))))
+    pub passed : (m : ℕ) → r ≡ false → m ≡ n → t ≡ m + length (filter (isReparented K start flags slots) (upFrom (i + 1) (length flags - (i + 1))))
     unfolding upFrom filter
     passed m g k = rw (e, one-on, add-one i, ← f, g, k)

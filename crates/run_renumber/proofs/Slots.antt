@@ -3,7 +3,7 @@ use mathlib.Core.Path.{_≡_, refl, sym, _∙_, ap}
 use mathlib.Core.Bool.{true}
 use mathlib.Core.List.{List, [], _∷_, _++_, append-nil}
 use Prim.Native.Nat.{ℕ, suc, _≤_, _<_, _+_, _-_, _*_, _%_}
-use native.Mathlib.Nat.{le-refl, le-trans, add-zero, mod-lt}
+use native.Mathlib.Nat.{le-refl, le-trans, add-zero}
 use native.Mathlib.Numerals.{add-one}
 use native.Mathlib.Omega.{arith}
 use lib.ListN.{length, getD, take, drop, set, length-set, length-append, take-append-drop, drop-of-length-le}
@@ -13,7 +13,7 @@ use Rattle.lists.specs.Lists.{joined, starts}
 use Rattle.lists.specs.Order.{climbsTo}
 use Rattle.lists.proofs.Flat.{joined-append}
 use Rattle.lists.proofs.Cut.{starts-climb}
-use Rattle.columns.specs.Limits.{kinds}
+use Rattle.lists.proofs.Slots.{kind-some, kind-under}
 use Rattle.columns.specs.EdgeSet.{fromTo, offsetsForm, cut}
 use Rattle.columns.proofs.ReadBack.{cut-joined}
 use Rattle.columns.proofs.Offsets.{cut-length, cut-at}
@@ -27,25 +27,25 @@ use Rattle.run_renumber.proofs.Tables.{table-rises, table-within, form-
 
 -- ── the slots that are read ──────────────────────────────────────────────────────────────────
 
-module _ (rows : ℕ) (offsets targets : List ℕ) (s : ℕ) (ok : offsetsForm rows (length targets) offsets ≡ true) (h : s < kinds * rows) where
+module _ (K : ℕ) (rows : ℕ) (offsets targets : List ℕ) (s : ℕ) (ok : offsetsForm K rows (length targets) offsets ≡ true) (h : s < K * rows) where
   pub read-this : s < length offsets
-  read-this = omega (arith, form-length rows (length targets) offsets ok)
+  read-this = omega (arith, form-length K rows (length targets) offsets ok)
 
   pub read-next : s + 1 < length offsets
-  read-next = omega (arith, form-length rows (length targets) offsets ok)
+  read-next = omega (arith, form-length K rows (length targets) offsets ok)
 
   module _ (a b : ℕ) (e : a ≡ getD offsets s 0) (f : b ≡ getD offsets (s + 1) 0) where
     pub read-ordered : a ≤ b
-    read-ordered = rw (e, f) (table-rises (length targets) offsets (form-table rows (length targets) offsets ok) s (s + 1) (omega arith) read-next)
+    read-ordered = rw (e, f) (table-rises (length targets) offsets (form-table K rows (length targets) offsets ok) s (s + 1) (omega arith) read-next)
 
     pub read-within : b ≤ length targets
-    read-within = rw f (table-within (length targets) offsets (form-table rows (length targets) offsets ok) (s + 1) read-next)
+    read-within = rw f (table-within (length targets) offsets (form-table K rows (length targets) offsets ok) (s + 1) read-next)
 
     pub read-slot : slice a b targets ≡ getD (cut offsets targets) s []
     read-slot = rw (e, f) (sym (cut-at offsets targets s read-next))
 
-pub kind-below : (s : ℕ) → s % 2 < kinds
-kind-below s = mod-lt s (omega arith)
+pub kind-below : (K s n : ℕ) → s < K * n → s % K < K
+kind-below K s n h = kind-under K s (kind-some K s n h)
 
 -- ── one list more ────────────────────────────────────────────────────────────────────────────
 
@@ -82,11 +82,7 @@ module _ (offs all : List ℕ) (s end : ℕ) (lists : List (List ℕ)) (b : Buil
   pub built-fits : length (joined lists) ≤ length all
   built-fits = rw (← ends) (b .filled)
 
-  -- the table has 17's form, and cuts the lists out
-  pub built-form : (rows : ℕ) → s ≡ kinds * rows → offsetsForm rows end (take (s + 1) offs) ≡ true
-  unfolding offsetsForm
-  built-form rows e = rw (eq-eqb (length (take (s + 1) offs)) (kinds * rows + 1) (length-take-le (s + 1) offs (b .room) ∙ omega arith)) built-table
-
+  -- the table cuts the lists out
   pub built-cut : cut (take (s + 1) offs) (take end all) ≡ lists
   built-cut = rw (b .begins, b .entries) (cut-joined lists)
 
@@ -114,18 +110,24 @@ module _ (offs all : List ℕ) (s end : ℕ) (lists : List (List ℕ)) (b : Buil
             ∙ rw (take-take end m all′ (g .above), g .kept, b .entries, g .holds) (sym (joined-snoc lists list));
       }
 
--- what the call for slot s left, under the slot's name
-module _ (rows : ℕ) (offsets targets : List ℕ) (s : ℕ) (ok : offsetsForm rows (length targets) offsets ≡ true) (h : s < kinds * rows)
-    (a b : ℕ) (e : a ≡ getD offsets s 0) (f : b ≡ getD offsets (s + 1) 0) (start : ℕ) (flags numbers offs all : List ℕ) (end : ℕ) (lists : List (List ℕ))
-    (built : Built offs all s end lists) (r : Grown) (all′ : List ℕ) (x : Exact r end all all′ (newList start flags numbers (s % kinds) lists (slice a b targets))) where
-  pub slot-put : (m : ℕ) → r ≡ Upto m → kinds * rows < length offs
-      → Built (set offs (s + 1) m) all′ (s + 1) m (lists ++ (newList start flags numbers (s % kinds) lists (getD (cut offsets targets) s []) ∷ []))
-  slot-put m g k =
-      rw (← read-slot rows offsets targets s ok h a b e f) (slot-added offs all s end lists built r all′ (newList start flags numbers (s % kinds) lists (slice a b targets)) x m g (omega arith))
+-- and has 17's form
+pub built-form : (K : ℕ) → (offs all : List ℕ) (s end : ℕ) (lists : List (List ℕ)) → Built offs all s end lists → (rows : ℕ) → s ≡ K * rows → offsetsForm K rows end (take (s + 1) offs) ≡ true
+unfolding offsetsForm
+built-form K offs all s end lists b rows e =
+    rw (eq-eqb (length (take (s + 1) offs)) (K * rows + 1) (length-take-le (s + 1) offs (b .room) ∙ omega arith)) (built-table offs all s end lists b)
 
-  pub slot-none : r ≡ Full → length all′ < length (joined (lists ++ (newList start flags numbers (s % kinds) lists (getD (cut offsets targets) s []) ∷ [])))
-  slot-none g =
-      rw (← read-slot rows offsets targets s ok h a b e f) (slot-full offs all s end lists built r all′ (newList start flags numbers (s % kinds) lists (slice a b targets)) x g)
+-- what the call for slot s left, under the slot's name
+module _ (K : ℕ) (rows : ℕ) (offsets targets : List ℕ) (s : ℕ) (ok : offsetsForm K rows (length targets) offsets ≡ true) (h : s < K * rows)
+    (a b : ℕ) (e : a ≡ getD offsets s 0) (f : b ≡ getD offsets (s + 1) 0) (start : ℕ) (flags numbers offs all : List ℕ) (end : ℕ) (lists : List (List ℕ))
+    (table : Built offs all s end lists) (r : Grown) (all′ : List ℕ) (x : Exact r end all all′ (newList K start flags numbers (s % K) lists (slice a b targets))) where
+  pub slot-put : (m : ℕ) → r ≡ Upto m → K * rows < length offs
+      → Built (set offs (s + 1) m) all′ (s + 1) m (lists ++ (newList K start flags numbers (s % K) lists (getD (cut offsets targets) s []) ∷ []))
+  slot-put m w k =
+      rw (← read-slot K rows offsets targets s ok h a b e f) (slot-added offs all s end lists table r all′ (newList K start flags numbers (s % K) lists (slice a b targets)) x m w (omega arith))
+
+  pub slot-none : r ≡ Full → length all′ < length (joined (lists ++ (newList K start flags numbers (s % K) lists (getD (cut offsets targets) s []) ∷ [])))
+  slot-none w =
+      rw (← read-slot K rows offsets targets s ok h a b e f) (slot-full offs all s end lists table r all′ (newList K start flags numbers (s % K) lists (slice a b targets)) x w)
 
 pub built-same : (offs all : List ℕ) (s end : ℕ) (lists : List (List ℕ)) → Built offs all s end lists → Built offs all s end (cut (take (s + 1) offs) (take end all))
 built-same offs all s end lists b = rw (built-cut offs all s end lists b) b
@@ -135,66 +137,66 @@ built-same offs all s end lists b = rw (built-cut offs all s end lists b) b
 pub begin-cut : (offs all : List ℕ) → Built offs all 0 0 [] → Built offs all 0 0 (cut (take (0 + 1) offs) (take 0 all))
 begin-cut offs all b = built-same offs all 0 0 [] b
 
-pub begin-lists : (start : ℕ) (flags numbers offs all : List ℕ) (slots : List (List ℕ)) → Built offs all 0 0 []
-    → newListsFrom start flags numbers [] slots ≡ newListsFrom start flags numbers (cut (take (0 + 1) offs) (take 0 all)) slots
-begin-lists start flags numbers offs all slots b = rw (built-cut offs all 0 0 [] b)
+pub begin-lists : (K : ℕ) → (start : ℕ) (flags numbers offs all : List ℕ) (slots : List (List ℕ)) → Built offs all 0 0 []
+    → newListsFrom K start flags numbers [] slots ≡ newListsFrom K start flags numbers (cut (take (0 + 1) offs) (take 0 all)) slots
+begin-lists K start flags numbers offs all slots b = rw (built-cut offs all 0 0 [] b)
 
-pub rows-length : (rows : ℕ) (offsets targets : List ℕ) → offsetsForm rows (length targets) offsets ≡ true → length (cut offsets targets) ≡ kinds * rows
-rows-length rows offsets targets ok = cut-length offsets targets ∙ omega (arith, form-length rows (length targets) offsets ok)
+pub rows-length : (K : ℕ) → (rows : ℕ) (offsets targets : List ℕ) → offsetsForm K rows (length targets) offsets ≡ true → length (cut offsets targets) ≡ K * rows
+rows-length K rows offsets targets ok = cut-length offsets targets ∙ omega (arith, form-length K rows (length targets) offsets ok)
 
 -- the lists of the table and the one of slot s
-abbrev more : ℕ → List ℕ → List ℕ → List (List ℕ) → ℕ → List (List ℕ) → List (List ℕ)
-more start flags numbers lists s slots = lists ++ (newList start flags numbers (s % kinds) lists (getD slots s []) ∷ [])
+abbrev more : (K : ℕ) → ℕ → List ℕ → List ℕ → List (List ℕ) → ℕ → List (List ℕ) → List (List ℕ)
+more K start flags numbers lists s slots = lists ++ (newList K start flags numbers (s % K) lists (getD slots s []) ∷ [])
 
-module _ (start : ℕ) (flags numbers : List ℕ) where
-  lists-grow : (ls slots : List (List ℕ)) → length (joined ls) ≤ length (joined (newListsFrom start flags numbers ls slots))
+module _ (K : ℕ) (start : ℕ) (flags numbers : List ℕ) where
+  lists-grow : (ls slots : List (List ℕ)) → length (joined ls) ≤ length (joined (newListsFrom K start flags numbers ls slots))
   unfolding newListsFrom
   lists-grow ls [] = le-refl _
   lists-grow ls (ps ∷ slots) =
-      let x = newList start flags numbers (length ls % kinds) ls ps in
+      let x = newList K start flags numbers (length ls % K) ls ps in
       le-trans (omega (arith, ap length (joined-snoc ls x), length-append (joined ls) x)) (lists-grow (ls ++ (x ∷ [])) slots)
 
   pub one-slot : (lists : List (List ℕ)) (s : ℕ) (ps : List ℕ) (slots : List (List ℕ)) → length lists ≡ s
-      → newListsFrom start flags numbers lists (ps ∷ slots) ≡ newListsFrom start flags numbers (lists ++ (newList start flags numbers (s % kinds) lists ps ∷ [])) slots
+      → newListsFrom K start flags numbers lists (ps ∷ slots) ≡ newListsFrom K start flags numbers (lists ++ (newList K start flags numbers (s % K) lists ps ∷ [])) slots
   unfolding newListsFrom
-  one-slot lists s ps slots e = ap (λ (n : ℕ). newListsFrom start flags numbers (lists ++ (newList start flags numbers (n % kinds) lists ps ∷ [])) slots) e
+  one-slot lists s ps slots e = ap (λ (n : ℕ). newListsFrom K start flags numbers (lists ++ (newList K start flags numbers (n % K) lists ps ∷ [])) slots) e
 
-  module _ (rows : ℕ) (offsets targets : List ℕ) (s : ℕ) (ok : offsetsForm rows (length targets) offsets ≡ true) {t : List (List ℕ)} (offs all : List ℕ) (end : ℕ)
+  module _ (rows : ℕ) (offsets targets : List ℕ) (s : ℕ) (ok : offsetsForm K rows (length targets) offsets ≡ true) {t : List (List ℕ)} (offs all : List ℕ) (end : ℕ)
       (b : Built offs all s end (cut (take (s + 1) offs) (take end all)))
-      (e : t ≡ newListsFrom start flags numbers (cut (take (s + 1) offs) (take end all)) (drop s (cut offsets targets))) where
-    pub all-built : s ≤ kinds * rows → kinds * rows ≤ s → Built offs all (kinds * rows) end t
+      (e : t ≡ newListsFrom K start flags numbers (cut (take (s + 1) offs) (take end all)) (drop s (cut offsets targets))) where
+    pub all-built : s ≤ K * rows → K * rows ≤ s → Built offs all (K * rows) end t
     unfolding newListsFrom
     all-built h k =
-        let q : s ≡ kinds * rows = omega arith in
-        let o : length (cut offsets targets) ≤ s = omega (arith, rows-length rows offsets targets ok) in
+        let q : s ≡ K * rows = omega arith in
+        let o : length (cut offsets targets) ≤ s = omega (arith, rows-length K rows offsets targets ok) in
         rw (← q, e, drop-of-length-le (cut offsets targets) o) b
 
-    module _ (h : s < kinds * rows) (r : Grown) (offs′ all′ : List ℕ)
+    module _ (h : s < K * rows) (r : Grown) (offs′ all′ : List ℕ)
         (x : Result r offs′ all′ (s + 1) (cut (take (s + 1) offs) (take end all)
-        ++ (newList start flags numbers (s % kinds) (cut (take (s + 1) offs) (take end all)) (getD (cut offsets targets) s []) ∷ []))) where
-      turned : t ≡ newListsFrom start flags numbers (more start flags numbers (cut (take (s + 1) offs) (take end all)) s (cut offsets targets)) (drop (suc s) (cut offsets targets))
+        ++ (newList K start flags numbers (s % K) (cut (take (s + 1) offs) (take end all)) (getD (cut offsets targets) s []) ∷ []))) where
+      turned : t ≡ newListsFrom K start flags numbers (more K start flags numbers (cut (take (s + 1) offs) (take end all)) s (cut offsets targets)) (drop (suc s) (cut offsets targets))
       turned =
-          e ∙ ap (newListsFrom start flags numbers (cut (take (s + 1) offs) (take end all))) (drop-cons (cut offsets targets) s [] (rw (rows-length rows offsets targets ok) h))
+          e ∙ ap (newListsFrom K start flags numbers (cut (take (s + 1) offs) (take end all))) (drop-cons (cut offsets targets) s [] (rw (rows-length K rows offsets targets ok) h))
           ∙ one-slot (cut (take (s + 1) offs) (take end all)) s (getD (cut offsets targets) s []) (drop (suc s) (cut offsets targets)) (b .count)
 
       pub slots-full : r ≡ Full → length all′ < length (joined t)
       slots-full f =
-          let w : length all′ < length (joined (more start flags numbers (cut (take (s + 1) offs) (take end all)) s (cut offsets targets))) = rw f at x in
-          rw turned (le-trans w (lists-grow (more start flags numbers (cut (take (s + 1) offs) (take end all)) s (cut offsets targets)) (drop (suc s) (cut offsets targets))))
+          let w : length all′ < length (joined (more K start flags numbers (cut (take (s + 1) offs) (take end all)) s (cut offsets targets))) = rw f at x in
+          rw turned (le-trans w (lists-grow (more K start flags numbers (cut (take (s + 1) offs) (take end all)) s (cut offsets targets)) (drop (suc s) (cut offsets targets))))
 
       module _ (m : ℕ) (f : r ≡ Upto m) where
-        built : Built offs′ all′ (s + 1) m (more start flags numbers (cut (take (s + 1) offs) (take end all)) s (cut offsets targets))
+        built : Built offs′ all′ (s + 1) m (more K start flags numbers (cut (take (s + 1) offs) (take end all)) s (cut offsets targets))
         built = rw f at x
 
         pub slots-built : Built offs′ all′ (s + 1) m (cut (take (s + 1 + 1) offs′) (take m all′))
-        slots-built = built-same offs′ all′ (s + 1) m (more start flags numbers (cut (take (s + 1) offs) (take end all)) s (cut offsets targets)) built
+        slots-built = built-same offs′ all′ (s + 1) m (more K start flags numbers (cut (take (s + 1) offs) (take end all)) s (cut offsets targets)) built
 
-        pub slots-more : t ≡ newListsFrom start flags numbers (cut (take (s + 1 + 1) offs′) (take m all′)) (drop (s + 1) (cut offsets targets))
+        pub slots-more : t ≡ newListsFrom K start flags numbers (cut (take (s + 1 + 1) offs′) (take m all′)) (drop (s + 1) (cut offsets targets))
         slots-more =
             turned
-            ∙ ap (λ (n : ℕ). newListsFrom start flags numbers (more start flags numbers (cut (take (s + 1) offs) (take end all)) s (cut offsets targets)) (drop n (cut offsets targets))) (sym (add-one s))
-            ∙ ap (λ (ls : List (List ℕ)). newListsFrom start flags numbers ls (drop (s + 1) (cut offsets targets)))
-            (sym (built-cut offs′ all′ (s + 1) m (more start flags numbers (cut (take (s + 1) offs) (take end all)) s (cut offsets targets)) built))
+            ∙ ap (λ (n : ℕ). newListsFrom K start flags numbers (more K start flags numbers (cut (take (s + 1) offs) (take end all)) s (cut offsets targets)) (drop n (cut offsets targets))) (sym (add-one s))
+            ∙ ap (λ (ls : List (List ℕ)). newListsFrom K start flags numbers ls (drop (s + 1) (cut offsets targets)))
+            (sym (built-cut offs′ all′ (s + 1) m (more K start flags numbers (cut (take (s + 1) offs) (take end all)) s (cut offsets targets)) built))
 
 -- ── all slots ────────────────────────────────────────────────────────────────────────────────
 
@@ -207,7 +209,7 @@ begins (x ∷ xs) all n h = record { count = refl; room = omega arith; filled = 
 pub same-after : (x y : List ℕ) (i v : ℕ) → length x ≡ length (set y i v) → length x ≡ length y
 same-after x y i v e = e ∙ simp length-set
 
-pub lists-named : (r : Grown) (offs all : List ℕ) (s start : ℕ) (flags numbers : List ℕ) (slots : List (List ℕ))
-    → Result r offs all s (newListsFrom start flags numbers [] slots) → numbers ≡ numbersFrom start flags → Result r offs all s (newLists start flags slots)
+pub lists-named : (K : ℕ) → (r : Grown) (offs all : List ℕ) (s start : ℕ) (flags numbers : List ℕ) (slots : List (List ℕ))
+    → Result r offs all s (newListsFrom K start flags numbers [] slots) → numbers ≡ numbersFrom start flags → Result r offs all s (newLists K start flags slots)
 unfolding newLists
-lists-named r offs all s start flags numbers slots k e = rw e at k
+lists-named K r offs all s start flags numbers slots k e = rw e at k

@@ -14,7 +14,6 @@ use Rattle.lists.specs.Lists.{joined, part}
 use Rattle.lists.specs.Order.{climbsTo}
 use Rattle.lists.proofs.Tests.{both}
 use Rattle.lists.proofs.Slices.{slice-join}
-use Rattle.columns.specs.Limits.{kinds}
 use Rattle.columns.specs.EdgeSet.{fromTo, offsetsForm, cut}
 use Rattle.columns.proofs.Offsets.{cut-length, cut-at, low-high}
 
@@ -67,11 +66,11 @@ joined-slots count os all e k (suc n) s h =
 
 -- ── 17's form ────────────────────────────────────────────────────────────────────────────────
 
-module _ (rows count : ℕ) (os : List ℕ) (e : offsetsForm rows count os ≡ true) where
-  pub form-length : length os ≡ kinds * rows + 1
+module _ (K : ℕ) (rows count : ℕ) (os : List ℕ) (e : offsetsForm K rows count os ≡ true) where
+  pub form-length : length os ≡ K * rows + 1
   unfolding offsetsForm
-  form-length = eqb-true _ _ (both (eqb (length os) (kinds * rows + 1)) (fromTo 0 count os) e .0)
+  form-length = eqb-true _ _ (both (eqb (length os) (K * rows + 1)) (fromTo 0 count os) e .0)
 
   pub form-table : fromTo 0 count os ≡ true
   unfolding offsetsForm
-  form-table = both (eqb (length os) (kinds * rows + 1)) (fromTo 0 count os) e .1
+  form-table = both (eqb (length os) (K * rows + 1)) (fromTo 0 count os) e .1

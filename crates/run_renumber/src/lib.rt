@@ -113,7 +113,7 @@ fn add_parent(
     requires { ⌜ (kind < kinds) × ((s < length (now offs)) × (kinds * length (now flags) < length (now offs))) ⌝ }
     requires { ⌜ fromTo 0 base (take (s + 1) (now offs)) ≡ true ⌝ }
     ensures { λ r. ⌜ Exact r base (now (all .entry)) (now (all .exit))
-        (addParent start (now (flags .entry)) (now (numbers .entry)) kind (cut (take (s + 1) (now (offs .entry))) (take base (now (all .entry)))) (slice base end (now (all .entry))) p) ⌝ }
+        (addParent kinds start (now (flags .entry)) (now (numbers .entry)) kind (cut (take (s + 1) (now (offs .entry))) (take base (now (all .entry)))) (slice base end (now (all .entry))) p) ⌝ }
 {
     if p < start {
         return push(all, base, end, p);
@@ -149,7 +149,7 @@ fn new_list(
     requires { ⌜ (kind < kinds) × ((s < length (now offs)) × (kinds * length (now flags) < length (now offs))) ⌝ }
     requires { ⌜ fromTo 0 base (take (s + 1) (now offs)) ≡ true ⌝ }
     ensures { λ r. ⌜ Exact r base (now (all .entry)) (now (all .exit))
-        (newList start (now (flags .entry)) (now (numbers .entry)) kind (cut (take (s + 1) (now (offs .entry))) (take base (now (all .entry)))) (slice a b (now (parents .entry)))) ⌝ }
+        (newList kinds start (now (flags .entry)) (now (numbers .entry)) kind (cut (take (s + 1) (now (offs .entry))) (take base (now (all .entry)))) (slice a b (now (parents .entry)))) ⌝ }
 {
     let mut n = base;
     let mut i = a;
@@ -191,12 +191,12 @@ fn add_slot(
     s: usize,
     end: usize,
 ) -> Grown
-    requires { ⌜ offsetsForm (length (now flags)) (length (now targets)) (now offsets) ≡ true ⌝ }
+    requires { ⌜ offsetsForm kinds (length (now flags)) (length (now targets)) (now offsets) ≡ true ⌝ }
     requires { ⌜ (s < kinds * length (now flags)) × ((kinds * length (now flags) < length (now offs)) × (length (now offsets) ≡ kinds * length (now flags) + 1)) ⌝ }
     requires { ⌜ Built (now offs) (now all) s end (cut (take (s + 1) (now offs)) (take end (now all))) ⌝ }
     ensures { λ r. ⌜ Result r (now (offs .exit)) (now (all .exit)) (s + 1)
         (cut (take (s + 1) (now (offs .entry))) (take end (now (all .entry)))
-        ++ (newList start (now (flags .entry)) (now (numbers .entry)) (s % kinds) (cut (take (s + 1) (now (offs .entry))) (take end (now (all .entry)))) (getD (cut (now (offsets .entry)) (now (targets .entry))) s []) ∷ [])) ⌝ }
+        ++ (newList kinds start (now (flags .entry)) (now (numbers .entry)) (s % kinds) (cut (take (s + 1) (now (offs .entry))) (take end (now (all .entry)))) (getD (cut (now (offsets .entry)) (now (targets .entry))) s []) ∷ [])) ⌝ }
 {
     let a = index(offsets[s]);
     let b = index(offsets[s + 1]);
@@ -232,11 +232,11 @@ fn add_slots(
     offs: &mut [u64],
     all: &mut [u64],
 ) -> Grown
-    requires { ⌜ offsetsForm (length (now flags)) (length (now targets)) (now offsets) ≡ true ⌝ }
+    requires { ⌜ offsetsForm kinds (length (now flags)) (length (now targets)) (now offsets) ≡ true ⌝ }
     requires { ⌜ kinds * length (now flags) < length (now offs) ⌝ }
     requires { ⌜ Built (now offs) (now all) 0 0 [] ⌝ }
     ensures { λ r. ⌜ Result r (now (offs .exit)) (now (all .exit)) (kinds * length (now (flags .entry)))
-        (newListsFrom start (now (flags .entry)) (now (numbers .entry)) [] (cut (now (offsets .entry)) (now (targets .entry)))) ⌝ }
+        (newListsFrom kinds start (now (flags .entry)) (now (numbers .entry)) [] (cut (now (offsets .entry)) (now (targets .entry)))) ⌝ }
 {
     let slots = KINDS * flags.len();
     let mut end: usize = 0;
@@ -266,11 +266,11 @@ pub fn put_lists(
     offs: &mut [u64],
     all: &mut [u64],
 ) -> Grown
-    requires { ⌜ offsetsForm (length (now flags)) (length (now targets)) (now offsets) ≡ true ⌝ }
+    requires { ⌜ offsetsForm kinds (length (now flags)) (length (now targets)) (now offsets) ≡ true ⌝ }
     requires { ⌜ (kinds * length (now flags) < length (now offs)) × (length (now flags) ≤ length (now numbers)) ⌝ }
     requires { ⌜ take (length (now flags)) (now numbers) ≡ numbersFrom start (now flags) ⌝ }
     ensures { λ r. ⌜ Result r (now (offs .exit)) (now (all .exit)) (kinds * length (now (flags .entry)))
-        (newLists start (now (flags .entry)) (cut (now (offsets .entry)) (now (targets .entry)))) ⌝ }
+        (newLists kinds start (now (flags .entry)) (cut (now (offsets .entry)) (now (targets .entry)))) ⌝ }
 {
     offs[0] = 0;
     let n = flags.len();
@@ -305,9 +305,9 @@ fn names_erased(start: u64, flags: &[u8], targets: &[u64], a: usize, b: usize) -
 
 // Whether the i-th event survives and names an erased parent. Its lists of all kinds stand one after the other.
 fn is_reparented(start: u64, flags: &[u8], offsets: &[u64], targets: &[u64], i: usize) -> bool
-    requires { ⌜ offsetsForm (length (now flags)) (length (now targets)) (now offsets) ≡ true ⌝ }
+    requires { ⌜ offsetsForm kinds (length (now flags)) (length (now targets)) (now offsets) ≡ true ⌝ }
     requires { ⌜ (i < length (now flags)) × (length (now offsets) ≡ kinds * length (now flags) + 1) ⌝ }
-    ensures { λ r. ⌜ r ≡ isReparented start (now (flags .entry)) (cut (now (offsets .entry)) (now (targets .entry))) i ⌝ }
+    ensures { λ r. ⌜ r ≡ isReparented kinds start (now (flags .entry)) (cut (now (offsets .entry)) (now (targets .entry))) i ⌝ }
 {
     if flags[i] != 0 {
         return false;
@@ -320,8 +320,8 @@ fn is_reparented(start: u64, flags: &[u8], offsets: &[u64], targets: &[u64], i: 
 
 // How many survivors name an erased parent.
 pub fn count_reparented(start: u64, flags: &[u8], offsets: &[u64], targets: &[u64]) -> usize
-    requires { ⌜ offsetsForm (length (now flags)) (length (now targets)) (now offsets) ≡ true ⌝ }
-    ensures { λ r. ⌜ r ≡ reparented start (now (flags .entry)) (cut (now (offsets .entry)) (now (targets .entry))) ⌝ }
+    requires { ⌜ offsetsForm kinds (length (now flags)) (length (now targets)) (now offsets) ≡ true ⌝ }
+    ensures { λ r. ⌜ r ≡ reparented kinds start (now (flags .entry)) (cut (now (offsets .entry)) (now (targets .entry))) ⌝ }
 {
     let mut n: usize = 0;
     let mut i: usize = 0;

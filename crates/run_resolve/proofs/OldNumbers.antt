@@ -9,6 +9,8 @@ use lib.Dec.{eqb}
 use lib.ListN.{length, getD, take}
 use lib.Seq.{getD-take}
 use borrow.Author.Tests.{le-leb, lt-leb, lt-ltb, le-ltb, eq-eqb, ne-eqb}
+use Rattle.columns.specs.Limits.{kinds}
+use Rattle.columns.proofs.Served.{kinds-served}
 use Rattle.columns.specs.Building.{inFile}
 use Rattle.run_renumber.specs.Numbers.{numbersFrom}
 use Rattle.cleaning.specs.Archive.{Archive}
@@ -47,7 +49,7 @@ either : (b : Bool) (x : ℕ) → cond (not b) none (some x) ≡ cond b (some x)
 either true x = refl
 either false x = refl
 
-module _ (A : Archive) (flags : List ℕ) (slots : List (List ℕ)) (c : Columns A flags slots) (old : ℕ) where
+module _ (A : Archive) (flags : List ℕ) (slots : List (List ℕ)) (c : Columns kinds A flags slots) (old : ℕ) where
   events : length (A .events) ≡ length flags
   events = flags-length (A .events) flags (c .erased)
 
@@ -63,7 +65,7 @@ module _ (A : Archive) (flags : List ℕ) (slots : List (List ℕ)) (c : Columns
   unfolding mapped inFile newNumber rowNumber
   maps-row h k =
       let l : old < A .start + length (A .events) = omega (arith, events) in
-      rw (le-leb (A .start) old h, lt-ltb old (A .start + length (A .events)) l, erased-says A flags slots c old, numbers-new A flags slots c old h l)
+      rw (le-leb (A .start) old h, lt-ltb old (A .start + length (A .events)) l, erased-says kinds kinds-served A flags slots c old, numbers-new kinds kinds-served A flags slots c old h l)
       (either (eqb (getD flags (old - A .start) 0) 0) (renumber A old))
 
 -- ── a run ────────────────────────────────────────────────────────────────────────────────────
@@ -78,9 +80,9 @@ module _ (h : Held) (ok : heldOk h ≡ true) (o : ordered (h .sheet) ≡ true) (
   slots : List (List ℕ)
   slots = slotsIn (h .sheet .rows .count) (h .sheet .edges)
 
-  columns : Columns (archiveIn h) (flagsIn h) slots
+  columns : Columns kinds (archiveIn h) (flagsIn h) slots
   unfolding slots heldIn sheetIn
-  columns = held-columns (heldIn h) (neat-held h long ok o .rows) (flagsIn h) refl
+  columns = held-columns kinds kinds-served (heldIn h) (neat-held h long ok o .rows) (flagsIn h) refl
 
   module _ (old : ℕ) where
     pub mapped-before : old < h .sheet .start → Nothing ≡ mappedOf (mapped (archiveIn h) old)

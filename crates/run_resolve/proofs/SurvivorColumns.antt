@@ -11,7 +11,8 @@ use lib.Seq.{length-take-le}
 use borrow.Author.Tests.{le-leb, lt-ltb}
 use Rattle.lists.specs.Lists.{all, upFrom}
 use Rattle.lists.proofs.Tests.{both}
-use Rattle.columns.specs.Limits.{maxRecords, maxNumbers, maxGroups, maxSubject, end64}
+use Rattle.columns.specs.Limits.{kinds, maxRecords, maxNumbers, maxGroups, maxSubject, end64}
+use Rattle.columns.proofs.Served.{kinds-served}
 use Rattle.columns.specs.Building.{inFile, slotRules}
 use Rattle.run_renumber.specs.NewLists.{newLists}
 use Rattle.cleaning.specs.Sections.{Tidy, reaches}
@@ -55,7 +56,7 @@ module _ (h : Held) (ok : heldOk h ≡ true) (o : ordered (h .sheet) ≡ true) (
   unfolding heldOk
   sheet-ok = both (sheetOk (h .sheet)) _ ok .0
 
-  neat : Neat (heldIn h)
+  neat : Neat kinds (heldIn h)
   neat = neat-held h long ok o
 
   pub flags-room : h .sheet .rows .count ≤ length (h .erased)
@@ -72,24 +73,24 @@ module _ (h : Held) (ok : heldOk h ≡ true) (o : ordered (h .sheet) ≡ true) (
 
   -- the new lists of the columns are those of the archive
   pub lists-renewed : (q : Renewed)
-      → Renewal (flagsIn h) (newLists (h .sheet .start) (flagsIn h) (slotsIn (h .sheet .rows .count) (h .sheet .edges))) q → ListsRenewed h q
+      → Renewal (flagsIn h) (newLists kinds (h .sheet .start) (flagsIn h) (slotsIn (h .sheet .rows .count) (h .sheet .edges))) q → ListsRenewed h q
   unfolding heldIn sheetIn newIn
   lists-renewed q k =
-      let v = neat-valid (heldIn h) neat in
+      let v = neat-valid kinds kinds-served (heldIn h) neat in
       record {
-        over = k .over ∙ ap (ltb maxNumbers) (held-entries (heldIn h) (neat .rows) (flagsIn h) refl v);
-        kept = λ f. subst (λ ls. EdgesKept (flagsIn h) ls (q .edges)) (held-lists (heldIn h) (neat .rows) (flagsIn h) refl v) (k .kept f);
+        over = k .over ∙ ap (ltb maxNumbers) (held-entries kinds kinds-served (heldIn h) (neat .rows) (flagsIn h) refl v);
+        kept = λ f. subst (λ ls. EdgesKept (flagsIn h) ls (q .edges)) (held-lists kinds kinds-served (heldIn h) (neat .rows) (flagsIn h) refl v) (k .kept f);
       }
 
   -- ── the columns of the survivors ───────────────────────────────────────────────────────────
 
   module _ (e : Edges) (k : EdgesKept (flagsIn h) (newIn h) e) (s : Sheet) (m : SheetKept (flagsIn h) e (h .sheet) s) (l : LongSheet s) where
-    stands : sheetIn s ≡ survivorSheet (heldIn h) (newIn h)
+    stands : sheetIn s ≡ survivorSheet kinds (heldIn h) (newIn h)
     stands = sheet-survives h (newIn h) e s flags-count k m
 
-    tidy : Tidy (sheetIn s)
+    tidy : Tidy kinds (sheetIn s)
     unfolding newIn
-    tidy = subst Tidy (sym stands) (survivors-tidy (heldIn h) neat)
+    tidy = subst (Tidy kinds) (sym stands) (survivors-tidy kinds kinds-served (heldIn h) neat)
 
     few-rows : s .rows .count ≤ h .sheet .rows .count
     unfolding survive gone
@@ -132,9 +133,9 @@ module _ (h : Held) (ok : heldOk h ≡ true) (o : ordered (h .sheet) ≡ true) (
     unfolding newIn heldIn sheetIn survivorSheet gone
     in-turn = rw (m .start, m .rows .count, m .edges, k .slots) (survivors-earlier (heldIn h) neat)
 
-    parents-once : slotRules ((sheetIn s) .start) 0 ((sheetIn s) .lists) ≡ none
+    parents-once : slotRules kinds ((sheetIn s) .start) 0 ((sheetIn s) .lists) ≡ none
     unfolding newIn
-    parents-once = rw stands (survivors-once (heldIn h) neat)
+    parents-once = rw stands (survivors-once kinds kinds-served (heldIn h) neat)
 
     named-once : onceOk s ≡ true
     unfolding onceOk sheetIn
@@ -153,5 +154,5 @@ module _ (h : Held) (ok : heldOk h ≡ true) (o : ordered (h .sheet) ≡ true) (
       once = named-once;
       reached = filled-sheet s l fine
           ∙ ap (λ x. reaches (length (x .groups)) 0 (x .rowGroups)) stands
-          ∙ sym (held-survive (heldIn h) (neat .rows) (neat .tidy));
+          ∙ sym (held-survive kinds kinds-served (heldIn h) (neat .rows) (neat .tidy));
     }

@@ -6,7 +6,7 @@ use mathlib.Core.Option.{Option}
 use Prim.Native.Nat.{ℕ}
 use lib.Dec.{ltb}
 use lib.ListN.{length, take}
-use Rattle.columns.specs.Limits.{maxNumbers}
+use Rattle.columns.specs.Limits.{kinds, maxNumbers}
 use Rattle.columns.specs.declared.refusal.Refusal.{Refusal}
 use Rattle.columns.specs.Answers.{ruling}
 use Rattle.columns.specs.declared.refusal.Ruling.the-variants.{Kept}
@@ -27,7 +27,7 @@ use Rattle.run_resolve.specs.declared.Resolution.{Resolution}
 
 -- the archive that columns hold
 abbrev pub archiveIn : Held → Archive
-archiveIn h = archiveHeld (heldIn h)
+archiveIn h = archiveHeld kinds (heldIn h)
 
 -- the flags of the rows
 abbrev pub flagsIn : Held → List ℕ
@@ -35,20 +35,20 @@ flagsIn h = take (h .sheet .rows .count) (h .erased)
 
 -- every event's new lists, slot by slot
 unfoldable pub newIn : Held → List (List ℕ)
-newIn h = slotted (length ((archiveIn h) .events)) (tables (archiveIn h))
+newIn h = slotted (length ((archiveIn h) .events)) (tables kinds (archiveIn h))
 
 -- 24, 43, 27
 unfoldable pub rulesIn : Held → Option Refusal
-rulesIn h = heldRules (heldIn h) (archiveIn h) (tables (archiveIn h))
+rulesIn h = heldRules (heldIn h) (archiveIn h) (tables kinds (archiveIn h))
 
 -- whether all new lists are over the limit; the survivors' lists where they are not
 pub record ListsRenewed (h : Held) (q : Renewed) : Type 0 where
-  pub over : q .over ≡ ltb maxNumbers (entries (tables (archiveIn h)))
+  pub over : q .over ≡ ltb maxNumbers (entries (tables kinds (archiveIn h)))
   pub kept : q .over ≡ false → EdgesKept (flagsIn h) (newIn h) (q .edges)
 
 -- the sheet of the survivors, valid and in order, with lists that name each parent once; every group has a row where every group has a survivor
 pub record SurvivorsIn (h : Held) (s : Sheet) : Type 0 where
-  pub view : sheetIn s ≡ survivorSheet (heldIn h) (newIn h)
+  pub view : sheetIn s ≡ survivorSheet kinds (heldIn h) (newIn h)
   pub valid : sheetOk s ≡ true
   pub inOrder : ordered s ≡ true
   pub once : onceOk s ≡ true
@@ -57,7 +57,7 @@ pub record SurvivorsIn (h : Held) (s : Sheet) : Type 0 where
 -- the first broken rule; where there is none, the sheet of the survivors, to be written group by group
 pub record ResolvedBy (h : Held) (r : Resolution) : Type 0 where
   pub ruled : r .ruling ≡ ruling (rulesIn h)
-  pub view : r .ruling ≡ Kept → sheetIn (r .sheet) ≡ survivorSheet (heldIn h) (newIn h)
+  pub view : r .ruling ≡ Kept → sheetIn (r .sheet) ≡ survivorSheet kinds (heldIn h) (newIn h)
   pub valid : r .ruling ≡ Kept → sheetOk (r .sheet) ≡ true
   pub inOrder : r .ruling ≡ Kept → ordered (r .sheet) ≡ true
   pub whole : r .ruling ≡ Kept → filled (r .sheet) ≡ true

@@ -4,6 +4,7 @@ ghost use mathlib.Core.Path.{_≡_};
 ghost use mathlib.Core.Bool.{true};
 ghost use Prim.Native.Nat.{_+_, _^_, _-_, _≤_, _<_};
 ghost use lib.ListN.{length};
+ghost use Rattle.columns.specs.Limits.{kinds};
 ghost use Rattle.cleaning.specs.Cleaning.{mapped};
 ghost use Rattle.cleaning.specs.Held.{archiveHeld};
 ghost use Rattle.run_state.specs.View.{heldIn};
@@ -32,7 +33,7 @@ fn row_number(flags: &[u8], start: u64, i: usize) -> Mapped
 // The new number of the event of an old number: nothing where no event has it, or where the event is erased.
 pub fn new_number(h: Held, old: u64) -> Mapped
     requires { ⌜ (heldOk h ≡ true) × (ordered (h .sheet) ≡ true) ⌝ }
-    ensures { λ r. ⌜ r ≡ mappedOf (mapped (archiveHeld (heldIn h)) old) ⌝ }
+    ensures { λ r. ⌜ r ≡ mappedOf (mapped (archiveHeld kinds (heldIn h)) old) ⌝ }
 {
     run_state::order::long::held_long(h);
     let start = h.sheet.start;

@@ -5,6 +5,7 @@ ghost use mathlib.Core.Path.{_≡_};
 ghost use mathlib.Core.Bool.{true};
 ghost use Prim.Native.Nat.{_+_, _*_, _^_, _-_, _≤_};
 ghost use lib.ListN.{length, take};
+ghost use Rattle.columns.specs.Limits.{kinds};
 ghost use Rattle.columns.specs.EdgeSet.{offsetsForm, cut};
 ghost use Rattle.run_renumber.specs.NewLists.{newLists};
 ghost use Rattle.run_renumber.specs.Answers.{Result};
@@ -32,9 +33,9 @@ fn put_all(
 ) -> Grown
     requires { ⌜ (n ≤ 1024) × ((length (now flags) ≡ 1024) × (start + n ≤ 2 ^ 64 - 1)) ⌝ }
     requires { ⌜ (m ≤ 4096) × ((length (now offsets) ≡ 2049) × (length (now targets) ≡ 4096)) ⌝ }
-    requires { ⌜ offsetsForm n m (take (2 * n + 1) (now offsets)) ≡ true ⌝ }
+    requires { ⌜ offsetsForm kinds n m (take (2 * n + 1) (now offsets)) ≡ true ⌝ }
     ensures { λ r. ⌜ Result r (now (offs .exit)) (now (all .exit)) (2 * n)
-        (newLists start (take n (now (flags .entry))) (cut (take (2 * n + 1) (now (offsets .entry))) (take m (now (targets .entry))))) ⌝ }
+        (newLists kinds start (take n (now (flags .entry))) (cut (take (2 * n + 1) (now (offsets .entry))) (take m (now (targets .entry))))) ⌝ }
     ensures { λ _. ⌜ length (now (all .exit)) ≡ 4096 ⌝ }
 {
     let k = 2 * n + 1;
@@ -62,7 +63,7 @@ fn keep_all(
 ) -> usize
     requires { ⌜ (n ≤ 1024) × (length (now flags) ≡ 1024) ⌝ }
     requires { ⌜ (m ≤ 4096) × ((length (now offsets) ≡ 2049) × (length (now targets) ≡ 4096)) ⌝ }
-    requires { ⌜ offsetsForm n m (take (2 * n + 1) (now offsets)) ≡ true ⌝ }
+    requires { ⌜ offsetsForm kinds n m (take (2 * n + 1) (now offsets)) ≡ true ⌝ }
     ensures { λ r. ⌜ EdgesKept (take n (now (flags .entry))) (cut (take (2 * n + 1) (now (offsets .entry))) (take m (now (targets .entry)))) (edgesOf r (now (offs .exit)) (now (all .exit))) ⌝ }
 {
     let k = 2 * n + 1;
@@ -82,7 +83,7 @@ pub fn renew(
 ) -> Grown
     requires { ⌜ (n ≤ 1024) × ((length (now flags) ≡ 1024) × (start + n ≤ 2 ^ 64 - 1)) ⌝ }
     requires { ⌜ edgesOk n (edgesOf count (now offsets) (now targets)) ≡ true ⌝ }
-    ensures { λ r. ⌜ Renewal (take n (now (flags .entry))) (newLists start (take n (now (flags .entry))) (slotsIn n (edgesOf count (now (offsets .entry)) (now (targets .entry))))) (renewedOf r (now (offsets .exit)) (now (targets .exit))) ⌝ }
+    ensures { λ r. ⌜ Renewal (take n (now (flags .entry))) (newLists kinds start (take n (now (flags .entry))) (slotsIn n (edgesOf count (now (offsets .entry)) (now (targets .entry))))) (renewedOf r (now (offsets .exit)) (now (targets .exit))) ⌝ }
 {
     let g = put_all(start, n, count, flags, offsets, targets, offs, all);
     match g {
@@ -98,7 +99,7 @@ pub fn renew(
 pub fn new_edges(start: u64, n: usize, flags: &[u8], e: Edges) -> Renewed
     requires { ⌜ (n ≤ 1024) × ((length (now flags) ≡ 1024) × (start + n ≤ 2 ^ 64 - 1)) ⌝ }
     requires { ⌜ edgesOk n e ≡ true ⌝ }
-    ensures { λ r. ⌜ Renewal (take n (now (flags .entry))) (newLists start (take n (now (flags .entry))) (slotsIn n e)) r ⌝ }
+    ensures { λ r. ⌜ Renewal (take n (now (flags .entry))) (newLists kinds start (take n (now (flags .entry))) (slotsIn n e)) r ⌝ }
 {
     let mut offsets = e.offsets;
     let mut targets = e.targets;

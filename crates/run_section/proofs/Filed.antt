@@ -8,6 +8,7 @@ use native.Mathlib.Omega.{arith}
 use lib.ListN.{length, getD, drop}
 use Rattle.lists.specs.Lists.{joined, part}
 use Rattle.columns.specs.Limits.{kinds, end64}
+use Rattle.columns.proofs.Served.{kinds-served}
 use Rattle.columns.specs.EdgeSet.{EdgeSet, cut, setOf}
 use Rattle.columns.specs.Building.{Built, slotRules, builtOf, within}
 use Rattle.archive.specs.File.{File}
@@ -43,11 +44,11 @@ module _ (z : Counts) (subject : List ℕ) (groups : Groups) (rows unresolved ro
     unfolding sheetOf
     all-is = rw (rows-count z subject groups rows unresolved roots links offsets targets)
 
-    lists-are : sectionLists S g ≡ listsAt s offsets targets
+    lists-are : sectionLists kinds S g ≡ listsAt s offsets targets
     unfolding sheetOf
     lists-are = rw (start-is z subject groups rows unresolved roots links offsets targets g s h, rows-are z subject groups rows unresolved roots links offsets targets g s h)
 
-    children-are : sectionChildren S g ≡ listsAt s starts kids
+    children-are : sectionChildren kinds S g ≡ listsAt s starts kids
     children-are =
         rw (
           all-children z subject groups rows unresolved roots links offsets targets g s h ready there children,
@@ -55,14 +56,14 @@ module _ (z : Counts) (subject : List ℕ) (groups : Groups) (rows unresolved ro
           rows-are z subject groups rows unresolved roots links offsets targets g s h,
         )
 
-    pub sets-are : builtOf (sectionGraph S g) ≡ setsAt z s offsets targets starts kids
+    pub sets-are : builtOf kinds (sectionGraph kinds S g) ≡ setsAt z s offsets targets starts kids
     unfolding setsOver
     sets-are =
-        section-built S (ready .tidy) g (same-once z subject groups rows unresolved roots links offsets targets g s h ready there children)
+        section-built kinds kinds-served S (ready .tidy) g (same-once z subject groups rows unresolved roots links offsets targets g s h ready there children)
         (same-end z subject groups rows unresolved roots links offsets targets g s h ready there children)
         ∙ rw (first-is, last-is, all-is, lists-are, children-are)
 
-    pub file-is : sectionFile S g ≡ fileAt z subject groups g s rows unresolved roots (setsAt z s offsets targets starts kids)
+    pub file-is : sectionFile kinds S g ≡ fileAt z subject groups g s rows unresolved roots (setsAt z s offsets targets starts kids)
         (coverWhere ((factsAt groups g) .covered) (sectionLabels S g) (linksAt s links))
     unfolding sectionFile fileAt sheetOf
     file-is =

@@ -7,7 +7,7 @@ use Prim.Native.Nat.{ℕ, suc, _+_, _-_, _*_, _≤_, _<_}
 use native.Mathlib.Numerals.{add-one}
 use native.Mathlib.Omega.{arith}
 use lib.ListN.{length, getD, drop}
-use Rattle.columns.specs.Limits.{maxSubject}
+use Rattle.columns.specs.Limits.{kinds, maxSubject}
 use Rattle.columns.specs.Building.{buildRules}
 use Rattle.columns.specs.Answers.{ruling}
 use Rattle.columns.specs.declared.refusal.Ruling.the-variants.{Kept}
@@ -91,13 +91,13 @@ module _ (z : Counts) (subject : List ℕ) (groups : Groups) (rows unresolved ro
               ap length labels ∙ length-several 4 labelHere (rowsAt z rows g) (drop (startAt z rows g * 4) rows) ∙ rw (e, ← at .rows-at .from-is, ← at .rows-at .to-is)
 
           module _ (m : Measured) (measured : SectionMeasured z (length subject) (f .known) (f .rises) (f .to - f .from) s unresolved offsets targets starts kids m) where
-            rules-told : m .ruling ≡ ruling (buildRules (sectionGraph S g))
+            rules-told : m .ruling ≡ ruling (buildRules kinds (sectionGraph kinds S g))
             unfolding faultsAt
             rules-told =
                 measured .rules ∙ ap ruling (sym (rules-are z subject groups rows unresolved roots links offsets targets g s at ready there children (facts .known-is)
                 (facts .rises-is ∙ counted .rises-at g there ∙ sym (rises-section z subject groups rows unresolved roots links offsets targets (ready .sorted .by-group) g))))
 
-            size-told : m .ruling ≡ Kept → m .length ≡ length (fileBytes (sectionFile S g))
+            size-told : m .ruling ≡ Kept → m .length ≡ length (fileBytes (sectionFile kinds S g))
             unfolding sizeBy factsAt
             size-told k =
                 let lists = both-lists children in

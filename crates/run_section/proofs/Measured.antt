@@ -9,6 +9,7 @@ use lib.ListN.{length, getD, drop, length-map}
 use Rattle.lists.specs.Lists.{joined}
 use Rattle.lists.proofs.Flat.{length-starts, length-joined}
 use Rattle.columns.specs.Limits.{kinds}
+use Rattle.columns.proofs.Served.{kinds-served}
 use Rattle.columns.specs.EdgeSet.{EdgeSet, offsetsForm, setOf}
 use Rattle.columns.specs.Reading.{Label}
 use Rattle.columns.specs.Building.{rowsWithin, Built}
@@ -38,14 +39,14 @@ use Rattle.run_section.specs.Measures.{sizeBy}
 
 -- ── sets ─────────────────────────────────────────────────────────────────────────────────────
 
-module _ (first low high a n rows : ℕ) (offsets targets : List ℕ) (form : offsetsForm rows (length targets) offsets ≡ true) (there : a + n ≤ rows) where
-  pub set-has : {k : ℕ} → k ≡ setOf first (rowsWithin low high a n offsets targets) .count → SetHas n k (setOf first (rowsWithin low high a n offsets targets))
+module _ (first low high a n rows : ℕ) (offsets targets : List ℕ) (form : offsetsForm kinds rows (length targets) offsets ≡ true) (there : a + n ≤ rows) where
+  pub set-has : {k : ℕ} → k ≡ setOf kinds first (rowsWithin kinds low high a n offsets targets) .count → SetHas n k (setOf kinds first (rowsWithin kinds low high a n offsets targets))
   unfolding setOf
   set-has e =
-      let lists = rowsWithin low high a n offsets targets in
+      let lists = rowsWithin kinds low high a n offsets targets in
       record {
-        offsets = omega (arith, length-starts 0 lists, section-long low high a n offsets targets (omega (arith, form-length rows (length targets) offsets form)));
-        deltas = length-deltas first lists ∙ sym (length-joined lists) ∙ sym e;
+        offsets = omega (arith, length-starts 0 lists, section-long kinds low high a n offsets targets (omega (arith, form-length kinds rows (length targets) offsets form)));
+        deltas = length-deltas kinds kinds-served first lists ∙ sym (length-joined lists) ∙ sym e;
       }
 
 -- ── covers ───────────────────────────────────────────────────────────────────────────────────

@@ -13,6 +13,7 @@ use borrow.Author.Tests.{le-leb}
 use Rattle.lists.specs.Lists.{all, part, upFrom}
 use Rattle.lists.proofs.Flat.{length-map-upFrom, getD-map-upFrom}
 use Rattle.columns.specs.Limits.{kinds, end64, maxSubject}
+use Rattle.columns.proofs.Served.{kinds-served}
 use Rattle.columns.specs.Refusal.{refuse, firstOf}
 use Rattle.columns.specs.EdgeSet.{cut}
 use Rattle.columns.specs.Building.{subjectOk, depthOk, slotRules, seqsRise, deltasFit, buildRules}
@@ -128,7 +129,7 @@ module _ (z : Counts) (subject : List ℕ) (groups : Groups) (rows unresolved ro
 
     module _ (ready : Ready z subject groups rows unresolved roots links offsets targets) (there : g < groups .count) {starts kids : List ℕ}
         (children : Children z offsets targets starts kids) where
-      pub same-once : slotRules (S .start) 0 (S .lists) ≡ none
+      pub same-once : slotRules kinds (S .start) 0 (S .lists) ≡ none
       unfolding sheetOf
       same-once = ready .once
 
@@ -136,15 +137,15 @@ module _ (z : Counts) (subject : List ℕ) (groups : Groups) (rows unresolved ro
       unfolding sheetOf
       same-end = omega (arith, rows-count, ready .few .end)
 
-      lists-are : deltasFit (sectionFirst S g) (sectionLists S g) ≡ spansIn (z .start) (s .rows .from) (s .rows .to - s .rows .from) offsets targets
+      lists-are : deltasFit kinds (sectionFirst S g) (sectionLists kinds S g) ≡ spansIn (z .start) (s .rows .from) (s .rows .to - s .rows .from) offsets targets
       unfolding sheetOf spansIn
       lists-are = rw (start-is, rows-are)
 
-      pub all-children : childLists S ≡ cut starts kids
+      pub all-children : childLists kinds S ≡ cut starts kids
       unfolding childLists sheetOf
       all-children = rw (rows-count) (sym (children .are))
 
-      children-are : deltasFit (sectionFirst S g) (sectionChildren S g) ≡ spansIn (z .start) (s .rows .from) (s .rows .to - s .rows .from) starts kids
+      children-are : deltasFit kinds (sectionFirst S g) (sectionChildren kinds S g) ≡ spansIn (z .start) (s .rows .from) (s .rows .to - s .rows .from) starts kids
       unfolding sheetOf spansIn
       children-are = rw (all-children, start-is, rows-are)
 
@@ -156,12 +157,12 @@ module _ (z : Counts) (subject : List ℕ) (groups : Groups) (rows unresolved ro
       kinds-are = ap (all kindFits) unresolved-are
 
       pub rules-are : {k : Known} {rises : Bool} → KnownOf groups g k → rises ≡ seqsRise [] (sectionLabels S g)
-          → buildRules (sectionGraph S g) ≡ faults (ltb 0 (length subject))
+          → buildRules kinds (sectionGraph kinds S g) ≡ faults (ltb 0 (length subject))
           (all kindFits (several 3 unresolvedIn (s .unresolved .to - s .unresolved .from) (drop (s .unresolved .from * 3) unresolved))) (depthOk (depthIn k)) rises
           (spansIn (z .start) (s .rows .from) (s .rows .to - s .rows .from) offsets targets && spansIn (z .start) (s .rows .from) (s .rows .to - s .rows .from) starts kids)
       unfolding sectionFaults faults
       rules-are known up =
           let x = spansIn (z .start) (s .rows .from) (s .rows .to - s .rows .from) offsets targets in
           let y = spansIn (z .start) (s .rows .from) (s .rows .to - s .rows .from) starts kids in
-          section-rules S (ready .tidy) g same-once same-end
+          section-rules kinds kinds-served S (ready .tidy) g same-once same-end
           ∙ rw (named, kinds-are, facts-are g there, ← known .depth-is, ← up, lists-are, children-are) (last-two _ _ _ _ x y)

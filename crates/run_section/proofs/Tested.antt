@@ -10,6 +10,7 @@ use lib.Dec.{ltb, leb}
 use lib.ListN.{length, getD, drop}
 use lib.Seq.{getD-drop}
 use borrow.Author.Tests.{lt-ltb, le-ltb, not-true, not-false}
+use Rattle.columns.specs.Limits.{kinds}
 use Rattle.lists.specs.Lists.{all, part}
 use Rattle.columns.specs.EdgeSet.{cut}
 use Rattle.columns.specs.Refusal.{firstOf}
@@ -55,12 +56,12 @@ module _ {t : Bool} (n i p : ℕ) (l : List ℕ) (e : t ≡ all kindFits (severa
 
 -- ── spans ────────────────────────────────────────────────────────────────────────────────────
 
-module _ (start rows a n : ℕ) (offsets targets starts kids : List ℕ) {x : Bool} (e : x ≡ deltasFit (start + a) (part (2 * a) (2 * n) (cut offsets targets))) where
+module _ (start rows a n : ℕ) (offsets targets starts kids : List ℕ) {x : Bool} (e : x ≡ deltasFit kinds (start + a) (part (2 * a) (2 * n) (cut offsets targets))) where
   pub parents-far : not x ≡ true → false ≡ spansIn start a n offsets targets && spansIn start a n starts kids
   unfolding spansIn
   parents-far h = rw (← e, not-true x h)
 
-  pub parents-near : not x ≡ false → {y : Bool} → y ≡ deltasFit (start + a) (part (2 * a) (2 * n) (cut starts kids))
+  pub parents-near : not x ≡ false → {y : Bool} → y ≡ deltasFit kinds (start + a) (part (2 * a) (2 * n) (cut starts kids))
       → y ≡ spansIn start a n offsets targets && spansIn start a n starts kids
   unfolding spansIn
   parents-near h f = rw (← e, not-false x h) f

@@ -43,9 +43,9 @@ linksAt s links = map (λ l. l .link) (several 5 linkIn (many (s .links)) (drop 
 -- the sets of the rows from row a up to row b: all parents; the children below their end; those from it on
 unfoldable pub setsOver : Counts → ℕ → ℕ → List ℕ → List ℕ → List ℕ → List ℕ → Built
 setsOver z a b offsets targets starts kids = record {
-  forward = setOf (z .start + a) (rowsWithin 0 (z .start + z .rows) a (b - a) offsets targets);
-  reverse = setOf (z .start + a) (rowsWithin 0 (z .start + b) a (b - a) starts kids);
-  inbound = setOf (z .start + a) (rowsWithin (z .start + b) (z .start + z .rows) a (b - a) starts kids);
+  forward = setOf kinds (z .start + a) (rowsWithin kinds 0 (z .start + z .rows) a (b - a) offsets targets);
+  reverse = setOf kinds (z .start + a) (rowsWithin kinds 0 (z .start + b) a (b - a) starts kids);
+  inbound = setOf kinds (z .start + a) (rowsWithin kinds (z .start + b) (z .start + z .rows) a (b - a) starts kids);
 }
 
 -- a section's sets

@@ -7,7 +7,7 @@ use Prim.Native.Nat.{ℕ, _+_, _*_, _≤_, _<_}
 use lib.Dec.{ltb}
 use lib.ListN.{length}
 use Rattle.lists.specs.Lists.{all}
-use Rattle.columns.specs.Limits.{end64, maxRecords}
+use Rattle.columns.specs.Limits.{kinds, end64, maxRecords}
 use Rattle.columns.specs.Building.{Built, depthOk, buildRules}
 use Rattle.columns.specs.Answers.{ruling}
 use Rattle.columns.specs.declared.refusal.Ruling.{Ruling}
@@ -55,6 +55,6 @@ pub record SectionMeasured (z : Counts) (size : ℕ) (k : Known) (rises : Bool) 
 
 -- the first of building's rules that group g breaks; where there is none, how long its file is
 pub record MeasuredGroup (s : Sheet) (g : ℕ) (r : Measured) : Type 0 where
-  pub rules : r .ruling ≡ ruling (buildRules (sectionGraph s g))
-  pub length-is : buildRules (sectionGraph s g) ≡ none → r .length ≡ length (fileBytes (sectionFile s g))
+  pub rules : r .ruling ≡ ruling (buildRules kinds (sectionGraph kinds s g))
+  pub length-is : buildRules kinds (sectionGraph kinds s g) ≡ none → r .length ≡ length (fileBytes (sectionFile kinds s g))
   pub few : r .length ≤ maxFileSize

@@ -57,7 +57,7 @@ pub record Turnable (z : Counts) (e : Edges) : Type 0 where
   pub rows-few : z .rows ≤ 1024
   pub end : z .start + z .rows < end64
   pub in-form : edgesOk (z .rows) e ≡ true
-  pub once : slotRules (z .start) 0 (slotsIn (z .rows) e) ≡ none
+  pub once : slotRules kinds (z .start) 0 (slotsIn (z .rows) e) ≡ none
 
 -- the tables of a sheet, ready to be written, and its lists, ready to be turned
 pub record TablesReady (s : Sheet) (rows unresolved roots links : List ℕ) : Type 0 where

@@ -5,7 +5,7 @@ use mathlib.Core.List.{List}
 use mathlib.Core.Option.{none}
 use Prim.Native.Nat.{ℕ, _+_, _≤_, _<_}
 use lib.ListN.{length}
-use Rattle.columns.specs.Limits.{end64, maxRecords, maxNumbers, maxGroups, maxSubject}
+use Rattle.columns.specs.Limits.{kinds, end64, maxRecords, maxNumbers, maxGroups, maxSubject}
 use Rattle.columns.specs.EdgeSet.{offsetsForm, cut}
 use Rattle.columns.specs.Building.{slotRules, reverseLists}
 use Rattle.cleaning.specs.Sections.{Tidy}
@@ -28,12 +28,12 @@ pub record Few (z : Counts) (subject : List ℕ) (groups : Groups) (targets : Li
 pub record Ready (z : Counts) (subject : List ℕ) (groups : Groups) (rows unresolved roots links offsets targets : List ℕ) : Type 0 where
   pub few : Few z subject groups targets
   pub sorted : Sorted z rows unresolved roots links
-  pub form : offsetsForm (z .rows) (length targets) offsets ≡ true
-  pub once : slotRules (z .start) 0 (cut offsets targets) ≡ none
-  pub tidy : Tidy (sheetOf z subject groups rows unresolved roots links offsets targets)
+  pub form : offsetsForm kinds (z .rows) (length targets) offsets ≡ true
+  pub once : slotRules kinds (z .start) 0 (cut offsets targets) ≡ none
+  pub tidy : Tidy kinds (sheetOf z subject groups rows unresolved roots links offsets targets)
 
 -- the children of every row, in a table of lists of their own
 pub record Children (z : Counts) (offsets targets starts kids : List ℕ) : Type 0 where
-  pub are : cut starts kids ≡ reverseLists (z .start) (z .rows) (cut offsets targets)
-  pub form : offsetsForm (z .rows) (length kids) starts ≡ true
+  pub are : cut starts kids ≡ reverseLists kinds (z .start) (z .rows) (cut offsets targets)
+  pub form : offsetsForm kinds (z .rows) (length kids) starts ≡ true
   pub few : length kids ≤ maxNumbers

@@ -43,11 +43,11 @@ pub record KnownOf (groups : Groups) (g : ℕ) (k : Known) : Type 0 where
 
 -- two tables of lists of the same rows: parents, and children
 pub record Lists (rows : ℕ) (offsets targets starts kids : List ℕ) : Type 0 where
-  pub parents : offsetsForm rows (length targets) offsets ≡ true
-  pub children : offsetsForm rows (length kids) starts ≡ true
+  pub parents : offsetsForm kinds rows (length targets) offsets ≡ true
+  pub children : offsetsForm kinds rows (length kids) starts ≡ true
   pub few-parents : length targets ≤ 4096
   pub few-children : length kids ≤ 4096
 
 -- 15 of the lists of n rows from row a on
 unfoldable pub spansIn : ℕ → ℕ → ℕ → List ℕ → List ℕ → Bool
-spansIn start a n offsets targets = deltasFit (start + a) (part (kinds * a) (kinds * n) (cut offsets targets))
+spansIn start a n offsets targets = deltasFit kinds (start + a) (part (kinds * a) (kinds * n) (cut offsets targets))

@@ -9,7 +9,7 @@ ghost use mathlib.Core.Bool.{true};
 ghost use Prim.Native.Nat.{_+_, _-_, _≤_, _<_};
 ghost use lib.ListN.{length};
 ghost use Rattle.lists.specs.Lists.{joined};
-ghost use Rattle.columns.specs.Limits.{end64, maxRecords, maxSubject, maxNumbers};
+ghost use Rattle.columns.specs.Limits.{kinds, end64, maxRecords, maxSubject, maxNumbers};
 ghost use Rattle.columns.specs.EdgeSet.{offsetsForm};
 ghost use Rattle.columns.specs.Building.{rowsWithin};
 ghost use Rattle.archive_store.specs.sizes.FileSize.{maxFileSize};
@@ -35,8 +35,8 @@ fn count_rows(
     high: u64,
 ) -> usize
     requires { ⌜ (a ≤ b) × ((b ≤ rows) × ((rows ≤ 1024) × (length (now targets) ≤ maxNumbers))) ⌝ }
-    requires { ⌜ offsetsForm rows (length (now targets)) (now offsets) ≡ true ⌝ }
-    ensures { λ r. ⌜ r ≡ length (joined (rowsWithin low high a (b - a) (now (offsets .entry)) (now (targets .entry)))) ⌝ }
+    requires { ⌜ offsetsForm kinds rows (length (now targets)) (now offsets) ≡ true ⌝ }
+    ensures { λ r. ⌜ r ≡ length (joined (rowsWithin kinds low high a (b - a) (now (offsets .entry)) (now (targets .entry)))) ⌝ }
     ensures { λ r. ⌜ r ≤ maxNumbers ⌝ }
 {
     let from = index(offsets[2 * a]);

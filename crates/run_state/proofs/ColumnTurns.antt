@@ -8,6 +8,7 @@ use native.Mathlib.Omega.{arith}
 use lib.ListN.{length, getD, take, drop, drop-of-length-le}
 use lib.Seq.{slice, slice-cons, drop-cons, length-take-le}
 use borrow.Author.Tests.{lt-ltb, le-ltb, not-true, not-false}
+use Rattle.columns.specs.Limits.{kinds}
 use Rattle.lists.specs.Lists.{all}
 use Rattle.lists.proofs.Slices.{slice-none}
 use Rattle.columns.specs.EdgeSet.{offsetsForm, cut, eventOf}
@@ -30,7 +31,7 @@ table-count n l h k = sym (length-take-le (2 * n + 1) l (omega arith))
 pub numbers-count : (n : ℕ) (l : List ℕ) → n ≤ 4096 → length l ≡ 4096 → n ≡ length (take n l)
 numbers-count n l h k = sym (length-take-le n l (omega arith))
 
-pub form-cut : (rows n : ℕ) (os l : List ℕ) → n ≤ 4096 → length l ≡ 4096 → offsetsForm rows n os ≡ true → offsetsForm rows (length (take n l)) os ≡ true
+pub form-cut : (rows n : ℕ) (os l : List ℕ) → n ≤ 4096 → length l ≡ 4096 → offsetsForm kinds rows n os ≡ true → offsetsForm kinds rows (length (take n l)) os ≡ true
 form-cut rows n os l h k e = rw (length-take-le n l (omega arith)) e
 
 -- ── every number of a part of a column passes a test ─────────────────────────────────────────
@@ -67,12 +68,12 @@ module _ {t : Bool} (first end i to : ℕ) (l : List ℕ) (e : t ≡ all (inFile
 
 -- ── slot by slot ─────────────────────────────────────────────────────────────────────────────
 
-pub slot-told : (rows : ℕ) (offsets targets : List ℕ) → offsetsForm rows (length targets) offsets ≡ true → (s : ℕ) → s < 2 * rows → (a b : ℕ) → a ≡ getD offsets s 0
+pub slot-told : (rows : ℕ) (offsets targets : List ℕ) → offsetsForm kinds rows (length targets) offsets ≡ true → (s : ℕ) → s < 2 * rows → (a b : ℕ) → a ≡ getD offsets s 0
     → b ≡ getD offsets (s + 1) 0 → (event f : ℕ) → event ≡ f → {r : Bool} → r ≡ all (below event) (slice a b targets)
     → r ≡ all (below f) (getD (cut offsets targets) s [])
 slot-told rows offsets targets ok s h a b p q event f d k = rw (slot-list rows offsets targets ok s h a b p q, ← d) k
 
-module _ {t : Bool} (first rows s : ℕ) (offsets targets : List ℕ) (ok : offsetsForm rows (length targets) offsets ≡ true)
+module _ {t : Bool} (first rows s : ℕ) (offsets targets : List ℕ) (ok : offsetsForm kinds rows (length targets) offsets ≡ true)
     (e : t ≡ earlier first s (drop s (cut offsets targets))) where
   long : length (cut offsets targets) ≡ 2 * rows
   long = length-cut (2 * rows) 0 offsets targets (table-of rows (length targets) offsets ok .long)
@@ -81,7 +82,7 @@ module _ {t : Bool} (first rows s : ℕ) (offsets targets : List ℕ) (ok : offs
   unfolding earlier
   earlier-done h = rw (e, drop-of-length-le (cut offsets targets) {i = s} (omega (arith, long)))
 
-  module _ (h : s < 2 * rows) {r : Bool} (k : r ≡ all (below (eventOf first s)) (getD (cut offsets targets) s [])) where
+  module _ (h : s < 2 * rows) {r : Bool} (k : r ≡ all (below (eventOf kinds first s)) (getD (cut offsets targets) s [])) where
     here : drop s (cut offsets targets) ≡ getD (cut offsets targets) s [] ∷ drop (suc s) (cut offsets targets)
     here = drop-cons (cut offsets targets) s [] (omega (arith, long))
 
@@ -95,9 +96,9 @@ module _ {t : Bool} (first rows s : ℕ) (offsets targets : List ℕ) (ok : offs
 
 -- ── every slot names its parents once ────────────────────────────────────────────────────────
 
-module _ (first : ℕ) (lists : List (List ℕ)) {r : Ruling} (e : r ≡ ruling (slotRules first 0 lists)) where
-  pub named-once : r ≡ Kept → true ≡ not (isThere (slotRules first 0 lists))
-  named-once k = rw (told-kept (slotRules first 0 lists) e k)
+module _ (first : ℕ) (lists : List (List ℕ)) {r : Ruling} (e : r ≡ ruling (slotRules kinds first 0 lists)) where
+  pub named-once : r ≡ Kept → true ≡ not (isThere (slotRules kinds first 0 lists))
+  named-once k = rw (told-kept (slotRules kinds first 0 lists) e k)
 
-  pub not-once : (x : Refusal) → r ≡ Broken x → false ≡ not (isThere (slotRules first 0 lists))
-  not-once x k = rw (told (slotRules first 0 lists) e k)
+  pub not-once : (x : Refusal) → r ≡ Broken x → false ≡ not (isThere (slotRules kinds first 0 lists))
+  not-once x k = rw (told (slotRules kinds first 0 lists) e k)

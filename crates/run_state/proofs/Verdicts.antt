@@ -10,7 +10,7 @@ use mir.Val.{Fits}
 use borrow.Author.Tests.{le-leb, lt-leb, leb-true, ltb-true, not-true, not-false}
 use Rattle.lists.specs.Lists.{all}
 use Rattle.lists.proofs.Tests.{both}
-use Rattle.columns.specs.Limits.{maxRecords, maxNumbers, maxGroups, maxSubject, end64}
+use Rattle.columns.specs.Limits.{kinds, maxRecords, maxNumbers, maxGroups, maxSubject, end64}
 use Rattle.columns.specs.EdgeSet.{offsetsForm, cut}
 use Rattle.columns.specs.Building.{inFile, numbersOk, slotRules}
 use Rattle.columns_rules.proofs.FileOrder.{numbers-are}
@@ -91,14 +91,14 @@ module _ (n count : ℕ) (offsets : List ℕ) where
   pub many-numbers : 4096 < count → false ≡ tableOk n count offsets
   many-numbers h = rw (lt-leb count maxNumbers h)
 
-  pub table-test : {r : Bool} → count ≤ 4096 → r ≡ offsetsForm n count (take (2 * n + 1) offsets) → r ≡ tableOk n count offsets
+  pub table-test : {r : Bool} → count ≤ 4096 → r ≡ offsetsForm kinds n count (take (2 * n + 1) offsets) → r ≡ tableOk n count offsets
   table-test h k = rw (le-leb count maxNumbers h) k
 
   module _ (h : tableOk n count offsets ≡ true) where
     numbers-few : count ≤ 4096
     numbers-few = leb-true count maxNumbers (both (leb count maxNumbers) _ h .0)
 
-    offsets-form : offsetsForm n count (take (2 * n + 1) offsets) ≡ true
+    offsets-form : offsetsForm kinds n count (take (2 * n + 1) offsets) ≡ true
     offsets-form = both (leb count maxNumbers) _ h .1
 
 module _ (n : ℕ) (e : Edges) (h : edgesOk n e ≡ true) where
@@ -106,7 +106,7 @@ module _ (n : ℕ) (e : Edges) (h : edgesOk n e ≡ true) where
   unfolding edgesOk
   few-numbers = numbers-few n (e .count) (e .offsets) h
 
-  pub in-form : offsetsForm n (e .count) (take (2 * n + 1) (e .offsets)) ≡ true
+  pub in-form : offsetsForm kinds n (e .count) (take (2 * n + 1) (e .offsets)) ≡ true
   unfolding edgesOk
   in-form = offsets-form n (e .count) (e .offsets) h
 
@@ -124,7 +124,7 @@ module _ (z : Sizes) (offsets targets children roots : List ℕ) {a : Bool} (e :
     pub numbers-there : z .numbers ≤ 4096
     numbers-there = numbers-few (z .rows) (z .numbers) offsets table-kept
 
-    pub table-form : offsetsForm (z .rows) (z .numbers) (take (2 * z .rows + 1) offsets) ≡ true
+    pub table-form : offsetsForm kinds (z .rows) (z .numbers) (take (2 * z .rows + 1) offsets) ≡ true
     table-form = offsets-form (z .rows) (z .numbers) offsets table-kept
 
     module _ {b : Bool} (f : b ≡ all (inFile (z .start) (z .start + z .rows)) (take (z .unresolved) children)) where
@@ -199,11 +199,11 @@ module _ (s : Sheet) (k : sheetOk s ≡ true) where
   pub valid-numbers : s .edges .count ≤ 4096
   valid-numbers = few-numbers (s .rows .count) (s .edges) valid-edges
 
-  pub valid-form : offsetsForm (s .rows .count) (s .edges .count) (take (2 * s .rows .count + 1) (s .edges .offsets)) ≡ true
+  pub valid-form : offsetsForm kinds (s .rows .count) (s .edges .count) (take (2 * s .rows .count + 1) (s .edges .offsets)) ≡ true
   valid-form = in-form (s .rows .count) (s .edges) valid-edges
 
 pub once-test : (s : Sheet) {r : Bool}
-    → r ≡ not (isThere (slotRules (s .start) 0 (cut (take (2 * s .rows .count + 1) (s .edges .offsets)) (take (s .edges .count) (s .edges .targets)))))
+    → r ≡ not (isThere (slotRules kinds (s .start) 0 (cut (take (2 * s .rows .count + 1) (s .edges .offsets)) (take (s .edges .count) (s .edges .targets)))))
     → r ≡ onceOk s
 unfolding onceOk slotsIn
 once-test s e = e

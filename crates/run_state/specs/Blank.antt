@@ -2,7 +2,7 @@
 use mathlib.Core.List.{List}
 use Prim.Native.Nat.{ℕ}
 use lib.ListN.{replicate}
-use Rattle.columns.specs.Limits.{maxRecords, maxGroups, maxSubject, offsetsRoom, numbersRoom}
+use Rattle.columns.specs.Limits.{kinds, maxRecords, maxGroups, maxSubject, offsetsRoom, numbersRoom}
 use Rattle.run_state.specs.declared.Edges.{Edges}
 use Rattle.run_state.specs.declared.Ends.{Ends}
 use Rattle.run_state.specs.declared.Held.{Held}
@@ -12,7 +12,7 @@ zeros n = replicate n 0
 
 -- lists of no rows
 abbrev pub noEdges : Edges
-noEdges = record { count = 0; offsets = zeros offsetsRoom; targets = zeros numbersRoom }
+noEdges = record { count = 0; offsets = zeros (offsetsRoom kinds); targets = zeros numbersRoom }
 
 -- one side of no links
 abbrev pub noEnds : Ends

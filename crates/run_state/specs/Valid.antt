@@ -18,7 +18,7 @@ use Rattle.run_state.specs.View.{slotsIn}
 
 -- lists of n rows: no more numbers than there is room for, offsets in form
 abbrev pub tableOk : ℕ → ℕ → List ℕ → Bool
-tableOk n count offsets = leb count maxNumbers && offsetsForm n count (take (kinds * n + 1) offsets)
+tableOk n count offsets = leb count maxNumbers && offsetsForm kinds n count (take (kinds * n + 1) offsets)
 
 unfoldable pub edgesOk : ℕ → Edges → Bool
 edgesOk n e = tableOk n (e .count) (e .offsets)
@@ -37,7 +37,7 @@ below bound n = ltb n bound
 -- every number of the slots from `slot` on is below its event
 unfoldable pub earlier : ℕ → ℕ → List (List ℕ) → Bool
 earlier first slot [] = true
-earlier first slot (ps ∷ lists) = all (below (eventOf first slot)) ps && earlier first (suc slot) lists
+earlier first slot (ps ∷ lists) = all (below (eventOf kinds first slot)) ps && earlier first (suc slot) lists
 
 -- records belong to rows that are there
 unfoldable pub recordsOk : sheets.Sheet → Bool
@@ -63,4 +63,4 @@ heldOk h = sheetOk (h .sheet) && (edgesOk (h .sheet .rows .count) (h .reverse) &
 
 -- no parent at or above its event, none twice in a list: 4 and 5 over all rows
 unfoldable pub onceOk : sheets.Sheet → Bool
-onceOk s = not (isThere (slotRules (s .start) 0 (slotsIn (s .rows .count) (s .edges))))
+onceOk s = not (isThere (slotRules kinds (s .start) 0 (slotsIn (s .rows .count) (s .edges))))

@@ -11,7 +11,7 @@ ghost use Prim.Native.Nat.{_+_, _*_, _≤_, _<_};
 ghost use lib.ListN.{length, getD, take};
 ghost use lib.Seq.{slice};
 ghost use Rattle.lists.specs.Lists.{all};
-ghost use Rattle.columns.specs.Limits.{end64};
+ghost use Rattle.columns.specs.Limits.{kinds, end64};
 ghost use Rattle.columns.specs.EdgeSet.{offsetsForm, cut, eventOf};
 ghost use Rattle.columns.specs.Building.{inFile, slotRules};
 ghost use Rattle.cleaning.specs.Source.{isThere};
@@ -20,7 +20,7 @@ ghost use Rattle.run_state.specs.Valid.{below, earlier};
 // Whether the offsets of n rows are in form.
 pub fn table_ok(n: usize, count: usize, offsets: &[u64]) -> bool
     requires { ⌜ (n ≤ 1024) × (length (now offsets) ≡ 2049) ⌝ }
-    ensures { λ r. ⌜ r ≡ offsetsForm n count (take (2 * n + 1) (now (offsets .entry))) ⌝ }
+    ensures { λ r. ⌜ r ≡ offsetsForm kinds n count (take (2 * n + 1) (now (offsets .entry))) ⌝ }
 {
     let k = 2 * n + 1;
     is_form(n, count as u64, &offsets[..k])
@@ -44,8 +44,8 @@ pub fn are_below(event: u64, targets: &[u64], from: usize, to: usize) -> bool
 // Whether the numbers of slot s are below its event.
 fn slot_earlier(first: u64, rows: usize, offsets: &[u64], targets: &[u64], s: usize) -> bool
     requires { ⌜ (s < 2 * rows) × ((rows ≤ 1024) × (first + rows < end64)) ⌝ }
-    requires { ⌜ offsetsForm rows (length (now targets)) (now offsets) ≡ true ⌝ }
-    ensures { λ r. ⌜ r ≡ all (below (eventOf first s)) (getD (cut (now (offsets .entry)) (now (targets .entry))) s []) ⌝ }
+    requires { ⌜ offsetsForm kinds rows (length (now targets)) (now offsets) ≡ true ⌝ }
+    ensures { λ r. ⌜ r ≡ all (below (eventOf kinds first s)) (getD (cut (now (offsets .entry)) (now (targets .entry))) s []) ⌝ }
 {
     let from = index(offsets[s]);
     let to = index(offsets[s + 1]);
@@ -57,7 +57,7 @@ fn slot_earlier(first: u64, rows: usize, offsets: &[u64], targets: &[u64], s: us
 // Whether every number is below its event.
 fn are_earlier(first: u64, rows: usize, offsets: &[u64], targets: &[u64]) -> bool
     requires { ⌜ (rows ≤ 1024) × (first + rows < end64) ⌝ }
-    requires { ⌜ offsetsForm rows (length (now targets)) (now offsets) ≡ true ⌝ }
+    requires { ⌜ offsetsForm kinds rows (length (now targets)) (now offsets) ≡ true ⌝ }
     ensures { λ r. ⌜ r ≡ earlier first 0 (cut (now (offsets .entry)) (now (targets .entry))) ⌝ }
 {
     let mut s = 0;
@@ -74,7 +74,7 @@ fn are_earlier(first: u64, rows: usize, offsets: &[u64], targets: &[u64]) -> boo
 pub fn order_ok(first: u64, rows: usize, count: usize, offsets: &[u64], targets: &[u64]) -> bool
     requires { ⌜ (rows ≤ 1024) × ((first + rows < end64) × (count ≤ 4096)) ⌝ }
     requires { ⌜ (length (now offsets) ≡ 2049) × (length (now targets) ≡ 4096) ⌝ }
-    requires { ⌜ offsetsForm rows count (take (2 * rows + 1) (now offsets)) ≡ true ⌝ }
+    requires { ⌜ offsetsForm kinds rows count (take (2 * rows + 1) (now offsets)) ≡ true ⌝ }
     ensures { λ r. ⌜ r ≡ earlier first 0 (cut (take (2 * rows + 1) (now (offsets .entry))) (take count (now (targets .entry)))) ⌝ }
 {
     let k = 2 * rows + 1;
@@ -85,8 +85,8 @@ pub fn order_ok(first: u64, rows: usize, count: usize, offsets: &[u64], targets:
 pub fn once_ok(first: u64, rows: usize, count: usize, offsets: &[u64], targets: &[u64]) -> bool
     requires { ⌜ (rows ≤ 1024) × ((first + rows < end64) × (count ≤ 4096)) ⌝ }
     requires { ⌜ (length (now offsets) ≡ 2049) × (length (now targets) ≡ 4096) ⌝ }
-    requires { ⌜ offsetsForm rows count (take (2 * rows + 1) (now offsets)) ≡ true ⌝ }
-    ensures { λ r. ⌜ r ≡ not (isThere (slotRules first 0 (cut (take (2 * rows + 1) (now (offsets .entry))) (take count (now (targets .entry)))))) ⌝ }
+    requires { ⌜ offsetsForm kinds rows count (take (2 * rows + 1) (now offsets)) ≡ true ⌝ }
+    ensures { λ r. ⌜ r ≡ not (isThere (slotRules kinds first 0 (cut (take (2 * rows + 1) (now (offsets .entry))) (take count (now (targets .entry)))))) ⌝ }
 {
     let k = 2 * rows + 1;
     let r = slot_rules(first, rows, &offsets[..k], &targets[..count]);

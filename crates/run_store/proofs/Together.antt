@@ -4,6 +4,7 @@ use mathlib.Core.Bool.{true}
 use mathlib.Core.List.{List}
 use mathlib.Core.Option.{none}
 use Prim.Native.Nat.{ℕ}
+use Rattle.columns.specs.Limits.{kinds}
 use Rattle.lists.specs.Lists.{Each}
 use Rattle.archive.specs.Fits.{FileFits}
 use Rattle.archive.specs.Parse.{parse}
@@ -26,7 +27,7 @@ use Rattle.run_store.specs.names.Named.{Named}
 
 -- what is asked of an archive that is stored
 pub accepted : (h : Held) (l : List ℕ) → LongHeld h
-    → ((heldOk h ≡ true) × (ordered (h .sheet) ≡ true)) × (((isGot (parse l) ≡ true) × Each FileFits (filesIn (parse l))) × (holdRules (heldIn h) (filesIn (parse l)) ≡ none)) → Accepted h l
+    → ((heldOk h ≡ true) × (ordered (h .sheet) ≡ true)) × (((isGot (parse kinds l) ≡ true) × Each (FileFits kinds) (filesIn (parse kinds l))) × (holdRules kinds (heldIn h) (filesIn (parse kinds l)) ≡ none)) → Accepted h l
 accepted h l long r = record { long = long; ok = r .0 .0; order = r .0 .1; parsed = r .1 .0 .0; fits = r .1 .0 .1; rules = r .1 .1 }
 
 -- names and parts, put together
@@ -52,5 +53,5 @@ module _ (h : Held) (l : List ℕ) (n : Names) (d : Named h l n) where
     whole-is : whole ≡ d .held
     whole-is = rw (ra, rb, rc, re, rf, rg, ri, rj) held-is
 
-    pub together-stored : (heldIn whole ≡ heldAfter h (parse l)) × ((heldOk whole ≡ true) × (ordered (whole .sheet) ≡ true))
+    pub together-stored : (heldIn whole ≡ heldAfter h (parse kinds l)) × ((heldOk whole ≡ true) × (ordered (whole .sheet) ≡ true))
     together-stored = (ap heldIn whole-is ∙ d .whole, (ap heldOk whole-is ∙ d .ok, ap (λ q. ordered (q .sheet)) whole-is ∙ d .order))

@@ -9,6 +9,7 @@ ghost use Prim.Native.Nat.{_+_, _≤_, _<_, _^_};
 ghost use lib.Dec.{eqb};
 ghost use lib.ListN.{length, getD, take, drop, replicate};
 ghost use lib.Seq.{sets};
+ghost use Rattle.columns.specs.Limits.{kinds};
 ghost use Rattle.lists.specs.Lists.{joined};
 ghost use Rattle.archive_bytes.specs.Bytes.{be, several, column};
 ghost use Rattle.cover.specs.Cover.{sums, sumsFit};
@@ -187,8 +188,8 @@ pub fn put_offsets(out: &mut [u64; 2049], at: usize, offsets: &[u64], count: usi
 
 fn put_behind(out: &mut [u64], at: usize, first: u64, count: u64, offsets: &[u64], deltas: &[i64])
     requires { ⌜ at ≤ length (now out) ⌝ }
-    requires { ⌜ Readable first (columnsOf count (now offsets) (now deltas)) ⌝ }
-    ensures { λ _. ⌜ now (out .exit) ≡ sets (now (out .entry)) at (joined (slotsOf first (columnsOf count (now (offsets .entry)) (now (deltas .entry))))) ⌝ }
+    requires { ⌜ Readable kinds first (columnsOf count (now offsets) (now deltas)) ⌝ }
+    ensures { λ _. ⌜ now (out .exit) ≡ sets (now (out .entry)) at (joined (slotsOf kinds first (columnsOf count (now (offsets .entry)) (now (deltas .entry))))) ⌝ }
 {
     columns_slots::sets::write_csr(first, count, offsets, deltas, &mut out[at..]);
 }
@@ -203,8 +204,8 @@ pub fn put_targets(
     deltas: &[i64],
 )
     requires { ⌜ at ≤ 4096 ⌝ }
-    requires { ⌜ Readable first (columnsOf count (now offsets) (now deltas)) ⌝ }
-    ensures { λ _. ⌜ now (out .exit) ≡ sets (now (out .entry)) at (joined (slotsOf first (columnsOf count (now (offsets .entry)) (now (deltas .entry))))) ⌝ }
+    requires { ⌜ Readable kinds first (columnsOf count (now offsets) (now deltas)) ⌝ }
+    ensures { λ _. ⌜ now (out .exit) ≡ sets (now (out .entry)) at (joined (slotsOf kinds first (columnsOf count (now (offsets .entry)) (now (deltas .entry))))) ⌝ }
 {
     put_behind(out, at, first, count, offsets, deltas);
 }

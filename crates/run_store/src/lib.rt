@@ -22,6 +22,7 @@ use run_state::order::long::held_long;
 ghost use mathlib.Core.Path.{_≡_};
 ghost use mathlib.Core.Bool.{true};
 ghost use mathlib.Core.Option.{none};
+ghost use Rattle.columns.specs.Limits.{kinds};
 ghost use Rattle.lists.specs.Lists.{Each};
 ghost use Rattle.archive.specs.Fits.{FileFits};
 ghost use Rattle.archive.specs.Parse.{parse};
@@ -35,9 +36,9 @@ ghost use Rattle.run_store.specs.turns.Going.{isGot, heldAfter};
 // What is held, with the files of an archive more whose rules are kept.
 pub fn store(h: Held, bytes: &[u8]) -> Held
     requires { ⌜ (heldOk h ≡ true) × (ordered (h .sheet) ≡ true) ⌝ }
-    requires { ⌜ (isGot (parse (now bytes)) ≡ true) × Each FileFits (filesIn (parse (now bytes))) ⌝ }
-    requires { ⌜ holdRules (heldIn h) (filesIn (parse (now bytes))) ≡ none ⌝ }
-    ensures { λ r. ⌜ heldIn r ≡ heldAfter h (parse (now (bytes .entry))) ⌝ }
+    requires { ⌜ (isGot (parse kinds (now bytes)) ≡ true) × Each (FileFits kinds) (filesIn (parse kinds (now bytes))) ⌝ }
+    requires { ⌜ holdRules kinds (heldIn h) (filesIn (parse kinds (now bytes))) ≡ none ⌝ }
+    ensures { λ r. ⌜ heldIn r ≡ heldAfter h (parse kinds (now (bytes .entry))) ⌝ }
     ensures { λ r. ⌜ (heldOk r ≡ true) × (ordered (r .sheet) ≡ true) ⌝ }
 {
     held_long(h);

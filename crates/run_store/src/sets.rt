@@ -17,6 +17,7 @@ ghost use mathlib.Core.List.{map};
 ghost use Prim.Native.Nat.{_+_, _*_, _≤_};
 ghost use lib.ListN.{length, take, drop};
 ghost use lib.Seq.{sets};
+ghost use Rattle.columns.specs.Limits.{kinds};
 ghost use Rattle.lists.specs.Lists.{joined};
 ghost use Rattle.columns.specs.EdgeSet.{fromTo};
 ghost use Rattle.columns.specs.Reading.{slotsOf};
@@ -126,8 +127,8 @@ fn add_targets(
     deltas: &[i64],
 )
     requires { ⌜ ((c + count ≤ 4096) × (rows ≤ 1024)) × ((length (now offsets) ≡ 2049) × (length (now deltas) ≡ 4096)) ⌝ }
-    requires { ⌜ Readable first (columnsOf count (take (2 * rows + 1) (now offsets)) (take count (now deltas))) ⌝ }
-    ensures { λ _. ⌜ now (out .exit) ≡ sets (now (out .entry)) c (joined (slotsOf first (columnsOf count (take (2 * rows + 1) (now (offsets .entry))) (take count (now (deltas .entry)))))) ⌝ }
+    requires { ⌜ Readable kinds first (columnsOf count (take (2 * rows + 1) (now offsets)) (take count (now deltas))) ⌝ }
+    ensures { λ _. ⌜ now (out .exit) ≡ sets (now (out .entry)) c (joined (slotsOf kinds first (columnsOf count (take (2 * rows + 1) (now (offsets .entry))) (take count (now (deltas .entry)))))) ⌝ }
 {
     let m = 2 * rows + 1;
     put_targets(out, c, first, count as u64, &offsets[..m], &deltas[..count]);

@@ -7,6 +7,7 @@ use Prim.Native.Nat.{ℕ, suc, _<_}
 use lib.ListN.{getD}
 use mir.Val.{Fits}
 use mir.Syntax.{w8}
+use Rattle.columns.specs.Limits.{kinds}
 use Rattle.lists.specs.Lists.{Each}
 use Rattle.columns.specs.Refusal.{refused, accepted, unless}
 use Rattle.columns.specs.declared.refusal.Refusal.{Refusal}
@@ -37,33 +38,33 @@ each-byte : (l : List ℕ) → ((i : ℕ) → Fits w8 (getD l i 0)) → Each (λ
 each-byte [] h = tt
 each-byte (x ∷ xs) h = (h 0 .fits, each-byte xs (λ i. h (suc i)))
 
-pub files-fit : (l : List ℕ) → ((i : ℕ) → Fits w8 (getD l i 0)) → Each FileFits (filesIn (parse l))
-files-fit l h = go (parse l) refl
+pub files-fit : (l : List ℕ) → ((i : ℕ) → Fits w8 (getD l i 0)) → Each (FileFits kinds) (filesIn (parse kinds l))
+files-fit l h = go (parse kinds l) refl
   where
-    go : (o : Parsed (List File)) → parse l ≡ o → Each FileFits (filesIn o)
+    go : (o : Parsed (List File)) → parse kinds l ≡ o → Each (FileFits kinds) (filesIn o)
     go broken e = tt
-    go (got fs end) e = parse-fits l fs end (each-byte l h) e
+    go (got fs end) e = parse-fits kinds l fs end (each-byte l h) e
 
 -- ── refused, accepted ────────────────────────────────────────────────────────────────────────
 
 -- the steps of a taking are those of its definition
-verdict-is : (h : run.Held) (o : Parsed (List File)) → holdMore h o ≡ unless (archiveRules h o) (foldl heldWith h (map sourceOf (filesIn o)))
+verdict-is : (h : run.Held) (o : Parsed (List File)) → holdMore kinds h o ≡ unless (archiveRules h o) (foldl heldWith h (map (sourceOf kinds) (filesIn o)))
 unfolding archiveRules unless
 verdict-is h broken = refl
 verdict-is h (got fs end) = refl
 
-archive-kept : (h : run.Held) (o : Parsed (List File)) → archiveRules h o ≡ none → (holdRules h (filesIn o) ≡ none) × (isGot o ≡ true)
+archive-kept : (h : run.Held) (o : Parsed (List File)) → archiveRules h o ≡ none → (holdRules kinds h (filesIn o) ≡ none) × (isGot o ≡ true)
 unfolding archiveRules
 archive-kept h broken e = absurd (Option·none-ne-some RecordBroken (sym e))
 archive-kept h (got fs end) e = (e, refl)
 
 module _ (h : Held) (o : Parsed (List File)) {r : Ruling} (v : r ≡ ruling (archiveRules (heldIn h) o)) where
   -- why it is refused
-  pub not-held : {x : Refusal} → r ≡ Broken x → holdMore (heldIn h) o ≡ refused x
+  pub not-held : {x : Refusal} → r ≡ Broken x → holdMore kinds (heldIn h) o ≡ refused x
   unfolding unless
   not-held q = rw (verdict-is (heldIn h) o, told (archiveRules (heldIn h) o) v q)
 
-  pub is-refused : {x : Refusal} → r ≡ Broken x → TookBy (holdMore (heldIn h) o) h (record { held = h; ruling = Broken x })
+  pub is-refused : {x : Refusal} → r ≡ Broken x → TookBy (holdMore kinds (heldIn h) o) h (record { held = h; ruling = Broken x })
   unfolding unless
   is-refused q = rw (verdict-is (heldIn h) o, told (archiveRules (heldIn h) o) v q) (refl, refl)
 
@@ -71,17 +72,17 @@ module _ (h : Held) (o : Parsed (List File)) {r : Ruling} (v : r ≡ ruling (arc
     kept : archiveRules (heldIn h) o ≡ none
     kept = told-kept (archiveRules (heldIn h) o) v q
 
-    pub rules-kept : holdRules (heldIn h) (filesIn o) ≡ none
+    pub rules-kept : holdRules kinds (heldIn h) (filesIn o) ≡ none
     rules-kept = archive-kept (heldIn h) o kept .0
 
     pub is-archive : isGot o ≡ true
     is-archive = archive-kept (heldIn h) o kept .1
 
     -- what is held after it
-    pub now-held : holdMore (heldIn h) o ≡ accepted (heldAfter h o)
+    pub now-held : holdMore kinds (heldIn h) o ≡ accepted (heldAfter h o)
     unfolding unless
     now-held = rw (verdict-is (heldIn h) o, kept)
 
-    pub is-accepted : (k : Held) → heldIn k ≡ heldAfter h o → heldOk k ≡ true → ordered (k .sheet) ≡ true → TookBy (holdMore (heldIn h) o) h (record { held = k; ruling = Kept })
+    pub is-accepted : (k : Held) → heldIn k ≡ heldAfter h o → heldOk k ≡ true → ordered (k .sheet) ≡ true → TookBy (holdMore kinds (heldIn h) o) h (record { held = k; ruling = Kept })
     unfolding unless
     is-accepted k a b c = rw (verdict-is (heldIn h) o, kept) (refl, a, b, c)

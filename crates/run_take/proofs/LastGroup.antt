@@ -11,7 +11,7 @@ use borrow.Author.Tests.{leb-true}
 use Rattle.lists.specs.Lists.{isEmpty, upFrom}
 use Rattle.lists.proofs.Tests.{both}
 use Rattle.lists.proofs.Flat.{length-map-upFrom, getD-map-upFrom}
-use Rattle.columns.specs.Limits.{maxSubject, maxGroups, end64}
+use Rattle.columns.specs.Limits.{kinds, maxSubject, maxGroups, end64}
 use Rattle.columns.specs.Answers.{ruling}
 use Rattle.columns.specs.declared.refusal.Ruling.{Ruling}
 use Rattle.archive.specs.File.{File}
@@ -83,7 +83,7 @@ module _ (s : Sheet) (l : LongSheet s) (k : sheetOk s ≡ true) where
 -- ── the rules of files that look back at it ──────────────────────────────────────────────────
 
 pub looked-back : (s : Sheet) (o : Parsed (List File)) (b : Back) (name : List ℕ) → backOf b name ≡ lookBack (sheetIn s) → {r : Ruling}
-    → r ≡ ruling (rulesOf (backOf b name) o) → r ≡ ruling (filesRules (lookBack (sheetIn s)) (filesIn o))
+    → r ≡ ruling (rulesOf (backOf b name) o) → r ≡ ruling (filesRules kinds (lookBack (sheetIn s)) (filesIn o))
 unfolding rulesOf filesRules
 looked-back s broken b name e v = v
 looked-back s (got fs end) b name e v = rw e at v

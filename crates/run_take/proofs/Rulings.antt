@@ -11,7 +11,7 @@ use borrow.Author.Tests.{ltb-false}
 use Rattle.lists.specs.Lists.{sum, once, upFrom}
 use Rattle.lists.proofs.Tests.{both}
 use Rattle.lists.proofs.Once.{or-is-false}
-use Rattle.columns.specs.Limits.{maxRecords, maxNumbers, maxGroups}
+use Rattle.columns.specs.Limits.{kinds, maxRecords, maxNumbers, maxGroups}
 use Rattle.columns.specs.Refusal.{refuse, firstOf}
 use Rattle.columns.specs.declared.refusal.Refusal.{Refusal}
 use Rattle.columns.specs.declared.refusal.Refusal.the-variants.{OverRecords, OverNumbers}
@@ -86,9 +86,9 @@ limits-within h fs e =
 
 -- ── 42, 43, then the files ───────────────────────────────────────────────────────────────────
 
-in-order : (h : run.Held) (fs : List File) → firstOf (limitsOver h fs ∷ filesRules (lookBack (h .sheet)) fs ∷ []) ≡ holdRules h fs
+in-order : (h : run.Held) (fs : List File) → firstOf (limitsOver h fs ∷ filesRules kinds (lookBack (h .sheet)) fs ∷ []) ≡ holdRules kinds h fs
 unfolding limitsOver holdRules firstOf
-in-order h fs = go (recordsOver h fs) (numbersOver h fs) (filesRules (lookBack (h .sheet)) fs)
+in-order h fs = go (recordsOver h fs) (numbersOver h fs) (filesRules kinds (lookBack (h .sheet)) fs)
   where
     go : (a b : Bool) (c : Option Refusal) → firstOf (firstOf (refuse OverRecords a ∷ refuse OverNumbers b ∷ []) ∷ c ∷ []) ≡ firstOf (refuse OverRecords a ∷ refuse OverNumbers b ∷ c ∷ [])
     go true b c = refl
@@ -105,10 +105,10 @@ module _ (h : Held) (o : Parsed (List File)) {r : Ruling} (v : r ≡ ruling (lim
   within-both t e q = summed-up (λ o. limitsOver (heldIn h) (filesIn o) ≡ none → Within (totalsOf o)) o e (λ fs end z n. limits-within (heldIn h) fs n)
       (told-kept (limitsOver (heldIn h) (filesIn o)) v q)
 
-  pub over-limits : (x : Refusal) → r ≡ Broken x → Broken x ≡ ruling (holdRules (heldIn h) (filesIn o))
+  pub over-limits : (x : Refusal) → r ≡ Broken x → Broken x ≡ ruling (holdRules kinds (heldIn h) (filesIn o))
   over-limits x q = rw (← in-order (heldIn h) (filesIn o)) (stops-here (limitsOver (heldIn h) (filesIn o)) _ v x q)
 
-  pub then-files : r ≡ Kept → {s : Ruling} → s ≡ ruling (filesRules (lookBack (sheetIn (h .sheet))) (filesIn o)) → s ≡ ruling (holdRules (heldIn h) (filesIn o))
+  pub then-files : r ≡ Kept → {s : Ruling} → s ≡ ruling (filesRules kinds (lookBack (sheetIn (h .sheet))) (filesIn o)) → s ≡ ruling (holdRules kinds (heldIn h) (filesIn o))
   unfolding heldIn
   then-files q e = rw (← in-order (heldIn h) (filesIn o)) (goes-on (limitsOver (heldIn h) (filesIn o)) _ v q e)
 
@@ -123,6 +123,6 @@ module _ (o : Parsed (List File)) {x : Summed} {t : Totals} (e : x ≡ totalsOf 
   pub sums-known : totalsOf o ≡ summed.Sums t
   sums-known = sym e ∙ f
 
-  pub then-held : (h : run.Held) {r : Ruling} → r ≡ ruling (holdRules h (filesIn o)) → r ≡ ruling (archiveRules h o)
+  pub then-held : (h : run.Held) {r : Ruling} → r ≡ ruling (holdRules kinds h (filesIn o)) → r ≡ ruling (archiveRules h o)
   unfolding archiveRules
-  then-held h {r} v = summed-up (λ o. r ≡ ruling (holdRules h (filesIn o)) → r ≡ ruling (archiveRules h o)) o sums-known (λ fs end z v. v) v
+  then-held h {r} v = summed-up (λ o. r ≡ ruling (holdRules kinds h (filesIn o)) → r ≡ ruling (archiveRules h o)) o sums-known (λ fs end z v. v) v

@@ -4,6 +4,7 @@ use mathlib.Core.Path.{_≡_}
 use mathlib.Core.Bool.{true}
 use mathlib.Core.List.{List, [], _∷_}
 use mathlib.Core.Option.{Option, some}
+use Rattle.columns.specs.Limits.{kinds}
 use Rattle.columns.specs.Refusal.{Verdict, refused, accepted, refuse, firstOf}
 use Rattle.columns.specs.declared.refusal.Refusal.{Refusal}
 use Rattle.columns.specs.declared.refusal.Refusal.the-variants.{RecordBroken, OverRecords, OverNumbers}
@@ -25,7 +26,7 @@ limitsOver h fs = firstOf (refuse OverRecords (recordsOver h fs) ∷ refuse Over
 -- 23, then 42, 43, then file by file
 unfoldable pub archiveRules : run.Held → Parsed (List File) → Option Refusal
 archiveRules h broken = some RecordBroken
-archiveRules h (got fs end) = holdRules h fs
+archiveRules h (got fs end) = holdRules kinds h fs
 
 -- what a taking hands back: the run that came and why it is refused, or a run that holds what is to be held, fit for the next call
 abbrev pub TookBy : Verdict run.Held → Held → Taken → Type 0

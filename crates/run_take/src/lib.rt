@@ -18,6 +18,7 @@ use run_store::store;
 ghost use mathlib.Core.Path.{_≡_};
 ghost use mathlib.Core.Bool.{true};
 ghost use lib.ListN.{take};
+ghost use Rattle.columns.specs.Limits.{kinds};
 ghost use Rattle.columns.specs.Answers.{ruling};
 ghost use Rattle.archive.specs.Parse.{parse};
 ghost use Rattle.archive_read.specs.Sums.{totalsOf};
@@ -90,8 +91,8 @@ pub fn known_of(h: Held) -> Known
 
 // The rules of an archive's files, the first of which looks back at the rows that are held.
 fn known_rules(h: Held, k: Known, bytes: &[u8]) -> Ruling
-    requires { ⌜ (KnownOf h k) × Within (totalsOf (parse (now bytes))) ⌝ }
-    ensures { λ r. ⌜ r ≡ ruling (filesRules (lookBack (sheetIn (h .sheet))) (filesIn (parse (now (bytes .entry))))) ⌝ }
+    requires { ⌜ (KnownOf h k) × Within (totalsOf (parse kinds (now bytes))) ⌝ }
+    ensures { λ r. ⌜ r ≡ ruling (filesRules kinds (lookBack (sheetIn (h .sheet))) (filesIn (parse kinds (now (bytes .entry))))) ⌝ }
 {
     let subject = k.subject;
     subject_long(subject);
@@ -103,8 +104,8 @@ fn known_rules(h: Held, k: Known, bytes: &[u8]) -> Ruling
 
 // 42, then 43: what a run holds and an archive of those sums together.
 fn limits(h: Held, k: Known, bytes: &[u8], t: Totals) -> Ruling
-    requires { ⌜ (heldOk h ≡ true) × ((KnownOf h k) × (totalsOf (parse (now bytes)) ≡ Sums t)) ⌝ }
-    ensures { λ r. ⌜ r ≡ ruling (limitsOver (heldIn h) (filesIn (parse (now (bytes .entry))))) ⌝ }
+    requires { ⌜ (heldOk h ≡ true) × ((KnownOf h k) × (totalsOf (parse kinds (now bytes)) ≡ Sums t)) ⌝ }
+    ensures { λ r. ⌜ r ≡ ruling (limitsOver (heldIn h) (filesIn (parse kinds (now (bytes .entry))))) ⌝ }
 {
     held_long(h);
     let many = groups_over(bytes, k.groups);
@@ -114,8 +115,8 @@ fn limits(h: Held, k: Known, bytes: &[u8], t: Totals) -> Ruling
 
 // 42, 43, then file by file.
 fn hold_rules(h: Held, k: Known, bytes: &[u8], t: Totals) -> Ruling
-    requires { ⌜ (heldOk h ≡ true) × ((KnownOf h k) × (totalsOf (parse (now bytes)) ≡ Sums t)) ⌝ }
-    ensures { λ r. ⌜ r ≡ ruling (holdRules (heldIn h) (filesIn (parse (now (bytes .entry))))) ⌝ }
+    requires { ⌜ (heldOk h ≡ true) × ((KnownOf h k) × (totalsOf (parse kinds (now bytes)) ≡ Sums t)) ⌝ }
+    ensures { λ r. ⌜ r ≡ ruling (holdRules kinds (heldIn h) (filesIn (parse kinds (now (bytes .entry))))) ⌝ }
 {
     let r = limits(h, k, bytes, t);
     match r {
@@ -127,7 +128,7 @@ fn hold_rules(h: Held, k: Known, bytes: &[u8], t: Totals) -> Ruling
 // 23, then the others, by what is known of what is held, which itself is not read.
 pub fn rules_by(h: Held, k: Known, bytes: &[u8]) -> Ruling
     requires { ⌜ (heldOk h ≡ true) × (KnownOf h k) ⌝ }
-    ensures { λ r. ⌜ r ≡ ruling (archiveRules (heldIn h) (parse (now (bytes .entry)))) ⌝ }
+    ensures { λ r. ⌜ r ≡ ruling (archiveRules (heldIn h) (parse kinds (now (bytes .entry)))) ⌝ }
 {
     let x = sum_up(bytes);
     match x {
@@ -139,7 +140,7 @@ pub fn rules_by(h: Held, k: Known, bytes: &[u8]) -> Ruling
 // What a run holds with an archive more; a refused archive leaves it as it was.
 pub fn take(h: Held, bytes: &[u8]) -> Taken
     requires { ⌜ (heldOk h ≡ true) × (ordered (h .sheet) ≡ true) ⌝ }
-    ensures { λ r. ⌜ TookBy (holdMore (heldIn h) (parse (now (bytes .entry)))) h r ⌝ }
+    ensures { λ r. ⌜ TookBy (holdMore kinds (heldIn h) (parse kinds (now (bytes .entry)))) h r ⌝ }
 {
     let k = known_of(h);
     let r = rules_by(h, k, bytes);

@@ -9,6 +9,8 @@ use lib.Dec.{leb}
 use lib.ListN.{length, take, drop}
 use lib.Seq.{sets, sets-eq, take-at, drop-at}
 use borrow.Author.Tests.{le-leb, lt-leb}
+use Rattle.columns.specs.Limits.{kinds}
+use Rattle.columns.proofs.Served.{kinds-served}
 use Rattle.columns.specs.Refusal.{unless}
 use Rattle.columns.specs.declared.refusal.Refusal.{Refusal}
 use Rattle.columns.specs.declared.refusal.Refusal.the-variants.{SliceShort}
@@ -26,40 +28,40 @@ use Rattle.run_write.specs.Answers.{Wrote}
 
 -- ── what writing answers ─────────────────────────────────────────────────────────────────────
 
-module _ (s : Sheet) (t : Tidy s) (f : Filled s) where
-  as-sections : written (summaryOf s) ≡ unless (sectionRules s) (sectionBytes s)
-  as-sections = written-sections s t f
+module _ (s : Sheet) (t : Tidy kinds s) (f : Filled s) where
+  as-sections : written kinds (summaryOf kinds s) ≡ unless (sectionRules kinds s) (sectionBytes kinds s)
+  as-sections = written-sections kinds kinds-served s t f
 
   module _ {m : Measured} (d : MeasuredBy s m) (was : List ℕ) where
     pub wrote-refused : (x : Refusal) → m .ruling ≡ Broken x → Wrote s was was (Refused x)
     unfolding unless
     wrote-refused x e = record {
-      answers = sym (ap (writeInto (length was)) (as-sections ∙ ap (λ r. unless r (sectionBytes s)) (told (sectionRules s) (d .rules) e)));
+      answers = sym (ap (writeInto (length was)) (as-sections ∙ ap (λ r. unless r (sectionBytes kinds s)) (told (sectionRules kinds s) (d .rules) e)));
       rest = refl;
       within = omega arith;
     }
 
     module _ (e : m .ruling ≡ Kept) where
-      no-rule : sectionRules s ≡ none
-      no-rule = told-kept (sectionRules s) (d .rules) e
+      no-rule : sectionRules kinds s ≡ none
+      no-rule = told-kept (sectionRules kinds s) (d .rules) e
 
-      all-accepted : writeInto (length was) (written (summaryOf s)) ≡ cond (leb (length (sectionBytes s)) (length was)) (wrote (allOf (sectionBytes s))) (refused SliceShort)
+      all-accepted : writeInto (length was) (written kinds (summaryOf kinds s)) ≡ cond (leb (length (sectionBytes kinds s)) (length was)) (wrote (allOf (sectionBytes kinds s))) (refused SliceShort)
       unfolding unless
-      all-accepted = ap (writeInto (length was)) (as-sections ∙ ap (λ r. unless r (sectionBytes s)) no-rule)
+      all-accepted = ap (writeInto (length was)) (as-sections ∙ ap (λ r. unless r (sectionBytes kinds s)) no-rule)
 
       pub wrote-short : length was < m .length → Wrote s was was (Refused SliceShort)
       wrote-short h =
-          let q : length was < length (sectionBytes s) = omega (arith, d .length-is no-rule) in
-          record { answers = sym (all-accepted ∙ rw (lt-leb (length (sectionBytes s)) (length was) q)); rest = refl; within = omega arith }
+          let q : length was < length (sectionBytes kinds s) = omega (arith, d .length-is no-rule) in
+          record { answers = sym (all-accepted ∙ rw (lt-leb (length (sectionBytes kinds s)) (length was) q)); rest = refl; within = omega arith }
 
       -- bytes that hold the measured length hold all files
-      pub has-room : {room : ℕ} → m .length ≤ room → length (sectionBytes s) ≤ room
+      pub has-room : {room : ℕ} → m .length ≤ room → length (sectionBytes kinds s) ≤ room
       has-room {room} h = omega (arith, h, d .length-is no-rule)
 
       module _ (h : m .length ≤ length was) where
-        pub wrote-all : {is : List ℕ} → is ≡ sets was 0 (sectionBytes s) → Wrote s was is (Length (m .length))
+        pub wrote-all : {is : List ℕ} → is ≡ sets was 0 (sectionBytes kinds s) → Wrote s was is (Length (m .length))
         wrote-all {is} q =
-            let w = sectionBytes s in
+            let w = sectionBytes kinds s in
             let n : m .length ≡ length w = d .length-is no-rule in
             let z : 0 + length w ≡ length w = omega arith in
             let p : is ≡ w ++ drop (length w) was = q ∙ sets-eq w was 0 (omega arith) ∙ rw z in

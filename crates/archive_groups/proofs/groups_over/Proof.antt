@@ -3,6 +3,7 @@ use Prim.Native.Nat.{_≤_, _+_, _-_}
 use mathlib.Core.Path.{_≡_}
 use mathlib.Core.List.{_++_}
 use lib.ListN.{length, take}
+use Rattle.columns.specs.Limits.{kinds}
 use Rattle.lists.specs.Lists.{upFrom}
 use Rattle.archive.specs.Parse.{files}
 use Rattle.archive_read.proofs.AtFiles.{file-fits}
@@ -12,7 +13,7 @@ use Rattle.archive_groups.proofs.groups_over.Statement.{statement}
 use Rattle.archive_groups.proofs.groups_over.Tie as tie
 
 abbrev Inv-loop : tie.InvT-loop
-Inv-loop bytes k list₀ n₀ m₀ p₀ list n m p = (p ≤ length bytes) × (m ≤ p) × (k + n ≤ 16) × (length list ≡ 17) × Still bytes k (upFrom 0 k ++ take n list) (files (length bytes - m) bytes p)
+Inv-loop bytes k list₀ n₀ m₀ p₀ list n m p = (p ≤ length bytes) × (m ≤ p) × (k + n ≤ 16) × (length list ≡ 17) × Still bytes k (upFrom 0 k ++ take n list) (files kinds (length bytes - m) bytes p)
 
 abbrev μ-loop : tie.MeasureT-loop
 μ-loop bytes k list₀ n₀ m₀ p₀ list n m p = length bytes - p

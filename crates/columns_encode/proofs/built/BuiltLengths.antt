@@ -8,6 +8,7 @@ use lib.Dec.{leb, eqb}
 use lib.ListN.{length, getD, take, drop, length-take, length-drop, length-append}
 use lib.Seq.{slice}
 use borrow.Author.Tests.{leb-true, le-ltb, ne-eqb}
+use Rattle.columns.specs.Limits.{kinds}
 use Rattle.lists.specs.Lists.{mem, filter, joined, part, upFrom, sum}
 use Rattle.lists.specs.Order.{climbsTo, sort}
 use Rattle.lists.proofs.Tests.{both}
@@ -63,14 +64,14 @@ module _ {A : Type 0} where
 
 -- ── a table of lists ─────────────────────────────────────────────────────────────────────────
 
-table-total : (f : ℕ → ℕ → List ℕ) (first rows : ℕ) → length (joined (slotTable f first rows)) ≡ sum (λ n. length (f n 0) + length (f n 1)) (upFrom first rows)
+table-total : (f : ℕ → ℕ → List ℕ) (first rows : ℕ) → length (joined (slotTable kinds f first rows)) ≡ sum (λ n. length (f n 0) + length (f n 1)) (upFrom first rows)
 unfolding slotTable upFrom joined sum
 table-total f first zero = refl
 table-total f first (suc n) =
     omega (
       arith,
-      length-append (f first 0) (f first 1 ++ joined (slotTable f (suc first) n)),
-      length-append (f first 1) (joined (slotTable f (suc first) n)),
+      length-append (f first 0) (f first 1 ++ joined (slotTable kinds f (suc first) n)),
+      length-append (f first 1) (joined (slotTable kinds f (suc first) n)),
       table-total f (suc first) n,
     )
 
@@ -84,11 +85,11 @@ drop-total zero (l ∷ ls) = refl
 drop-total (suc i) (l ∷ ls) = drop-total i ls
 
 module _ (first rows : ℕ) (lists : List (List ℕ)) where
-  list-here : (r k : ℕ) → listOf first lists k (first + r) ≡ getD lists (2 * r + k) []
+  list-here : (r k : ℕ) → listOf kinds first lists k (first + r) ≡ getD lists (2 * r + k) []
   unfolding listOf
   list-here r k = let z : first + r - first ≡ r = omega arith in rw (le-ltb (first + r) first (omega arith), z)
 
-  listed : (r n : ℕ) → sum (λ e. length (listOf first lists 0 e) + length (listOf first lists 1 e)) (upFrom (first + r) n) ≤ sum length (drop (2 * r) lists)
+  listed : (r n : ℕ) → sum (λ e. length (listOf kinds first lists 0 e) + length (listOf kinds first lists 1 e)) (upFrom (first + r) n) ≤ sum length (drop (2 * r) lists)
   unfolding sum upFrom
   listed r zero = omega arith
   listed r (suc n) =
@@ -100,29 +101,29 @@ module _ (first rows : ℕ) (lists : List (List ℕ)) where
       rw (z, list-here r 0, list-here r 1, a, b) (omega (arith, drop-total (2 * r) lists, drop-total (suc (2 * r)) lists, rest))
 
   -- an event is in no more lists of a kind than its own list of that kind is long
-  named : (k : ℕ) → sum (λ n. length (naming first rows lists n k)) (upFrom first rows) ≤ sum (λ e. length (listOf first lists k e)) (upFrom first rows)
+  named : (k : ℕ) → sum (λ n. length (naming kinds first rows lists n k)) (upFrom first rows) ≤ sum (λ e. length (listOf kinds first lists k e)) (upFrom first rows)
   unfolding naming
   named k =
       omega (
         arith,
-        sum-equal (λ n. length (filter (λ e. mem n (listOf first lists k e)) (upFrom first rows))) (λ n. sum (λ e. bit (mem n (listOf first lists k e))) (upFrom first rows))
-            (λ n. length-filter (λ e. mem n (listOf first lists k e)) (upFrom first rows)) (upFrom first rows),
-        sum-swap (λ n e. bit (mem n (listOf first lists k e))) (upFrom first rows) (upFrom first rows),
-        sum-below (λ e. sum (λ n. bit (mem n (listOf first lists k e))) (upFrom first rows)) (λ e. length (listOf first lists k e))
-            (λ e. members-counted (listOf first lists k e) first rows) (upFrom first rows),
+        sum-equal (λ n. length (filter (λ e. mem n (listOf kinds first lists k e)) (upFrom first rows))) (λ n. sum (λ e. bit (mem n (listOf kinds first lists k e))) (upFrom first rows))
+            (λ n. length-filter (λ e. mem n (listOf kinds first lists k e)) (upFrom first rows)) (upFrom first rows),
+        sum-swap (λ n e. bit (mem n (listOf kinds first lists k e))) (upFrom first rows) (upFrom first rows),
+        sum-below (λ e. sum (λ n. bit (mem n (listOf kinds first lists k e))) (upFrom first rows)) (λ e. length (listOf kinds first lists k e))
+            (λ e. members-counted (listOf kinds first lists k e) first rows) (upFrom first rows),
       )
 
-  pub reverse-fewer : length (joined (reverseLists first rows lists)) ≤ length (joined lists)
+  pub reverse-fewer : length (joined (reverseLists kinds first rows lists)) ≤ length (joined lists)
   unfolding reverseLists
   reverse-fewer =
       let z : first + 0 ≡ first = omega arith in
       omega (
         arith,
-        table-total (naming first rows lists) first rows,
-        sum-both (λ n. length (naming first rows lists n 0)) (λ n. length (naming first rows lists n 1)) (upFrom first rows),
+        table-total (naming kinds first rows lists) first rows,
+        sum-both (λ n. length (naming kinds first rows lists n 0)) (λ n. length (naming kinds first rows lists n 1)) (upFrom first rows),
         named 0,
         named 1,
-        sum-both (λ e. length (listOf first lists 0 e)) (λ e. length (listOf first lists 1 e)) (upFrom first rows),
+        sum-both (λ e. length (listOf kinds first lists 0 e)) (λ e. length (listOf kinds first lists 1 e)) (upFrom first rows),
         rw z at (listed 0 rows),
         length-joined lists,
       )
@@ -164,7 +165,7 @@ module _ (first rows : ℕ) where
         given cs ps ks,
       )
 
-  pub inbound-fewer : (e : InboundColumns) → length (joined (inboundLists first rows e)) ≤ length (e .children)
+  pub inbound-fewer : (e : InboundColumns) → length (joined (inboundLists kinds first rows e)) ≤ length (e .children)
   unfolding inboundLists
   inbound-fewer e =
       omega (

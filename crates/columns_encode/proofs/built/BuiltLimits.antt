@@ -48,9 +48,9 @@ few-rows rows records columns lent e = within maxRecords (rows ∷ records) (not
 -- ── the columns of a set, and label columns ──────────────────────────────────────────────────
 
 set-within : (first rows : ℕ) (lists : List (List ℕ)) → length lists ≡ kinds * rows → rows ≤ maxRecords → length (joined lists) ≤ maxNumbers
-    → Each (λ x. x ≤ maxNumbers) (setLengths (setOf first lists))
+    → Each (λ x. x ≤ maxNumbers) (setLengths (setOf kinds first lists))
 unfolding setLengths setOf
-set-within first rows lists e f m = (omega (arith, length-starts 0 lists), (omega (arith, set-count first lists), tt))
+set-within first rows lists e f m = (omega (arith, length-starts 0 lists), (omega (arith, set-count kinds first lists), tt))
 
 labels-within : (rows : ℕ) (labels : Option Labels) → rows ≤ maxRecords → coverRules rows labels ≡ none → Each (λ x. x ≤ maxNumbers) (labelLengths labels)
 unfolding labelRules
@@ -63,7 +63,7 @@ pub part-full : (from n rows : ℕ) (lists : List (List ℕ)) → length lists �
 unfolding part
 part-full from n rows lists e h = simp (length-take, length-drop) (omega arith)
 
-module _ (g : Graph) (room : List Lent) (small : limits (graphRecords g) (graphLengths g) room ≡ none) (form : offsetsForm (g .rows) (length (g .targets)) (g .offsets) ≡ true)
+module _ (g : Graph) (room : List Lent) (small : limits (graphRecords g) (graphLengths g) room ≡ none) (form : offsetsForm kinds (g .rows) (length (g .targets)) (g .offsets) ≡ true)
     (full : length (slotsIn g) ≡ kinds * g .rows) (inside : g .granuleFirst + g .granuleRows ≤ g .rows) where
   pub few : g .rows ≤ maxRecords
   unfolding graphRecords
@@ -74,36 +74,36 @@ module _ (g : Graph) (room : List Lent) (small : limits (graphRecords g) (graphL
 
   -- the granule's part of lists with no more entries than a column that building was given
   part-within : (lists : List (List ℕ)) (n : ℕ) → length lists ≡ kinds * g .rows → length (joined lists) ≤ n → n ≤ maxNumbers
-      → Each (λ x. x ≤ maxNumbers) (setLengths (setOf (granuleStart g) (granulePart g lists)))
+      → Each (λ x. x ≤ maxNumbers) (setLengths (setOf kinds (granuleStart g) (granulePart kinds g lists)))
   part-within lists n e l m =
-      set-within (granuleStart g) (g .granuleRows) (granulePart g lists) (part-full (g .granuleFirst) (g .granuleRows) (g .rows) lists e inside) (omega (arith, few, inside))
+      set-within (granuleStart g) (g .granuleRows) (granulePart kinds g lists) (part-full (g .granuleFirst) (g .granuleRows) (g .rows) lists e inside) (omega (arith, few, inside))
       (omega (arith, part-fewer (kinds * g .granuleFirst) (kinds * g .granuleRows) lists))
 
   targets-few : length (joined (slotsIn g)) ≤ length (g .targets)
-  targets-few = cut-fewer (length (g .targets)) (g .offsets) (g .targets) (form-climbs (g .rows) (length (g .targets)) (g .offsets) form)
+  targets-few = cut-fewer (length (g .targets)) (g .offsets) (g .targets) (form-climbs kinds (g .rows) (length (g .targets)) (g .offsets) form)
 
-  pub built-within : (labels : Option Labels) → coverRules (g .granuleRows) labels ≡ none → Each (λ x. x ≤ maxNumbers) (columnLengths (lentColumns (builtOf g) labels))
+  pub built-within : (labels : Option Labels) → coverRules (g .granuleRows) labels ≡ none → Each (λ x. x ≤ maxNumbers) (columnLengths (lentColumns (builtOf kinds g) labels))
   unfolding columnLengths builtOf forwardPart reversePart inboundPart graphLengths reverseLists inboundLists
   built-within labels c =
       let w = columns-within in
-      each-append (λ x. x ≤ maxNumbers) (setLengths (setOf (granuleStart g) (forwardPart g))) _
+      each-append (λ x. x ≤ maxNumbers) (setLengths (setOf kinds (granuleStart g) (forwardPart kinds g))) _
       (part-within (slotsIn g) (length (g .targets)) full targets-few (w .1 .0))
-      (each-append (λ x. x ≤ maxNumbers) (setLengths (setOf (granuleStart g) (reversePart g))) _
-      (part-within (reverseLists (g .first) (g .rows) (slotsIn g)) (length (g .targets)) (length-table (naming (g .first) (g .rows) (slotsIn g)) (g .first) (g .rows))
+      (each-append (λ x. x ≤ maxNumbers) (setLengths (setOf kinds (granuleStart g) (reversePart kinds g))) _
+      (part-within (reverseLists kinds (g .first) (g .rows) (slotsIn g)) (length (g .targets)) (length-table kinds (naming kinds (g .first) (g .rows) (slotsIn g)) (g .first) (g .rows))
       (omega (arith, reverse-fewer (g .first) (g .rows) (slotsIn g), targets-few)) (w .1 .0))
-      (each-append (λ x. x ≤ maxNumbers) (setLengths (setOf (granuleStart g) (inboundPart g))) (labelLengths labels)
-      (part-within (inboundLists (g .first) (g .rows) (g .inbound)) (length (g .inbound .children))
-      (length-table (λ number kind. sort (childrenTo number kind (g .inbound .children) (g .inbound .parents) (g .inbound .kindsGiven))) (g .first) (g .rows))
+      (each-append (λ x. x ≤ maxNumbers) (setLengths (setOf kinds (granuleStart g) (inboundPart kinds g))) (labelLengths labels)
+      (part-within (inboundLists kinds (g .first) (g .rows) (g .inbound)) (length (g .inbound .children))
+      (length-table kinds (λ number kind. sort (childrenTo number kind (g .inbound .children) (g .inbound .parents) (g .inbound .kindsGiven))) (g .first) (g .rows))
       (inbound-fewer (g .first) (g .rows) (g .inbound)) (w .1 .1 .0))
       (labels-within (g .granuleRows) labels (omega (arith, few, inside)) c)))
 
   pub read-limits : (labels : Option Labels) (lent : List Lent) → coverRules (g .granuleRows) labels ≡ none → any short lent ≡ false
-      → limits (g .granuleRows ∷ []) (columnLengths (lentColumns (builtOf g) labels)) lent ≡ none
+      → limits (g .granuleRows ∷ []) (columnLengths (lentColumns (builtOf kinds g) labels)) lent ≡ none
   unfolding limits firstOf
   read-limits labels lent c s =
       rw (
         none-over maxRecords (g .granuleRows ∷ []) (omega (arith, few, inside), tt),
-        none-over maxNumbers (columnLengths (lentColumns (builtOf g) labels)) (built-within labels c),
+        none-over maxNumbers (columnLengths (lentColumns (builtOf kinds g) labels)) (built-within labels c),
         s,
       )
 

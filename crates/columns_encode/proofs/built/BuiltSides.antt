@@ -33,7 +33,7 @@ OnSide set end n ts = Each (λ t. (allowed set end n t ≡ true) × (t < end64))
 
 module _ (set first end : ℕ) where
   table-from : (f : ℕ → ℕ → List ℕ) (m n : ℕ) → first + m + n ≤ end64 → ((p k : ℕ) → first + m ≤ p → p < first + m + n → k < kinds → OnSide set end p (f p k))
-      → AllowedFrom set first end (2 * m) (slotTable f (first + m) n)
+      → AllowedFrom kinds set first end (2 * m) (slotTable kinds f (first + m) n)
   unfolding slotTable upFrom
   table-from f m zero b h = tt
   table-from f m (suc n) b h =
@@ -52,35 +52,35 @@ module _ (set first end : ℕ) where
       )
 
   pub table-side : (f : ℕ → ℕ → List ℕ) (n : ℕ) → first + n ≤ end64 → ((p k : ℕ) → first ≤ p → p < first + n → k < kinds → OnSide set end p (f p k))
-      → AllowedFrom set first end 0 (slotTable f first n)
+      → AllowedFrom kinds set first end 0 (slotTable kinds f first n)
   table-side f n b h =
       let z : first + 0 ≡ first = omega arith in
       rw z at (table-from f 0 n (omega arith) (λ p k l u c. h p k (omega arith) (omega arith) c))
 
-  drop-side : (i slot : ℕ) (lists : List (List ℕ)) → AllowedFrom set first end slot lists → AllowedFrom set first end (slot + i) (drop i lists)
+  drop-side : (i slot : ℕ) (lists : List (List ℕ)) → AllowedFrom kinds set first end slot lists → AllowedFrom kinds set first end (slot + i) (drop i lists)
   drop-side zero slot lists h = let z : slot + 0 ≡ slot = omega arith in rw z h
   drop-side (suc i) slot [] h = tt
   drop-side (suc i) slot (ts ∷ lists) h = let z : slot + suc i ≡ suc slot + i = omega arith in rw z (drop-side i (suc slot) lists (h .2))
 
-  take-side : (i slot : ℕ) (lists : List (List ℕ)) → AllowedFrom set first end slot lists → AllowedFrom set first end slot (take i lists)
+  take-side : (i slot : ℕ) (lists : List (List ℕ)) → AllowedFrom kinds set first end slot lists → AllowedFrom kinds set first end slot (take i lists)
   take-side zero slot lists h = tt
   take-side (suc i) slot [] h = tt
   take-side (suc i) slot (ts ∷ lists) h = (h .0, h .1, take-side i (suc slot) lists (h .2))
 
-  moved : (from slot : ℕ) (lists : List (List ℕ)) → AllowedFrom set first end (2 * from + slot) lists → AllowedFrom set (first + from) end slot lists
+  moved : (from slot : ℕ) (lists : List (List ℕ)) → AllowedFrom kinds set first end (2 * from + slot) lists → AllowedFrom kinds set (first + from) end slot lists
   moved from slot [] h = tt
   moved from slot (ts ∷ lists) h =
-      let z : eventOf first (2 * from + slot) ≡ eventOf (first + from) slot = omega arith in
+      let z : eventOf kinds first (2 * from + slot) ≡ eventOf kinds (first + from) slot = omega arith in
       let y : suc (2 * from + slot) ≡ 2 * from + suc slot = omega arith in
       (rw z at (h .0), subst (λ e. OnSide set end e ts) z (h .1), moved from (suc slot) lists (rw y at (h .2)))
 
-  pub part-side : (from n : ℕ) (lists : List (List ℕ)) → AllowedFrom set first end 0 lists → AllowedFrom set (first + from) end 0 (part (2 * from) (2 * n) lists)
+  pub part-side : (from n : ℕ) (lists : List (List ℕ)) → AllowedFrom kinds set first end 0 lists → AllowedFrom kinds set (first + from) end 0 (part (2 * from) (2 * n) lists)
   unfolding part
   part-side from n lists h =
       let z : 0 + 2 * from ≡ 2 * from + 0 = omega arith in
       moved from 0 (take (2 * n) (drop (2 * from) lists)) (rw z at (take-side (2 * n) (0 + 2 * from) (drop (2 * from) lists) (drop-side (2 * from) 0 lists h)))
 
-  side-at : (slot : ℕ) (lists : List (List ℕ)) (j : ℕ) → AllowedFrom set first end slot lists → OnSide set end (eventOf first (slot + j)) (getD lists j [])
+  side-at : (slot : ℕ) (lists : List (List ℕ)) (j : ℕ) → AllowedFrom kinds set first end slot lists → OnSide set end (eventOf kinds first (slot + j)) (getD lists j [])
   side-at slot [] j h = tt
   side-at slot (ts ∷ lists) zero h = let z : slot + 0 ≡ slot = omega arith in rw z (h .1)
   side-at slot (ts ∷ lists) (suc j) h = let z : slot + suc j ≡ suc slot + j = omega arith in rw z (side-at (suc slot) lists j (h .2))
@@ -95,38 +95,38 @@ parents-side end event seen (p ∷ ps) b e =
     let below : p < event = leb-false event p (not-refused ParentNotEarlier (leb event p) (h .0)) in
     ((lt-ltb p event below, omega arith), parents-side end event (p ∷ seen) ps b (h .1 .1 .0))
 
-pub forward-side : (first rows end slot : ℕ) (lists : List (List ℕ)) → first + rows < end64 → slot + length lists ≤ 2 * rows → slotRules first slot lists ≡ none
-    → AllowedFrom forward first end slot lists
+pub forward-side : (first rows end slot : ℕ) (lists : List (List ℕ)) → first + rows < end64 → slot + length lists ≤ 2 * rows → slotRules kinds first slot lists ≡ none
+    → AllowedFrom kinds forward first end slot lists
 unfolding slotRules
 forward-side first rows end slot [] b l e = tt
 forward-side first rows end slot (ps ∷ lists) b l e =
     let h = each-none _ e in
-    let small : eventOf first slot < end64 = omega arith in
-    (small, parents-side end (eventOf first slot) [] ps small (h .0), forward-side first rows end (suc slot) lists b (omega arith) (h .1 .0))
+    let small : eventOf kinds first slot < end64 = omega arith in
+    (small, parents-side end (eventOf kinds first slot) [] ps small (h .0), forward-side first rows end (suc slot) lists b (omega arith) (h .1 .0))
 
 -- ── reverse ──────────────────────────────────────────────────────────────────────────────────
 
-module _ (first rows end : ℕ) (lists : List (List ℕ)) (side : AllowedFrom forward first end 0 lists) where
+module _ (first rows end : ℕ) (lists : List (List ℕ)) (side : AllowedFrom kinds forward first end 0 lists) where
   -- what an event's list names is below the event
-  named-below : (k e p : ℕ) → k < kinds → mem p (listOf first lists k e) ≡ true → p < e
+  named-below : (k e p : ℕ) → k < kinds → mem p (listOf kinds first lists k e) ≡ true → p < e
   unfolding listOf allowed mem
   named-below k e p h m = elim (tested (ltb e first)) [
     | inl q ↦ absurd (false≢true (rw q at m))
     | inr q ↦ let l : first ≤ e = ltb-false e first q in
         let j = kinds * (e - first) + k in
-        let same : eventOf first (0 + j) ≡ e = omega arith in
+        let same : eventOf kinds first (0 + j) ≡ e = omega arith in
         ltb-true p e (each-has (λ t. (allowed forward end e t ≡ true) × (t < end64)) p (getD lists j [])
         (subst (λ n. OnSide forward end n (getD lists j [])) same (side-at forward first end 0 lists j side)) (rw q at m) .0)
   ]
 
-  pub reverse-side : first + rows ≤ end → end ≤ end64 → (p k : ℕ) → k < kinds → OnSide reverse end p (naming first rows lists p k)
+  pub reverse-side : first + rows ≤ end → end ≤ end64 → (p k : ℕ) → k < kinds → OnSide reverse end p (naming kinds first rows lists p k)
   unfolding naming allowed
   reverse-side u b p k j =
-      each-imp (λ e. ((first ≤ e) × (e < first + rows)) × (mem p (listOf first lists k e) ≡ true)) (λ e. (allowed reverse end p e ≡ true) × (e < end64)) (naming first rows lists p k)
+      each-imp (λ e. ((first ≤ e) × (e < first + rows)) × (mem p (listOf kinds first lists k e) ≡ true)) (λ e. (allowed reverse end p e ≡ true) × (e < end64)) (naming kinds first rows lists p k)
       (λ e w. let after : p < e = named-below k e p j (w .1) in (rw (lt-ltb p e after) (lt-ltb e end (omega arith)), omega arith))
-      (each-both _ _ (naming first rows lists p k)
-      (each-filter (λ e. mem p (listOf first lists k e)) (λ e. (first ≤ e) × (e < first + rows)) (upFrom first rows) (each-upFrom first rows))
-      (filter-passes (λ e. mem p (listOf first lists k e)) (upFrom first rows)))
+      (each-both _ _ (naming kinds first rows lists p k)
+      (each-filter (λ e. mem p (listOf kinds first lists k e)) (λ e. (first ≤ e) × (e < first + rows)) (upFrom first rows) (each-upFrom first rows))
+      (filter-passes (λ e. mem p (listOf kinds first lists k e)) (upFrom first rows)))
 
 -- ── inbound ──────────────────────────────────────────────────────────────────────────────────
 

@@ -32,7 +32,7 @@ Labels32 (some c) = Each (λ x. x < end32) (c .chains) × Each (λ x. x < end32)
 
 -- a set whose columns have room in slices of the lengths that building is to be lent
 pub record Roomy (s : EdgeSet) : Type 0 where
-  pub offsets : length (s .offsets) ≤ offsetsRoom
+  pub offsets : length (s .offsets) ≤ offsetsRoom kinds
   pub deltas : length (s .deltas) ≤ numbersRoom
 
 -- a number of the granule
@@ -45,23 +45,23 @@ pub record ReadsBack (g : Graph) (b : Built) : Type 0 where
   pub reverse-room : Roomy (b .reverse)
   pub inbound-room : Roomy (b .inbound)
   -- 17 to 19 refuse none of them
-  pub forward-kept : setRules forward (granuleStart g) (g .granuleRows) (endOf g) (b .forward) ≡ none
-  pub reverse-kept : setRules reverse (granuleStart g) (g .granuleRows) (endOf g) (b .reverse) ≡ none
-  pub inbound-kept : setRules inbound (granuleStart g) (g .granuleRows) (endOf g) (b .inbound) ≡ none
+  pub forward-kept : setRules kinds forward (granuleStart g) (g .granuleRows) (endOf g) (b .forward) ≡ none
+  pub reverse-kept : setRules kinds reverse (granuleStart g) (g .granuleRows) (endOf g) (b .reverse) ≡ none
+  pub inbound-kept : setRules kinds inbound (granuleStart g) (g .granuleRows) (endOf g) (b .inbound) ≡ none
   -- and they hold the lists that they were built from
-  pub forward-lists : slotsOf (granuleStart g) (b .forward) ≡ forwardPart g
-  pub reverse-lists : slotsOf (granuleStart g) (b .reverse) ≡ reversePart g
-  pub inbound-lists : slotsOf (granuleStart g) (b .inbound) ≡ inboundPart g
+  pub forward-lists : slotsOf kinds (granuleStart g) (b .forward) ≡ forwardPart kinds g
+  pub reverse-lists : slotsOf kinds (granuleStart g) (b .reverse) ≡ reversePart kinds g
+  pub inbound-lists : slotsOf kinds (granuleStart g) (b .inbound) ≡ inboundPart kinds g
   -- so a reader that is lent enough room accepts them, with label columns that 20 and 21 accept or without, and answers those lists
   pub granule : (labels : Option Labels) (lent : List Lent) → coverRules (g .granuleRows) labels ≡ none → any short lent ≡ false
-      → readGranule (granuleStart g) (g .granuleRows) (endOf g) (lentColumns b labels) lent
-      ≡ accepted (record { forward = forwardPart g; reverse = reversePart g; inbound = inboundPart g; labels = labelsIn labels })
+      → readGranule kinds (granuleStart g) (g .granuleRows) (endOf g) (lentColumns b labels) lent
+      ≡ accepted (record { forward = forwardPart kinds g; reverse = reversePart kinds g; inbound = inboundPart kinds g; labels = labelsIn labels })
   -- such are the columns of the granule's own labels, which give the labels that building was given for its rows
   pub labels-kept : Labels32 (g .labels) → coverRules (g .granuleRows) (labelsPart (g .granuleFirst) (g .granuleRows) (g .labels)) ≡ none
   pub labels-read : labelsIn (labelsPart (g .granuleFirst) (g .granuleRows) (g .labels)) ≡ part (g .granuleFirst) (g .granuleRows) (labelsIn (g .labels))
   -- a reverse list holds exactly the events of the file whose list of that kind names the number, rising
-  pub turned : (k n : ℕ) → k < kinds → InGranule g n → (e : ℕ) → e < endOf g → mem e (listOf (granuleStart g) (reversePart g) k n) ≡ mem n (listOf (g .first) (slotsIn g) k e)
-  pub turned-rising : (k n : ℕ) → k < kinds → InGranule g n → rising (listOf (granuleStart g) (reversePart g) k n) ≡ true
+  pub turned : (k n : ℕ) → k < kinds → InGranule g n → (e : ℕ) → e < endOf g → mem e (listOf kinds (granuleStart g) (reversePart kinds g) k n) ≡ mem n (listOf kinds (g .first) (slotsIn g) k e)
+  pub turned-rising : (k n : ℕ) → k < kinds → InGranule g n → rising (listOf kinds (granuleStart g) (reversePart kinds g) k n) ≡ true
   -- an inbound list holds exactly the children of the edges that are given, rising
-  pub given : (k n : ℕ) → k < kinds → InGranule g n → (c : ℕ) → (mem c (listOf (granuleStart g) (inboundPart g) k n) ≡ true) ↔ GivenEdge (g .inbound) c n k
-  pub given-rising : (k n : ℕ) → k < kinds → InGranule g n → rising (listOf (granuleStart g) (inboundPart g) k n) ≡ true
+  pub given : (k n : ℕ) → k < kinds → InGranule g n → (c : ℕ) → (mem c (listOf kinds (granuleStart g) (inboundPart kinds g) k n) ≡ true) ↔ GivenEdge (g .inbound) c n k
+  pub given-rising : (k n : ℕ) → k < kinds → InGranule g n → rising (listOf kinds (granuleStart g) (inboundPart kinds g) k n) ≡ true

@@ -100,21 +100,21 @@ module _ (first end : ℕ) (child kind flag : Option ℕ) {a : Bool} (e : a ≡ 
       record-kept r = rw (← e, not-false a p, ← f, not-false b q, ← g, not-false d r)
 
 module _ (first end : ℕ) (child parent kind : Option ℕ) {a : Bool} (e : a ≡ has (leb end) child) where
-  pub in-child-bad : not a ≡ true → Broken InboundChild ≡ ruling (inboundRules first end child parent kind)
+  pub in-child-bad : not a ≡ true → Broken InboundChild ≡ ruling (inboundRules kinds first end child parent kind)
   unfolding inboundRules firstOf
   in-child-bad p = rw (← e, not-true a p)
 
   module _ (p : not a ≡ false) {b : Bool} (f : b ≡ has (inFile first end) parent) where
-    pub in-parent-bad : not b ≡ true → Broken InboundParent ≡ ruling (inboundRules first end child parent kind)
+    pub in-parent-bad : not b ≡ true → Broken InboundParent ≡ ruling (inboundRules kinds first end child parent kind)
     unfolding inboundRules firstOf
     in-parent-bad q = rw (← e, not-false a p, ← f, not-true b q)
 
     module _ (q : not b ≡ false) {d : Bool} (g : d ≡ has (λ k. ltb k kinds) kind) where
-      pub in-kind-bad : not d ≡ true → Broken InboundParent ≡ ruling (inboundRules first end child parent kind)
+      pub in-kind-bad : not d ≡ true → Broken InboundParent ≡ ruling (inboundRules kinds first end child parent kind)
       unfolding inboundRules firstOf
       in-kind-bad r = rw (← e, not-false a p, ← f, not-false b q, ← g, not-true d r)
 
-      pub edge-kept : not d ≡ false → Kept ≡ ruling (inboundRules first end child parent kind)
+      pub edge-kept : not d ≡ false → Kept ≡ ruling (inboundRules kinds first end child parent kind)
       unfolding inboundRules firstOf
       edge-kept r = rw (← e, not-false a p, ← f, not-false b q, ← g, not-false d r)
 
@@ -162,16 +162,16 @@ module _ (first end : ℕ) (cs ks fs : List ℕ) (i n : ℕ) {t : Ruling} (e : t
 module _ (first end : ℕ) (cs ps ks : List ℕ) (i n : ℕ) {t : Ruling} (e : t ≡ ruling (inboundFrom first end cs ps ks i (n - i))) where
   pub inbound-done : n ≤ i → Kept ≡ t
   unfolding inboundFrom
-  inbound-done h = records-done (λ j. inboundRules first end (getElem? cs j) (getElem? ps j) (getElem? ks j)) i n e h
+  inbound-done h = records-done (λ j. inboundRules kinds first end (getElem? cs j) (getElem? ps j) (getElem? ks j)) i n e h
 
-  module _ (h : i < n) {r : Ruling} (k : r ≡ ruling (inboundRules first end (getElem? cs i) (getElem? ps i) (getElem? ks i))) where
+  module _ (h : i < n) {r : Ruling} (k : r ≡ ruling (inboundRules kinds first end (getElem? cs i) (getElem? ps i) (getElem? ks i))) where
     pub inbound-stop : {x : Refusal} → r ≡ Broken x → Broken x ≡ t
     unfolding inboundFrom
-    inbound-stop g = record-stop (λ j. inboundRules first end (getElem? cs j) (getElem? ps j) (getElem? ks j)) i n e h k g
+    inbound-stop g = record-stop (λ j. inboundRules kinds first end (getElem? cs j) (getElem? ps j) (getElem? ks j)) i n e h k g
 
     pub inbound-on : r ≡ Kept → t ≡ ruling (inboundFrom first end cs ps ks (i + 1) (n - (i + 1)))
     unfolding inboundFrom
-    inbound-on g = records-on (λ j. inboundRules first end (getElem? cs j) (getElem? ps j) (getElem? ks j)) i n e h k g
+    inbound-on g = records-on (λ j. inboundRules kinds first end (getElem? cs j) (getElem? ps j) (getElem? ks j)) i n e h k g
 
 -- all records, counted by the length that was found
 pub unresolved-all : (first end : ℕ) (cs ks fs : List ℕ) (n m : ℕ) → n ≡ m

@@ -9,6 +9,7 @@ use native.Mathlib.Nat.{not-suc-le-zero}
 use lib.Dec.{leb}
 use lib.ListN.{take, drop}
 use borrow.Author.Tests.{lt-ltb, le-leb, leb-true, leb-false}
+use Rattle.columns.specs.Limits.{kinds}
 use Rattle.lists.specs.Lists.{all, mem, part, upFrom, filter}
 use Rattle.lists.proofs.Tests.{tested}
 use Rattle.columns.specs.EdgeSet.{deltaOf}
@@ -24,7 +25,7 @@ unfoldable allTable : (ℕ → ℕ → List ℕ → Bool) → (ℕ → ℕ → L
 allTable q f first zero = true
 allTable q f first (suc n) = q first 0 (f first 0) && (q first 1 (f first 1) && allTable q f (suc first) n)
 
-fit-table : (f : ℕ → ℕ → List ℕ) (first m n : ℕ) → slotsFit first (2 * m) (slotTable f (first + m) n) ≡ allTable (λ e k l. spansFit e l) f (first + m) n
+fit-table : (f : ℕ → ℕ → List ℕ) (first m n : ℕ) → slotsFit first (2 * m) (slotTable kinds f (first + m) n) ≡ allTable (λ e k l. spansFit e l) f (first + m) n
 unfolding slotsFit slotTable upFrom allTable
 fit-table f first m zero = refl
 fit-table f first m (suc n) =
@@ -43,7 +44,7 @@ module _ (q : ℕ → ℕ → List ℕ → Bool) where
 
 -- ── the granule's part of a table ────────────────────────────────────────────────────────────
 
-drop-table : (f : ℕ → ℕ → List ℕ) (a first rows : ℕ) → a ≤ rows → drop (2 * a) (slotTable f first rows) ≡ slotTable f (first + a) (rows - a)
+drop-table : (f : ℕ → ℕ → List ℕ) (a first rows : ℕ) → a ≤ rows → drop (2 * a) (slotTable kinds f first rows) ≡ slotTable kinds f (first + a) (rows - a)
 unfolding slotTable upFrom
 drop-table f zero first rows h = let a : first + 0 ≡ first = omega arith in let b : rows - 0 ≡ rows = omega arith in rw (a, b)
 drop-table f (suc a) first zero h = absurd (not-suc-le-zero h)
@@ -53,7 +54,7 @@ drop-table f (suc a) first (suc rows) h =
     let z : suc rows - suc a ≡ rows - a = omega arith in
     rw (x, z, ← y) (drop-table f a (suc first) rows (omega arith))
 
-take-table : (f : ℕ → ℕ → List ℕ) (n first rows : ℕ) → n ≤ rows → take (2 * n) (slotTable f first rows) ≡ slotTable f first n
+take-table : (f : ℕ → ℕ → List ℕ) (n first rows : ℕ) → n ≤ rows → take (2 * n) (slotTable kinds f first rows) ≡ slotTable kinds f first n
 unfolding slotTable upFrom
 take-table f zero first rows h = refl
 take-table f (suc n) first zero h = absurd (not-suc-le-zero h)
@@ -61,16 +62,16 @@ take-table f (suc n) first (suc rows) h =
     let x : 2 * suc n ≡ suc (suc (2 * n)) = omega arith in
     rw x (ap (λ l. f first 0 ∷ (f first 1 ∷ l)) (take-table f n (suc first) rows (omega arith)))
 
-pub part-table : (f : ℕ → ℕ → List ℕ) (a n first rows : ℕ) → a + n ≤ rows → part (2 * a) (2 * n) (slotTable f first rows) ≡ slotTable f (first + a) n
+pub part-table : (f : ℕ → ℕ → List ℕ) (a n first rows : ℕ) → a + n ≤ rows → part (2 * a) (2 * n) (slotTable kinds f first rows) ≡ slotTable kinds f (first + a) n
 unfolding part
 part-table f a n first rows h = rw (drop-table f a first rows (omega arith)) (take-table f n (first + a) (rows - a) (omega arith))
 
 -- ── 15 of the granule's sets ─────────────────────────────────────────────────────────────────
 
-fit-whole : (f : ℕ → ℕ → List ℕ) (first n : ℕ) → deltasFit first (slotTable f first n) ≡ allTable (λ e k l. spansFit e l) f first n
+fit-whole : (f : ℕ → ℕ → List ℕ) (first n : ℕ) → deltasFit kinds first (slotTable kinds f first n) ≡ allTable (λ e k l. spansFit e l) f first n
 fit-whole f first n =
     let z : first + 0 ≡ first = omega arith in
-    deltas-slots first (slotTable f first n) ∙ (rw z at (fit-table f first 0 n))
+    deltas-slots first (slotTable kinds f first n) ∙ (rw z at (fit-table f first 0 n))
 
 near : (m x : ℕ) → m < x + 1024 → x < m + 1024 → fits63 (deltaOf m x) ≡ true
 near m x a b = elim (tested (leb x m)) [
@@ -88,10 +89,10 @@ near-list p m a (suc r) h k = elim (tested (p a)) [
 
 -- 15 of reverse edges: both ends are events of one file
 pub fit-reverse : (first rows from n : ℕ) (lists : List (List ℕ)) → rows ≤ 1024 → from + n ≤ rows
-    → deltasFit (first + from) (part (2 * from) (2 * n) (reverseLists first rows lists)) ≡ true
+    → deltasFit kinds (first + from) (part (2 * from) (2 * n) (reverseLists kinds first rows lists)) ≡ true
 unfolding reverseLists naming
 fit-reverse first rows from n lists h m =
-    rw (part-table (naming first rows lists) from n first rows m)
-    (fit-whole (naming first rows lists) (first + from) n
-    ∙ table-true (λ e k l. spansFit e l) (naming first rows lists) (first + from) n
-    (λ e k a b. near-list (λ event. mem e (listOf first lists k event)) e first rows (omega arith) (omega arith)))
+    rw (part-table (naming kinds first rows lists) from n first rows m)
+    (fit-whole (naming kinds first rows lists) (first + from) n
+    ∙ table-true (λ e k l. spansFit e l) (naming kinds first rows lists) (first + from) n
+    (λ e k a b. near-list (λ event. mem e (listOf kinds first lists k event)) e first rows (omega arith) (omega arith)))

@@ -1,5 +1,6 @@
 -- The rules of a granule, one after another.
 use Prim.Native.Nat.{ℕ, _+_, _-_, _*_, _≤_, _<_}
+use Rattle.columns.specs.Limits.{kinds}
 use Rattle.columns.specs.Building.{deltasFit}
 use Rattle.columns.specs.Refusal.{refuse, firstOf}
 use Rattle.columns.specs.declared.refusal.Refusal.the-variants.{GranuleRows, DeltaRange}
@@ -27,12 +28,12 @@ module _ (first rows : ℕ) (lists inbound : List (List ℕ)) (from n : ℕ) whe
     unfolding spanRules firstOf
     rows-over k = rw (lt-ltb rows (from + n) (omega arith))
 
-    module _ (k : n ≤ rows - from) {a : Bool} (e : a ≡ deltasFit (first + from) (part (2 * from) (2 * n) lists)) where
+    module _ (k : n ≤ rows - from) {a : Bool} (e : a ≡ deltasFit kinds (first + from) (part (2 * from) (2 * n) lists)) where
       pub forward-far : not a ≡ true → Broken DeltaRange ≡ ruling (spanRules first rows lists inbound from n)
       unfolding spanRules firstOf
       forward-far p = rw (le-ltb rows (from + n) (omega arith), ← e, not-true a p)
 
-      module _ (p : not a ≡ false) (few : rows ≤ 1024) {b : Bool} (f : b ≡ deltasFit (first + from) (part (2 * from) (2 * n) inbound)) where
+      module _ (p : not a ≡ false) (few : rows ≤ 1024) {b : Bool} (f : b ≡ deltasFit kinds (first + from) (part (2 * from) (2 * n) inbound)) where
         rest-span : spanRules first rows lists inbound from n ≡ firstOf (refuse DeltaRange (not b) ∷ [])
         unfolding spanRules firstOf
         rest-span = rw (le-ltb rows (from + n) (omega arith), ← e, not-false a p, fit-reverse first rows from n lists few (omega arith), ← f)

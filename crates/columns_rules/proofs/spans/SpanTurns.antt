@@ -10,6 +10,7 @@ use lib.Dec.{ltb, leb}
 use lib.ListN.{length, getD, drop, drop-of-length-le, length-take, length-drop}
 use lib.Seq.{slice, slice-cons, drop-cons, getD-take, getD-drop}
 use borrow.Author.Tests.{lt-ltb, le-ltb, leb-true, leb-false, not-true, not-false}
+use Rattle.columns.specs.Limits.{kinds}
 use Rattle.lists.specs.Lists.{all, part, joined}
 use Rattle.lists.proofs.Tests.{tested, all-append}
 use Rattle.lists.proofs.Slices.{slice-none}
@@ -50,7 +51,7 @@ module _ {t : Bool} (event j to : ℕ) (l : List ℕ) (e : t ≡ spansFit event 
     unfolding spansFit all
     spans-on q = rw (e, slice-cons j to l 0, ← f, not-false r q, add-one)
 
-module _ (rows from q : ℕ) (offsets targets : List ℕ) (ok : offsetsForm rows (length targets) offsets ≡ true) (h : 2 * from + q < 2 * rows) where
+module _ (rows from q : ℕ) (offsets targets : List ℕ) (ok : offsetsForm kinds rows (length targets) offsets ≡ true) (h : 2 * from + q < 2 * rows) where
   pub gran-in : 2 * from + q < length offsets
   gran-in = omega (arith, table-of rows (length targets) offsets ok .long)
 
@@ -66,16 +67,16 @@ module _ (rows from q : ℕ) (offsets targets : List ℕ) (ok : offsetsForm rows
       let d : first + from + q / 2 ≡ first + (from + q / 2) = omega arith in
       rw (getD-cut (2 * rows) offsets targets (table-of rows (length targets) offsets ok .long) (2 * from + q) h, d, ← x, ← y) e
 
-pub fit-slots : (first slot : ℕ) (lists : List (List ℕ)) → all fits63 (joined (deltasFrom first slot lists)) ≡ slotsFit first slot lists
+pub fit-slots : (first slot : ℕ) (lists : List (List ℕ)) → all fits63 (joined (deltasFrom kinds first slot lists)) ≡ slotsFit first slot lists
 unfolding joined deltasFrom slotsFit spansFit all
 fit-slots first slot [] = refl
-fit-slots first slot (l ∷ ls) = rw (all-append fits63 (map (deltaOf (eventOf first slot)) l) (joined (deltasFrom first (suc slot) ls)), fit-slots first (suc slot) ls)
+fit-slots first slot (l ∷ ls) = rw (all-append fits63 (map (deltaOf (eventOf kinds first slot)) l) (joined (deltasFrom kinds first (suc slot) ls)), fit-slots first (suc slot) ls)
 
-pub deltas-slots : (first : ℕ) (lists : List (List ℕ)) → deltasFit first lists ≡ slotsFit first 0 lists
+pub deltas-slots : (first : ℕ) (lists : List (List ℕ)) → deltasFit kinds first lists ≡ slotsFit first 0 lists
 unfolding deltasFit
 deltas-slots first lists = fit-slots first 0 lists
 
-module _ {t : Bool} (first rows from n q : ℕ) (offsets targets : List ℕ) (ok : offsetsForm rows (length targets) offsets ≡ true)
+module _ {t : Bool} (first rows from n q : ℕ) (offsets targets : List ℕ) (ok : offsetsForm kinds rows (length targets) offsets ≡ true)
     (e : t ≡ slotsFit (first + from) q (drop q (part (2 * from) (2 * n) (cut offsets targets)))) (m : from + n ≤ rows) where
   whole : length (cut offsets targets) ≡ 2 * rows
   whole = length-cut (2 * rows) 0 offsets targets (table-of rows (length targets) offsets ok .long)

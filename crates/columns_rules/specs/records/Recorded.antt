@@ -4,6 +4,7 @@ use mathlib.Core.List.{List, [], _∷_}
 use mathlib.Core.Option.{Option, none, some}
 use Prim.Native.Nat.{ℕ, _+_}
 use lib.ListN.{getElem?}
+use Rattle.columns.specs.Limits.{kinds}
 use Rattle.lists.specs.Lists.{upFrom}
 use Rattle.columns.specs.Refusal.{refuse, firstOf, firstIn}
 use Rattle.columns.specs.Building.{Depth, InboundColumns, recordCount, depthOk, labelsRules, unresolvedRules, inboundRules}
@@ -19,7 +20,7 @@ unresolvedFrom first end cs ks fs i n = firstIn (λ j. unresolvedRules first end
 
 -- 11 and 12 of n inbound edges, from place i on
 unfoldable pub inboundFrom : ℕ → ℕ → List ℕ → List ℕ → List ℕ → ℕ → ℕ → Option Refusal
-inboundFrom first end cs ps ks i n = firstIn (λ j. inboundRules first end (getElem? cs j) (getElem? ps j) (getElem? ks j)) (upFrom i n)
+inboundFrom first end cs ps ks i n = firstIn (λ j. inboundRules kinds first end (getElem? cs j) (getElem? ps j) (getElem? ks j)) (upFrom i n)
 
 -- labels as lent: none where there is no cover
 abbrev pub labelsGiven : Bool → List ℕ → List ℕ → Option Labels

@@ -5,7 +5,7 @@ ghost use mathlib.Core.Path.{_≡_};
 ghost use Prim.Native.Nat.{_+_};
 ghost use lib.Dec.{leb, ltb, eqb};
 ghost use lib.ListN.{getElem?};
-ghost use Rattle.columns.specs.Limits.{kinds};
+ghost use Rattle.columns.specs.Limits.{kinds, kinds as runKinds};
 ghost use Rattle.columns.specs.Building.{has, inFile, greater, recordCount, unresolvedRules, inboundRules};
 ghost use Rattle.columns.specs.Answers.{ruling};
 ghost use Rattle.columns_rules.specs.records.Recorded.{unresolvedFrom, inboundFrom};
@@ -141,7 +141,7 @@ fn inbound_rule(
     kinds: &[u64],
     i: usize,
 ) -> Ruling
-    ensures { λ r. ⌜ r ≡ ruling (inboundRules first (first + rows) (getElem? (now (children .entry)) i) (getElem? (now (parents .entry)) i) (getElem? (now (kinds .entry)) i)) ⌝ }
+    ensures { λ r. ⌜ r ≡ ruling (inboundRules runKinds first (first + rows) (getElem? (now (children .entry)) i) (getElem? (now (parents .entry)) i) (getElem? (now (kinds .entry)) i)) ⌝ }
 {
     if !past_file_at(first, rows, children, i) {
         return Ruling::Broken(Refusal::InboundChild);

@@ -6,7 +6,7 @@ ghost use mathlib.Core.Path.{_≡_};
 ghost use mathlib.Core.Bool.{true};
 ghost use Prim.Native.Nat.{_+_, _≤_, _<_};
 ghost use lib.ListN.{length};
-ghost use Rattle.columns.specs.Limits.{end64};
+ghost use Rattle.columns.specs.Limits.{kinds, end64};
 ghost use Rattle.columns.specs.EdgeSet.{offsetsForm, cut};
 ghost use Rattle.columns.specs.Answers.{ruling};
 ghost use Rattle.columns_rules.specs.spans.Spanned.{spanRules};
@@ -24,8 +24,8 @@ pub fn span_rules(
     n: usize,
 ) -> Ruling
     requires { ⌜ (rows ≤ 1024) × (first + rows < end64) ⌝ }
-    requires { ⌜ offsetsForm rows (length (now targets)) (now offsets) ≡ true ⌝ }
-    requires { ⌜ offsetsForm rows (length (now itargets)) (now ioffsets) ≡ true ⌝ }
+    requires { ⌜ offsetsForm kinds rows (length (now targets)) (now offsets) ≡ true ⌝ }
+    requires { ⌜ offsetsForm kinds rows (length (now itargets)) (now ioffsets) ≡ true ⌝ }
     ensures { λ r. ⌜ r ≡ ruling (spanRules first rows (cut (now (offsets .entry)) (now (targets .entry))) (cut (now (ioffsets .entry)) (now (itargets .entry))) from n) ⌝ }
 {
     if rows < from {

@@ -7,7 +7,7 @@ ghost use Prim.Native.Nat.{_+_, _*_, _/_, _≤_, _<_};
 ghost use lib.ListN.{length, getD};
 ghost use lib.Seq.{slice};
 ghost use Rattle.lists.specs.Lists.{part};
-ghost use Rattle.columns.specs.Limits.{end64};
+ghost use Rattle.columns.specs.Limits.{kinds, end64};
 ghost use Rattle.columns.specs.EdgeSet.{offsetsForm, cut, deltaOf};
 ghost use Rattle.columns.specs.Building.{fits63, deltasFit};
 ghost use Rattle.columns_rules.specs.spans.Spanned.{spansFit};
@@ -47,7 +47,7 @@ fn slot_fits(
     q: usize,
 ) -> bool
     requires { ⌜ (2 * from + q < 2 * rows) × ((rows ≤ 1024) × (first + rows < end64)) ⌝ }
-    requires { ⌜ offsetsForm rows (length (now targets)) (now offsets) ≡ true ⌝ }
+    requires { ⌜ offsetsForm kinds rows (length (now targets)) (now offsets) ≡ true ⌝ }
     ensures { λ r. ⌜ r ≡ spansFit (first + from + q / 2) (getD (cut (now (offsets .entry)) (now (targets .entry))) (2 * from + q) []) ⌝ }
 {
     let s = 2 * from + q;
@@ -68,8 +68,8 @@ pub fn slots_fit(
     targets: &[u64],
 ) -> bool
     requires { ⌜ (rows ≤ 1024) × ((first + rows < end64) × (from + n ≤ rows)) ⌝ }
-    requires { ⌜ offsetsForm rows (length (now targets)) (now offsets) ≡ true ⌝ }
-    ensures { λ r. ⌜ r ≡ deltasFit (first + from) (part (2 * from) (2 * n) (cut (now (offsets .entry)) (now (targets .entry)))) ⌝ }
+    requires { ⌜ offsetsForm kinds rows (length (now targets)) (now offsets) ≡ true ⌝ }
+    ensures { λ r. ⌜ r ≡ deltasFit kinds (first + from) (part (2 * from) (2 * n) (cut (now (offsets .entry)) (now (targets .entry)))) ⌝ }
 {
     let mut q = 0;
     while q < 2 * n {

@@ -11,6 +11,7 @@ use mir.Syntax.{w64}
 use mir.Val.{toZ, ofZ}
 use mir.ValLaws.{toZ-ofZ}
 use borrow.Author.Tests.{not-true, not-false}
+use Rattle.columns.specs.Limits.{kinds}
 use Rattle.lists.specs.Lists.{all, joined}
 use Rattle.lists.proofs.Tests.{both, all-append}
 use Rattle.columns.specs.EdgeSet.{cut, deltaOf, deltasFrom}
@@ -69,19 +70,19 @@ module _ (low high event j b : ℕ) (l : List ℕ) (g : all fits63 (deltasWithin
   pub reach-on : all fits63 (deltasWithin low high event (slice (j + 1) b l)) ≡ true
   reach-on = both-reach .1
 
-pub slots-reach : (low high first from n : ℕ) (offsets targets : List ℕ) → deltasFit first (rowsWithin low high from n offsets targets) ≡ true
-    → all fits63 (joined (deltasFrom first 0 (drop 0 (rowsWithin low high from n offsets targets)))) ≡ true
+pub slots-reach : (low high first from n : ℕ) (offsets targets : List ℕ) → deltasFit kinds first (rowsWithin kinds low high from n offsets targets) ≡ true
+    → all fits63 (joined (deltasFrom kinds first 0 (drop 0 (rowsWithin kinds low high from n offsets targets)))) ≡ true
 unfolding deltasFit
 slots-reach low high first from n offsets targets h = h
 
-module _ (low high first from n q : ℕ) (offsets targets : List ℕ) (g : all fits63 (joined (deltasFrom first q (drop q (rowsWithin low high from n offsets targets)))) ≡ true)
+module _ (low high first from n q : ℕ) (offsets targets : List ℕ) (g : all fits63 (joined (deltasFrom kinds first q (drop q (rowsWithin kinds low high from n offsets targets)))) ≡ true)
     (i : 2 * (from + n) < length offsets) (h : q < 2 * n) where
   both-slots : (all fits63 (deltasWithin low high (first + q / 2) (getD (cut offsets targets) (2 * from + q) [])) ≡ true)
-      × (all fits63 (joined (deltasFrom first (q + 1) (drop (q + 1) (rowsWithin low high from n offsets targets)))) ≡ true)
-  both-slots = split _ _ _ (deltas-left low high from n offsets targets i q first h) g
+      × (all fits63 (joined (deltasFrom kinds first (q + 1) (drop (q + 1) (rowsWithin kinds low high from n offsets targets)))) ≡ true)
+  both-slots = split _ _ _ (deltas-left kinds low high from n offsets targets i q first h) g
 
   pub slot-reach : all fits63 (deltasWithin low high (first + q / 2) (getD (cut offsets targets) (2 * from + q) [])) ≡ true
   slot-reach = both-slots .0
 
-  pub slots-reach-on : all fits63 (joined (deltasFrom first (q + 1) (drop (q + 1) (rowsWithin low high from n offsets targets)))) ≡ true
+  pub slots-reach-on : all fits63 (joined (deltasFrom kinds first (q + 1) (drop (q + 1) (rowsWithin kinds low high from n offsets targets)))) ≡ true
   slots-reach-on = both-slots .1

@@ -9,6 +9,7 @@ use native.Mathlib.Omega.{arith}
 use lib.IntN.{ℤ}
 use lib.ListN.{length, getD, drop, drop-of-length-le, length-take, length-drop, length-map}
 use lib.Seq.{slice, sets, drop-cons, getD-take, getD-drop, length-slice}
+use Rattle.columns.specs.Limits.{kinds}
 use Rattle.lists.specs.Lists.{part, joined}
 use Rattle.lists.proofs.Tests.{both}
 use Rattle.lists.proofs.Slices.{sets-append}
@@ -24,7 +25,7 @@ climbs slots count offsets t s (suc d) h =
     let z : s + suc d ≡ s + d + 1 = omega arith in
     rw z (omega (arith, climbs slots count offsets t s d (omega arith), t .rise (s + d) (omega arith)))
 
-module _ (rows from q : ℕ) (offsets targets : List ℕ) (ok : offsetsForm rows (length targets) offsets ≡ true) (h : 2 * from + q < 2 * rows) where
+module _ (rows from q : ℕ) (offsets targets : List ℕ) (ok : offsetsForm kinds rows (length targets) offsets ≡ true) (h : 2 * from + q < 2 * rows) where
   pub piece-order : (a b : ℕ) → a ≡ getD offsets (2 * from + q) 0 → b ≡ getD offsets (2 * from + q + 1) 0 → a ≤ b
   piece-order a b e f = omega (arith, table-of rows (length targets) offsets ok .rise (2 * from + q) h)
 
@@ -45,23 +46,23 @@ module _ (rows from q : ℕ) (offsets targets : List ℕ) (ok : offsetsForm rows
         → out′ ≡ sets out (getD offsets (2 * from + q) 0 - base) (map (deltaOf (first + from + q / 2)) (getD (cut offsets targets) (2 * from + q) []))
     piece-says base out out′ g = rw (list-is, event-is, ← e) g
 
-pub base-in : (rows from n : ℕ) (offsets targets : List ℕ) → offsetsForm rows (length targets) offsets ≡ true → from + n ≤ rows → 2 * from < length offsets
+pub base-in : (rows from n : ℕ) (offsets targets : List ℕ) → offsetsForm kinds rows (length targets) offsets ≡ true → from + n ≤ rows → 2 * from < length offsets
 base-in rows from n offsets targets ok h = omega (arith, table-of rows (length targets) offsets ok .long)
 
 -- what holds in the loop over the granule's slots
 pub record Writing (first rows from n : ℕ) (offsets targets : List ℕ) (base q : ℕ) (out out₀ : List ℤ) : Type 0 where
-  pub form : offsetsForm rows (length targets) offsets ≡ true
+  pub form : offsetsForm kinds rows (length targets) offsets ≡ true
   pub inside : from + n ≤ rows
   pub under : q ≤ 2 * n
   pub start : base ≡ getD offsets (2 * from) 0
   pub same : length out ≡ length out₀
   pub fits : slotsFit (first + from) q (drop q (part (2 * from) (2 * n) (cut offsets targets))) ≡ true
-  pub ends : sets out₀ 0 (joined (deltasFrom (first + from) 0 (part (2 * from) (2 * n) (cut offsets targets))))
-      ≡ sets out (getD offsets (2 * from + q) 0 - base) (joined (deltasFrom (first + from) q (drop q (part (2 * from) (2 * n) (cut offsets targets)))))
+  pub ends : sets out₀ 0 (joined (deltasFrom kinds (first + from) 0 (part (2 * from) (2 * n) (cut offsets targets))))
+      ≡ sets out (getD offsets (2 * from + q) 0 - base) (joined (deltasFrom kinds (first + from) q (drop q (part (2 * from) (2 * n) (cut offsets targets)))))
 
 module _ (first rows from n : ℕ) (offsets targets : List ℕ) (base : ℕ) where
-  pub writing-begins : (out : List ℤ) → offsetsForm rows (length targets) offsets ≡ true → from + n ≤ rows → base ≡ getD offsets (2 * from) 0
-      → deltasFit (first + from) (part (2 * from) (2 * n) (cut offsets targets)) ≡ true → Writing first rows from n offsets targets base 0 out out
+  pub writing-begins : (out : List ℤ) → offsetsForm kinds rows (length targets) offsets ≡ true → from + n ≤ rows → base ≡ getD offsets (2 * from) 0
+      → deltasFit kinds (first + from) (part (2 * from) (2 * n) (cut offsets targets)) ≡ true → Writing first rows from n offsets targets base 0 out out
   writing-begins out ok i e f = record {
     form = ok;
     inside = i;
@@ -80,7 +81,7 @@ module _ (first rows from n : ℕ) (offsets targets : List ℕ) (base : ℕ) whe
     unfolding part
     long = simp (length-take, length-drop) (omega (arith, whole, w .inside))
 
-    pub writing-done : 2 * n ≤ q → out ≡ sets out₀ 0 (joined (deltasFrom (first + from) 0 (part (2 * from) (2 * n) (cut offsets targets))))
+    pub writing-done : 2 * n ≤ q → out ≡ sets out₀ 0 (joined (deltasFrom kinds (first + from) 0 (part (2 * from) (2 * n) (cut offsets targets))))
     unfolding joined deltasFrom
     writing-done h =
         let z : drop q (part (2 * from) (2 * n) (cut offsets targets)) ≡ [] = drop-of-length-le (part (2 * from) (2 * n) (cut offsets targets)) {i = q} (omega (arith, long)) in
@@ -130,6 +131,6 @@ module _ (first rows from n : ℕ) (offsets targets : List ℕ) (base : ℕ) whe
         same = l ∙ w .same;
         fits = rw add-one (both (spansFit (first + from + q / 2) (getD (cut offsets targets) (2 * from + q) [])) (slotsFit (first + from) (suc q) (drop (suc q) (part (2 * from) (2 * n) (cut offsets targets)))) fits-parts .1);
         ends =
-            let step = sets-append out (getD offsets (2 * from + q) 0 - base) (map (deltaOf (first + from + q / 2)) (getD (cut offsets targets) (2 * from + q) [])) (joined (deltasFrom (first + from) (suc q) (drop (suc q) (part (2 * from) (2 * n) (cut offsets targets))))) in
+            let step = sets-append out (getD offsets (2 * from + q) 0 - base) (map (deltaOf (first + from + q / 2)) (getD (cut offsets targets) (2 * from + q) [])) (joined (deltasFrom kinds (first + from) (suc q) (drop (suc q) (part (2 * from) (2 * n) (cut offsets targets))))) in
             (rw this at (w .ends)) ∙ step ∙ rw (place, ← e, add-one);
       }

@@ -8,6 +8,7 @@ use native.Mathlib.Numerals.{add-one}
 use native.Mathlib.Omega.{arith}
 use lib.ListN.{length, getD, set, drop, drop-of-length-le, length-take, length-drop, length-set}
 use lib.Seq.{sets, drop-cons, drop-drop, getD-take, getD-drop, length-slice}
+use Rattle.columns.specs.Limits.{kinds}
 use Rattle.lists.specs.Lists.{part, starts}
 use Rattle.lists.proofs.Flat.{length-starts}
 use Rattle.columns.specs.EdgeSet.{offsetsForm, cut}
@@ -23,7 +24,7 @@ starts-rest : (a : ℕ) (l : List ℕ) (ls : List (List ℕ)) → drop 1 (starts
 unfolding starts
 starts-rest a l ls = refl
 
-module _ (rows from n : ℕ) (offsets targets : List ℕ) (ok : offsetsForm rows (length targets) offsets ≡ true) (inside : from + n ≤ rows) where
+module _ (rows from n : ℕ) (offsets targets : List ℕ) (ok : offsetsForm kinds rows (length targets) offsets ≡ true) (inside : from + n ≤ rows) where
   t : Table (2 * rows) (length targets) offsets
   t = table-of rows (length targets) offsets ok
 
@@ -71,7 +72,7 @@ module _ (rows from n : ℕ) (offsets targets : List ℕ) (ok : offsetsForm rows
 
 -- what holds in the loop
 pub record Starting (rows from n : ℕ) (offsets targets : List ℕ) (base s : ℕ) (out out₀ : List ℕ) : Type 0 where
-  pub form : offsetsForm rows (length targets) offsets ≡ true
+  pub form : offsetsForm kinds rows (length targets) offsets ≡ true
   pub inside : from + n ≤ rows
   pub first : base ≡ getD offsets (2 * from) 0
   pub under : s ≤ 2 * n + 1
@@ -80,7 +81,7 @@ pub record Starting (rows from n : ℕ) (offsets targets : List ℕ) (base s : �
   pub ends : sets out₀ 0 (starts 0 (part (2 * from) (2 * n) (cut offsets targets))) ≡ sets out s (drop s (starts 0 (part (2 * from) (2 * n) (cut offsets targets))))
 
 module _ (rows from n : ℕ) (offsets targets : List ℕ) (base : ℕ) where
-  pub starting-begins : (out : List ℕ) → offsetsForm rows (length targets) offsets ≡ true → from + n ≤ rows → base ≡ getD offsets (2 * from) 0 → 2 * n < length out
+  pub starting-begins : (out : List ℕ) → offsetsForm kinds rows (length targets) offsets ≡ true → from + n ≤ rows → base ≡ getD offsets (2 * from) 0 → 2 * n < length out
       → Starting rows from n offsets targets base 0 out out
   starting-begins out ok i e r = record { form = ok; inside = i; first = e; under = omega arith; room = r; same = refl; ends = refl }
 

@@ -6,6 +6,7 @@ use native.Mathlib.Omega.{arith}
 use lib.IntN.{ℤ}
 use lib.ListN.{length, getD, take, drop, length-append}
 use lib.Seq.{sets, take-all, length-take-le}
+use Rattle.columns.specs.Limits.{kinds}
 use Rattle.lists.specs.Lists.{part, joined, starts, sum}
 use Rattle.lists.proofs.Flat.{length-joined, length-starts, getD-starts}
 use Rattle.columns.specs.EdgeSet.{cut, deltasFrom, setOf}
@@ -46,28 +47,28 @@ module _ (first rows from n : ℕ) (offsets targets : List ℕ) (r : Reached fir
   unfolding setOf
   starts-written was out e = e
 
-  pub deltas-written : (was out : List ℤ) → out ≡ sets was 0 (joined (deltasFrom (first + from) 0 (part (2 * from) (2 * n) (cut offsets targets)))) → out ≡ sets was 0 (setAt first from n (cut offsets targets) .deltas)
+  pub deltas-written : (was out : List ℤ) → out ≡ sets was 0 (joined (deltasFrom kinds (first + from) 0 (part (2 * from) (2 * n) (cut offsets targets)))) → out ≡ sets was 0 (setAt first from n (cut offsets targets) .deltas)
   unfolding setOf
   deltas-written was out e = e
 
 -- ── a set out of a table ─────────────────────────────────────────────────────────────────────
 
 -- the reverse lists, at the front of the columns that `turn` is lent
-module _ (first rows from n : ℕ) (offsets targets : List ℕ) (t : Turnable first rows from n offsets targets) (m : ℕ) (e : m ≡ length (joined (reverseLists first rows (cut offsets targets))))
-    (offs was : List ℕ) (f : offs ≡ starts 0 (reverseLists first rows (cut offsets targets)) ++ drop (2 * rows + 1) was)
-    (list old : List ℕ) (g : list ≡ joined (reverseLists first rows (cut offsets targets)) ++ drop m old) where
-  back : cut (take (2 * rows + 1) offs) (take m list) ≡ reverseLists first rows (cut offsets targets)
+module _ (first rows from n : ℕ) (offsets targets : List ℕ) (t : Turnable first rows from n offsets targets) (m : ℕ) (e : m ≡ length (joined (reverseLists kinds first rows (cut offsets targets))))
+    (offs was : List ℕ) (f : offs ≡ starts 0 (reverseLists kinds first rows (cut offsets targets)) ++ drop (2 * rows + 1) was)
+    (list old : List ℕ) (g : list ≡ joined (reverseLists kinds first rows (cut offsets targets)) ++ drop m old) where
+  back : cut (take (2 * rows + 1) offs) (take m list) ≡ reverseLists kinds first rows (cut offsets targets)
   back = turned-back first rows (cut offsets targets) m e offs (drop (2 * rows + 1) was) f list (drop m old) g
 
   pub turned-many : m ≤ length list
-  turned-many = rw (g, length-append (joined (reverseLists first rows (cut offsets targets))) (drop m old)) (omega arith)
+  turned-many = rw (g, length-append (joined (reverseLists kinds first rows (cut offsets targets))) (drop m old)) (omega arith)
 
   pub turned-room : (k : ℕ) → m ≤ length targets → 4096 ≤ k → m ≤ k
   turned-room k a h = omega (arith, t .short)
 
   pub turned-offsets : 2 * rows + 1 ≤ length offs
   turned-offsets =
-      rw (f, length-append (starts 0 (reverseLists first rows (cut offsets targets))) (drop (2 * rows + 1) was), length-starts 0 (reverseLists first rows (cut offsets targets)), length-turned first rows (cut offsets targets))
+      rw (f, length-append (starts 0 (reverseLists kinds first rows (cut offsets targets))) (drop (2 * rows + 1) was), length-starts 0 (reverseLists kinds first rows (cut offsets targets)), length-turned first rows (cut offsets targets))
       (omega arith)
 
   pub turned-reached : Reached first rows from n (take (2 * rows + 1) offs) (take m list)
@@ -79,11 +80,11 @@ module _ (first rows from n : ℕ) (offsets targets : List ℕ) (t : Turnable fi
     fits = rw back (t .fits);
   }
 
-  pub turned-counted : (k : ℕ) → k ≡ setAt first from n (cut (take (2 * rows + 1) offs) (take m list)) .count → k ≡ setAt first from n (reverseLists first rows (cut offsets targets)) .count
+  pub turned-counted : (k : ℕ) → k ≡ setAt first from n (cut (take (2 * rows + 1) offs) (take m list)) .count → k ≡ setAt first from n (reverseLists kinds first rows (cut offsets targets)) .count
   turned-counted k d = rw back at d
 
-  pub turned-starts : (a b : List ℕ) → a ≡ sets b 0 (setAt first from n (cut (take (2 * rows + 1) offs) (take m list)) .offsets) → a ≡ sets b 0 (setAt first from n (reverseLists first rows (cut offsets targets)) .offsets)
+  pub turned-starts : (a b : List ℕ) → a ≡ sets b 0 (setAt first from n (cut (take (2 * rows + 1) offs) (take m list)) .offsets) → a ≡ sets b 0 (setAt first from n (reverseLists kinds first rows (cut offsets targets)) .offsets)
   turned-starts a b d = rw back at d
 
-  pub turned-deltas : (a b : List ℤ) → a ≡ sets b 0 (setAt first from n (cut (take (2 * rows + 1) offs) (take m list)) .deltas) → a ≡ sets b 0 (setAt first from n (reverseLists first rows (cut offsets targets)) .deltas)
+  pub turned-deltas : (a b : List ℤ) → a ≡ sets b 0 (setAt first from n (cut (take (2 * rows + 1) offs) (take m list)) .deltas) → a ≡ sets b 0 (setAt first from n (reverseLists kinds first rows (cut offsets targets)) .deltas)
   turned-deltas a b d = rw back at d

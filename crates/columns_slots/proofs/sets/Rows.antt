@@ -16,7 +16,7 @@ use borrow.Author.Tests.{not-true, not-false}
 use Rattle.lists.specs.Lists.{all}
 use Rattle.lists.proofs.Tests.{all-append}
 use Rattle.lists.proofs.Slices.{slice-join}
-use Rattle.columns.specs.Limits.{end64, maxNumbers}
+use Rattle.columns.specs.Limits.{kinds, end64, maxNumbers}
 use Rattle.columns.specs.EdgeSet.{cut, eventOf, fromTo, targetOf, sound}
 use Rattle.columns.specs.Reading.{soundFrom, targetsFrom}
 use Rattle.columns.specs.Answers.{named}
@@ -28,7 +28,7 @@ use Rattle.columns_slots.proofs.sets.Writes.{onward, this-then, few-bef
 -- ── the list of a row ────────────────────────────────────────────────────────────────────────
 
 -- both slots of a row have its event
-same-event : (first slot : ℕ) → slot % 2 ≡ 0 → eventOf first (suc slot) ≡ eventOf first slot
+same-event : (first slot : ℕ) → slot % 2 ≡ 0 → eventOf kinds first (suc slot) ≡ eventOf kinds first slot
 same-event first slot p = omega arith
 
 module _ (offsets : List ℕ) (deltas : List ℤ) (e : fromTo 0 (length deltas) offsets ≡ true) (slot : ℕ) (h : slot + 2 < length offsets)
@@ -63,30 +63,30 @@ in-row true true c d = refl
 in-row true false c d = refl
 in-row false b c d = refl
 
-module _ {t : Bool} (set first end slot : ℕ) (offsets : List ℕ) (deltas : List ℤ) (e : t ≡ soundFrom set first end slot (drop slot (cut offsets deltas)))
+module _ {t : Bool} (set first end slot : ℕ) (offsets : List ℕ) (deltas : List ℤ) (e : t ≡ soundFrom kinds set first end slot (drop slot (cut offsets deltas)))
     (p : slot % 2 ≡ 0) (h : slot + 2 < length offsets) (b : Bool)
-    (g : b ≡ (ltb (eventOf first slot) end64 && all (sound set end (eventOf first slot)) (getD (cut offsets deltas) slot [] ++ getD (cut offsets deltas) (slot + 1) []))) where
-  row-then : t ≡ (b && soundFrom set first end (slot + 2) (drop (slot + 2) (cut offsets deltas)))
+    (g : b ≡ (ltb (eventOf kinds first slot) end64 && all (sound set end (eventOf kinds first slot)) (getD (cut offsets deltas) slot [] ++ getD (cut offsets deltas) (slot + 1) []))) where
+  row-then : t ≡ (b && soundFrom kinds set first end (slot + 2) (drop (slot + 2) (cut offsets deltas)))
   unfolding soundFrom
   row-then =
       let i : slot < length (cut offsets deltas) = omega (arith, cut-length offsets deltas) in
       let j : suc slot < length (cut offsets deltas) = omega (arith, cut-length offsets deltas) in
       let two : slot + 2 ≡ suc (suc slot) = omega arith in
       rw (e, drop-cons (cut offsets deltas) slot [] i, drop-cons (cut offsets deltas) (suc slot) [] j, same-event first slot p, two, g, add-one slot, all-append)
-      (in-row (ltb (eventOf first slot) end64) (all (sound set end (eventOf first slot)) (getD (cut offsets deltas) slot [])) (all (sound set end (eventOf first slot)) (getD (cut offsets deltas) (suc slot) []))
-      (soundFrom set first end (suc (suc slot)) (drop (suc (suc slot)) (cut offsets deltas))))
+      (in-row (ltb (eventOf kinds first slot) end64) (all (sound set end (eventOf kinds first slot)) (getD (cut offsets deltas) slot [])) (all (sound set end (eventOf kinds first slot)) (getD (cut offsets deltas) (suc slot) []))
+      (soundFrom kinds set first end (suc (suc slot)) (drop (suc (suc slot)) (cut offsets deltas))))
 
   pub rows-stop : not b ≡ true → false ≡ t
   rows-stop f = rw (row-then, not-true b f)
 
-  pub rows-on : not b ≡ false → t ≡ soundFrom set first end (slot + 2) (drop (slot + 2) (cut offsets deltas))
+  pub rows-on : not b ≡ false → t ≡ soundFrom kinds set first end (slot + 2) (drop (slot + 2) (cut offsets deltas))
   rows-on f = rw (row-then, not-false b f)
 
 -- ── the targets, row by row ──────────────────────────────────────────────────────────────────
 
-module _ (first : ℕ) (offsets : List ℕ) (deltas : List ℤ) (r : Edged first offsets deltas) (slot : ℕ) (h : slot + 2 < length offsets) where
-  pub row-event : eventOf first slot < end64
-  row-event = slot-event first offsets deltas r slot (omega arith)
+module _ (first : ℕ) (offsets : List ℕ) (deltas : List ℤ) (r : Edged kinds first offsets deltas) (slot : ℕ) (h : slot + 2 < length offsets) where
+  pub row-event : eventOf kinds first slot < end64
+  row-event = slot-event kinds first offsets deltas r slot (omega arith)
 
   pub row-few : (at : ℕ) → at ≡ getD offsets slot 0 → at ≤ maxNumbers
   row-few at e = few-before first offsets deltas slot (omega arith) at r e
@@ -104,42 +104,42 @@ module _ (first : ℕ) (offsets : List ℕ) (deltas : List ℤ) (r : Edged first
     next-ends : to ≡ getD offsets (slot + 1 + 1) 0
     next-ends = ends offsets deltas (r .climbs) slot h from to f g
 
-    module _ (p : slot % 2 ≡ 0) (event : ℕ) (e : event ≡ eventOf first slot) where
-      next-event : event ≡ eventOf first (slot + 1)
+    module _ (p : slot % 2 ≡ 0) (event : ℕ) (e : event ≡ eventOf kinds first slot) where
+      next-event : event ≡ eventOf kinds first (slot + 1)
       next-event = omega arith
 
       pub row-named : all (named event) (slice from to deltas) ≡ true
       row-named =
           let mid = getD offsets (slot + 1) 0 in
-          rw (← row-join offsets deltas (r .climbs) slot h from to f g, all-append, slot-named first offsets deltas r slot (omega arith) event from mid e f refl)
-          (slot-named first offsets deltas r (slot + 1) (omega arith) event mid to next-event refl next-ends)
+          rw (← row-join offsets deltas (r .climbs) slot h from to f g, all-append, slot-named kinds first offsets deltas r slot (omega arith) event from mid e f refl)
+          (slot-named kinds first offsets deltas r (slot + 1) (omega arith) event mid to next-event refl next-ends)
 
-      row-list : getD (targetsFrom first 0 (cut offsets deltas)) slot [] ++ getD (targetsFrom first 0 (cut offsets deltas)) (slot + 1) [] ≡ map (targetOf event) (slice from to deltas)
+      row-list : getD (targetsFrom kinds first 0 (cut offsets deltas)) slot [] ++ getD (targetsFrom kinds first 0 (cut offsets deltas)) (slot + 1) [] ≡ map (targetOf event) (slice from to deltas)
       row-list =
           let mid = getD offsets (slot + 1) 0 in
-          rw (← row-join offsets deltas (r .climbs) slot h from to f g, map-append, slot-list first offsets deltas r slot (omega arith) event from mid e f refl, slot-list first offsets deltas r (slot + 1) (omega arith) event mid to next-event refl next-ends)
+          rw (← row-join offsets deltas (r .climbs) slot h from to f g, map-append, slot-list kinds first offsets deltas r slot (omega arith) event from mid e f refl, slot-list kinds first offsets deltas r (slot + 1) (omega arith) event mid to next-event refl next-ends)
 
-      row-count : length (getD (targetsFrom first 0 (cut offsets deltas)) slot [] ++ getD (targetsFrom first 0 (cut offsets deltas)) (slot + 1) []) ≡ to - from
+      row-count : length (getD (targetsFrom kinds first 0 (cut offsets deltas)) slot [] ++ getD (targetsFrom kinds first 0 (cut offsets deltas)) (slot + 1) []) ≡ to - from
       row-count = rw row-list (targets-count event from to deltas row-within)
 
-      pub row-ends : (at n : ℕ) → n ≡ at + (to - from) → n ≡ at + length (getD (targetsFrom first 0 (cut offsets deltas)) slot [] ++ getD (targetsFrom first 0 (cut offsets deltas)) (slot + 1) [])
+      pub row-ends : (at n : ℕ) → n ≡ at + (to - from) → n ≡ at + length (getD (targetsFrom kinds first 0 (cut offsets deltas)) slot [] ++ getD (targetsFrom kinds first 0 (cut offsets deltas)) (slot + 1) [])
       row-ends at n i = rw row-count i
 
       pub row-written : (at : ℕ) (was out : List ℕ) → out ≡ sets was at (map (targetOf event) (slice from to deltas))
-          → out ≡ sets was at (getD (targetsFrom first 0 (cut offsets deltas)) slot [] ++ getD (targetsFrom first 0 (cut offsets deltas)) (slot + 1) [])
+          → out ≡ sets was at (getD (targetsFrom kinds first 0 (cut offsets deltas)) slot [] ++ getD (targetsFrom kinds first 0 (cut offsets deltas)) (slot + 1) [])
       row-written at was out i = rw row-list i
 
-  pub row-onward : onward first offsets deltas slot ≡ (getD (targetsFrom first 0 (cut offsets deltas)) slot [] ++ getD (targetsFrom first 0 (cut offsets deltas)) (slot + 1) []) ++ onward first offsets deltas (slot + 2)
+  pub row-onward : onward first offsets deltas slot ≡ (getD (targetsFrom kinds first 0 (cut offsets deltas)) slot [] ++ getD (targetsFrom kinds first 0 (cut offsets deltas)) (slot + 1) []) ++ onward first offsets deltas (slot + 2)
   row-onward =
       let two : slot + 1 + 1 ≡ slot + 2 = omega arith in
       rw (this-then first offsets deltas slot (omega arith), this-then first offsets deltas (slot + 1) (omega arith), two, append-assoc)
 
   pub next-offset : (at next : ℕ) → slot % 2 ≡ 0 → at ≡ getD offsets slot 0
-      → next ≡ at + length (getD (targetsFrom first 0 (cut offsets deltas)) slot [] ++ getD (targetsFrom first 0 (cut offsets deltas)) (slot + 1) [])
+      → next ≡ at + length (getD (targetsFrom kinds first 0 (cut offsets deltas)) slot [] ++ getD (targetsFrom kinds first 0 (cut offsets deltas)) (slot + 1) [])
       → next ≡ getD offsets (slot + 2) 0
   next-offset at next p e f =
       let from = getD offsets slot 0 in
       let to = getD offsets (slot + 2) 0 in
       let k : from ≤ to = row-order from to refl refl in
-      let n : next ≡ at + (to - from) = f ∙ rw (row-count from to refl refl p (eventOf first slot) refl) in
+      let n : next ≡ at + (to - from) = f ∙ rw (row-count from to refl refl p (eventOf kinds first slot) refl) in
       omega arith

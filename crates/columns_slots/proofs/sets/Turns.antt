@@ -17,7 +17,7 @@ use Rattle.lists.specs.Lists.{all}
 use Rattle.lists.specs.Order.{climbsTo}
 use Rattle.lists.proofs.Tests.{same-test}
 use Rattle.lists.proofs.Slices.{slice-none}
-use Rattle.columns.specs.Limits.{end64, end32}
+use Rattle.columns.specs.Limits.{kinds, end64, end32}
 use Rattle.columns.specs.Refusal.{firstOf}
 use Rattle.columns.specs.EdgeSet.{cut, eventOf, fromTo, offsetsForm, sound}
 use Rattle.columns.specs.Reading.{soundFrom, setRules, labelRules}
@@ -42,11 +42,11 @@ module _ {t : Bool} (high low i : ℕ) (l : List ℕ) (e : t ≡ climbsTo high l
   climb-on h k = rw (e, drop-cons l i 0, le-leb low (getD l i 0) k, add-one)
 
 module _ (rows count : ℕ) (l : List ℕ) where
-  pub even-offsets : (length l % 2 ≡ 1 → ⊥) → false ≡ offsetsForm rows count l
+  pub even-offsets : (length l % 2 ≡ 1 → ⊥) → false ≡ offsetsForm kinds rows count l
   unfolding offsetsForm
   even-offsets h = rw (ne-eqb (length l) (2 * rows + 1) (λ e. h (omega arith)))
 
-  pub other-rows : (length l / 2 ≡ rows → ⊥) → false ≡ offsetsForm rows count l
+  pub other-rows : (length l / 2 ≡ rows → ⊥) → false ≡ offsetsForm kinds rows count l
   unfolding offsetsForm
   other-rows h = rw (ne-eqb (length l) (2 * rows + 1) (λ e. h (omega arith)))
 
@@ -59,14 +59,14 @@ module _ (rows count : ℕ) (l : List ℕ) where
     rest [] g = absurd (omega arith)
     rest (x ∷ xs) g = refl
 
-    formed : offsetsForm rows count l ≡ (eqb (getD l 0 0) 0 && climbsTo count (getD l 0 0) (drop 1 l))
+    formed : offsetsForm kinds rows count l ≡ (eqb (getD l 0 0) 0 && climbsTo count (getD l 0 0) (drop 1 l))
     unfolding offsetsForm
     formed = rw (eq-eqb (length l) (2 * rows + 1) (omega arith)) (rest l some-form)
 
-    pub starts-late : (getD l 0 0 ≡ 0 → ⊥) → false ≡ offsetsForm rows count l
+    pub starts-late : (getD l 0 0 ≡ 0 → ⊥) → false ≡ offsetsForm kinds rows count l
     starts-late g = rw (formed, ne-eqb (getD l 0 0) 0 g)
 
-    pub then-climbs : (r : Bool) → getD l 0 0 ≡ 0 → r ≡ climbsTo count 0 (drop 1 l) → r ≡ offsetsForm rows count l
+    pub then-climbs : (r : Bool) → getD l 0 0 ≡ 0 → r ≡ climbsTo count 0 (drop 1 l) → r ≡ offsetsForm kinds rows count l
     then-climbs r g e = rw (formed, g) e
 
 -- ── deltas ───────────────────────────────────────────────────────────────────────────────────
@@ -100,27 +100,27 @@ module _ {t : Bool} (set end event i to : ℕ) (ds : List ℤ) (e : t ≡ all (s
 
 -- ── slots ────────────────────────────────────────────────────────────────────────────────────
 
-module _ (first slot : ℕ) (b : Bool) (e : b ≡ ltb (eventOf first slot) end64) where
-  pub no-event : (p : Bool) → not b ≡ true → false ≡ (ltb (eventOf first slot) end64 && p)
+module _ (first slot : ℕ) (b : Bool) (e : b ≡ ltb (eventOf kinds first slot) end64) where
+  pub no-event : (p : Bool) → not b ≡ true → false ≡ (ltb (eventOf kinds first slot) end64 && p)
   no-event p h = rw (sym e ∙ not-true b h)
 
   module _ (h : not b ≡ false) where
-    pub an-event : eventOf first slot < end64
+    pub an-event : eventOf kinds first slot < end64
     an-event = ltb-true _ _ (sym e ∙ not-false b h)
 
     -- an event's deltas that stand in a column from one place up to another
-    pub deltas-tell : (set end event from to : ℕ) (deltas list : List ℤ) (r : Bool) → list ≡ slice from to deltas → event ≡ eventOf first slot
-        → r ≡ all (sound set end event) (slice from to deltas) → r ≡ (ltb (eventOf first slot) end64 && all (sound set end (eventOf first slot)) list)
+    pub deltas-tell : (set end event from to : ℕ) (deltas list : List ℤ) (r : Bool) → list ≡ slice from to deltas → event ≡ eventOf kinds first slot
+        → r ≡ all (sound set end event) (slice from to deltas) → r ≡ (ltb (eventOf kinds first slot) end64 && all (sound set end (eventOf kinds first slot)) list)
     deltas-tell set end event from to deltas list r l i p = rw (sym e ∙ not-false b h, l, ← i) p
 
 -- what the tests of a slot say of all slots from it on
-module _ {t : Bool} (set first end slot : ℕ) (offsets : List ℕ) (deltas : List ℤ) (e : t ≡ soundFrom set first end slot (drop slot (cut offsets deltas))) where
+module _ {t : Bool} (set first end slot : ℕ) (offsets : List ℕ) (deltas : List ℤ) (e : t ≡ soundFrom kinds set first end slot (drop slot (cut offsets deltas))) where
   pub slots-done : length offsets ≤ slot + 1 → true ≡ t
   unfolding soundFrom
   slots-done h = rw (e, drop-of-length-le (cut offsets deltas) {i = slot} (omega (arith, cut-length offsets deltas)))
 
   pub slots-last : slot + 1 < length offsets → length offsets ≤ slot + 2 → (r : Bool)
-      → r ≡ (ltb (eventOf first slot) end64 && all (sound set end (eventOf first slot)) (getD (cut offsets deltas) slot [])) → r ≡ t
+      → r ≡ (ltb (eventOf kinds first slot) end64 && all (sound set end (eventOf kinds first slot)) (getD (cut offsets deltas) slot [])) → r ≡ t
   unfolding soundFrom
   slots-last h k r g =
       let in-cut : slot < length (cut offsets deltas) = omega (arith, cut-length offsets deltas) in
@@ -128,31 +128,31 @@ module _ {t : Bool} (set first end slot : ℕ) (offsets : List ℕ) (deltas : Li
 
 -- ── the rules of one set ─────────────────────────────────────────────────────────────────────
 
-module _ (set first rows end count : ℕ) (offsets : List ℕ) (deltas : List ℤ) (b : Bool) (e : b ≡ offsetsForm rows count offsets) where
-  pub bad-form : not b ≡ true → Broken OffsetsForm ≡ ruling (setRules set first rows end (columnsOf count offsets deltas))
+module _ (set first rows end count : ℕ) (offsets : List ℕ) (deltas : List ℤ) (b : Bool) (e : b ≡ offsetsForm kinds rows count offsets) where
+  pub bad-form : not b ≡ true → Broken OffsetsForm ≡ ruling (setRules kinds set first rows end (columnsOf count offsets deltas))
   unfolding setRules firstOf
   bad-form h = rw (sym e ∙ not-true b h)
 
   module _ (h : not b ≡ false) where
-    pub no-edges : count ≡ 0 → Kept ≡ ruling (setRules set first rows end (columnsOf count offsets deltas))
+    pub no-edges : count ≡ 0 → Kept ≡ ruling (setRules kinds set first rows end (columnsOf count offsets deltas))
     unfolding setRules firstOf
     no-edges k = rw (sym e ∙ not-false b h, le-ltb 0 count (omega arith))
 
     module _ (k : count ≡ 0 → ⊥) where
-      pub bad-count : (length deltas ≡ count → ⊥) → Broken DeltaCount ≡ ruling (setRules set first rows end (columnsOf count offsets deltas))
+      pub bad-count : (length deltas ≡ count → ⊥) → Broken DeltaCount ≡ ruling (setRules kinds set first rows end (columnsOf count offsets deltas))
       unfolding setRules firstOf
       bad-count f = rw (sym e ∙ not-false b h, lt-ltb 0 count (omega arith), ne-eqb (length deltas) count f)
 
       module _ (f : length deltas ≡ count) where
         pub deltas-climb : fromTo 0 (length deltas) offsets ≡ true
-        deltas-climb = rw f (form-climbs rows count offsets (sym e ∙ not-false b h))
+        deltas-climb = rw f (form-climbs kinds rows count offsets (sym e ∙ not-false b h))
 
-        module _ (r : Bool) (g : r ≡ soundFrom set first end 0 (cut offsets deltas)) where
-          pub bad-side : not r ≡ true → Broken TargetSide ≡ ruling (setRules set first rows end (columnsOf count offsets deltas))
+        module _ (r : Bool) (g : r ≡ soundFrom kinds set first end 0 (cut offsets deltas)) where
+          pub bad-side : not r ≡ true → Broken TargetSide ≡ ruling (setRules kinds set first rows end (columnsOf count offsets deltas))
           unfolding setRules firstOf
           bad-side q = rw (sym e ∙ not-false b h, lt-ltb 0 count (omega arith), eq-eqb (length deltas) count f, sym g ∙ not-true r q)
 
-          pub all-kept : not r ≡ false → Kept ≡ ruling (setRules set first rows end (columnsOf count offsets deltas))
+          pub all-kept : not r ≡ false → Kept ≡ ruling (setRules kinds set first rows end (columnsOf count offsets deltas))
           unfolding setRules firstOf
           all-kept q = rw (sym e ∙ not-false b h, lt-ltb 0 count (omega arith), eq-eqb (length deltas) count f, sym g ∙ not-false r q)
 
@@ -196,6 +196,6 @@ module _ (rows : ℕ) (chains seqs : List ℕ) where
         labels-kept q = rw (eq-eqb (length chains) rows h, eq-eqb (length seqs) rows k, sym e ∙ not-false b f, sym g ∙ not-false c q)
 
 -- a set by its number
-pub by-number : {r : Bool} {n k : ℕ} (first end : ℕ) (offsets : List ℕ) (deltas : List ℤ) → n ≡ k → r ≡ soundFrom n first end 0 (cut offsets deltas)
-    → r ≡ soundFrom k first end 0 (cut offsets deltas)
-by-number first end offsets deltas e f = f ∙ ap (λ m. soundFrom m first end 0 (cut offsets deltas)) e
+pub by-number : {r : Bool} {n k : ℕ} (first end : ℕ) (offsets : List ℕ) (deltas : List ℤ) → n ≡ k → r ≡ soundFrom kinds n first end 0 (cut offsets deltas)
+    → r ≡ soundFrom kinds k first end 0 (cut offsets deltas)
+by-number first end offsets deltas e f = f ∙ ap (λ m. soundFrom kinds m first end 0 (cut offsets deltas)) e

@@ -12,7 +12,7 @@ use borrow.Author.Tests.{lt-ltb, le-ltb, ltb-true, ltb-false}
 use Rattle.lists.specs.Lists.{any}
 use Rattle.lists.proofs.Tests.{tested, any-append}
 use Rattle.lists.proofs.Once.{or-is-false}
-use Rattle.columns.specs.Limits.{maxRecords, maxNumbers}
+use Rattle.columns.specs.Limits.{kinds, maxRecords, maxNumbers}
 use Rattle.columns.specs.Refusal.{refused, accepted, unless, refuse, firstOf, short, limits}
 use Rattle.columns.specs.EdgeSet.{EdgeSet}
 use Rattle.columns.specs.Reading.{setRules, slotsOf, setLengths, decodeSet}
@@ -40,11 +40,11 @@ module _ (first rows end : ℕ) (s : EdgeSet) (kind limit : ℕ) (visited fronti
   no-longer : any (ltb maxNumbers) (setLengths s ++ (length visited ∷ length frontier ∷ [])) ≡ any (ltb maxNumbers) (setLengths s)
   no-longer = any-append (ltb maxNumbers) (setLengths s) (length visited ∷ length frontier ∷ []) ∙ rw i (or-false (any (ltb maxNumbers) (setLengths s)))
 
-  as-read : next first rows end s kind limit visited frontier (room a) ≡ unless (lentRules 0 first rows end s (room n)) (level (listOf first (slotsOf first s) kind) limit visited frontier)
+  as-read : next first rows end s kind limit visited frontier (room a) ≡ unless (lentRules kinds 0 first rows end s (room n)) (level (listOf kinds first (slotsOf kinds first s) kind) limit visited frontier)
   unfolding next lentRules limits
   as-read = rw (no-longer, same-short n a m)
 
-  module _ (r : Counted) (e : r ≡ countedOf (inOne (decodeSet 0 first rows end s (room n)))) where
+  module _ (r : Counted) (e : r ≡ countedOf (inOne (decodeSet kinds 0 first rows end s (room n)))) where
     next-is-refused : (why : Refusal) → r ≡ counted.Refused why → next first rows end s kind limit visited frontier (room a) ≡ refused why
     unfolding unless
     next-is-refused why f = as-read ∙ rw (was-refused n first rows end s r e why f)
@@ -58,17 +58,17 @@ module _ (first rows end : ℕ) (s : EdgeSet) (kind limit : ℕ) (visited fronti
     next-kept why f out = rw (next-is-refused why f)
 
     module _ (k : ℕ) (f : r ≡ counted.Entries k) where
-      all-kept : lentRules 0 first rows end s (room n) ≡ none
+      all-kept : lentRules kinds 0 first rows end s (room n) ≡ none
       all-kept = was-read n first rows end s r e k f
 
       pub room-out : 4096 ≤ a
       room-out = let w = whole n first rows end s all-kept in omega arith
 
-      module _ (l t : List ℕ) (g : t ≡ writtenOver (take n l) (inOne (decodeSet 0 first rows end s (room n))) ++ drop n l) (slot : ℕ) (ks : slot ≡ kind) where
-        same-level : level (parentsIn first slot (s .offsets) t) limit visited frontier ≡ level (listOf first (slotsOf first s) kind) limit visited frontier
+      module _ (l t : List ℕ) (g : t ≡ writtenOver (take n l) (inOne (decodeSet kinds 0 first rows end s (room n))) ++ drop n l) (slot : ℕ) (ks : slot ≡ kind) where
+        same-level : level (parentsIn first slot (s .offsets) t) limit visited frontier ≡ level (listOf kinds first (slotsOf kinds first s) kind) limit visited frontier
         same-level =
             ap (λ (i : ℕ). level (parentsIn first i (s .offsets) t) limit visited frontier) ks
-            ∙ ap (λ (p : ℕ → List ℕ). level p limit visited frontier) (parents-fun first kind (s .offsets) t (slotsOf first s) (parents-are n first rows end s all-kept l t g))
+            ∙ ap (λ (p : ℕ → List ℕ). level p limit visited frontier) (parents-fun first kind (s .offsets) t (slotsOf kinds first s) (parents-are n first rows end s all-kept l t g))
 
         accepted-next : next first rows end s kind limit visited frontier (room a) ≡ accepted (level (parentsIn first slot (s .offsets) t) limit visited frontier)
         unfolding unless
@@ -107,7 +107,7 @@ module _ (first rows end : ℕ) (s : EdgeSet) (kind limit : ℕ) (visited fronti
   long-verdict = rw some-long (go (any (ltb maxRecords) (rows ∷ [])) e)
     where
       go : (b : Bool) → some why ≡ firstOf (refuse OverRecords b ∷ some OverNumbers ∷ none ∷ [])
-          → unless (firstOf (firstOf (refuse OverRecords b ∷ some OverNumbers ∷ refuse SliceShort (any short (room a)) ∷ []) ∷ setRules 0 first rows end s ∷ [])) (level (listOf first (slotsOf first s) kind) limit visited frontier) ≡ refused why
+          → unless (firstOf (firstOf (refuse OverRecords b ∷ some OverNumbers ∷ refuse SliceShort (any short (room a)) ∷ []) ∷ setRules kinds 0 first rows end s ∷ [])) (level (listOf kinds first (slotsOf kinds first s) kind) limit visited frontier) ≡ refused why
       go true q = let z : why ≡ OverRecords = cc in rw z
       go false q = let z : why ≡ OverNumbers = cc in rw z
 

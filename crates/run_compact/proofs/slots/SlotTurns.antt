@@ -57,12 +57,12 @@ module _ (offsets targets : List ℕ) (s : ℕ) (h : s + 1 < length offsets) (ok
 
 -- ── the loop over the slots ──────────────────────────────────────────────────────────────────
 
-module _ (flags offsets targets : List ℕ) (ok : offsetsForm (length flags) (length targets) offsets ≡ true) where
+module _ (flags offsets targets : List ℕ) (ok : offsetsForm kinds (length flags) (length targets) offsets ≡ true) where
   pub table-form : fromTo 0 (length targets) offsets ≡ true
-  table-form = form-table (length flags) (length targets) offsets ok
+  table-form = form-table kinds (length flags) (length targets) offsets ok
 
   pub next-there : (s : ℕ) → s < kinds * length flags → s + 1 < length offsets
-  next-there s h = omega (arith, form-length (length flags) (length targets) offsets ok)
+  next-there s h = omega (arith, form-length kinds (length flags) (length targets) offsets ok)
 
   pub next-above : (s end : ℕ) → s < kinds * length flags → end ≤ getD offsets s 0 → end ≤ getD offsets (s + 1) 0
   next-above s end h l = omega (arith, table-rises (length targets) offsets table-form s (s + 1) (omega arith) (next-there s h))
@@ -72,13 +72,13 @@ module _ (flags offsets targets : List ℕ) (ok : offsetsForm (length flags) (le
     pub slots-done : kinds * length flags ≤ s → Built offs all k end (cut (take (k + 1) offs) (take end all)) → Built offs all (length t) end t
     unfolding slotsFrom
     slots-done h b =
-        let o : length (cut offsets targets) ≤ s = omega (arith, rows-length (length flags) offsets targets ok) in
+        let o : length (cut offsets targets) ≤ s = omega (arith, rows-length kinds (length flags) offsets targets ok) in
         let q : t ≡ cut (take (k + 1) offs) (take end all) = e ∙ rw (drop-of-length-le (cut offsets targets) {i = s} o, append-nil) in
         rw (q, b .count) b
 
     module _ (h : s < kinds * length flags) where
       here : drop s (cut offsets targets) ≡ getD (cut offsets targets) s [] ∷ drop (suc s) (cut offsets targets)
-      here = drop-cons (cut offsets targets) s [] (omega (arith, rows-length (length flags) offsets targets ok))
+      here = drop-cons (cut offsets targets) s [] (omega (arith, rows-length kinds (length flags) offsets targets ok))
 
       pub slot-gone : (getD flags (s / 2) 0 ≡ 0 → ⊥) → t ≡ cut (take (k + 1) offs) (take end all) ++ slotsFrom flags (s + 1) (drop (s + 1) (cut offsets targets))
       unfolding slotsFrom
@@ -130,13 +130,13 @@ module _ (flags : List ℕ) (lists : List (List ℕ)) (w : length lists ≡ kind
       go true = refl
       go false = refl
 
-  pub slots-kept : slotsFrom flags 0 lists ≡ keepSlots (gone flags) lists
+  pub slots-kept : slotsFrom flags 0 lists ≡ keepSlots kinds (gone flags) lists
   unfolding keepSlots gone
   slots-kept = sym (ap (λ n. flat (λ j. cond (getD (gone flags) j false) [] (part (kinds * j) kinds lists)) (upFrom 0 n)) (length-map flags (λ f. not (eqb f 0))) ∙ rows-from (length flags) 0 0 (omega arith) (omega arith))
 
-pub kept-built : (offs all : List ℕ) (r : ℕ) (flags offsets targets : List ℕ) → offsetsForm (length flags) (length targets) offsets ≡ true
+pub kept-built : (offs all : List ℕ) (r : ℕ) (flags offsets targets : List ℕ) → offsetsForm kinds (length flags) (length targets) offsets ≡ true
     → Built offs all (length (slotsFrom flags 0 (cut offsets targets))) r (slotsFrom flags 0 (cut offsets targets))
-    → Built offs all (length (keepSlots (gone flags) (cut offsets targets))) r (keepSlots (gone flags) (cut offsets targets))
+    → Built offs all (length (keepSlots kinds (gone flags) (cut offsets targets))) r (keepSlots kinds (gone flags) (cut offsets targets))
 kept-built offs all r flags offsets targets ok b =
-    let q = slots-kept flags (cut offsets targets) (rows-length (length flags) offsets targets ok) in
+    let q = slots-kept flags (cut offsets targets) (rows-length kinds (length flags) offsets targets ok) in
     rw (← q) b

@@ -1,5 +1,6 @@
 -- `run_renumber::add_slot` meets its contract. The parents are the slot's, and the list that was made is one more of the table.
 use borrow.Author.Needs.{needs}
+use Rattle.columns.specs.Limits.{kinds}
 use Rattle.run_renumber.proofs.Slots.{read-ordered, read-within, kind-below, built-table, built-room, built-filled, slot-put, slot-none}
 use Rattle.run_renumber.proofs.add_slot.Statement.{statement}
 use Rattle.run_renumber.proofs.add_slot.Tie as tie
@@ -11,7 +12,7 @@ returns : tie.Need-returns
 returns c =
     let call = c .before .before .before .before .before in
     let asked = call .before .before .before .before .before .before .before .before .before .before .before .before .before .pre in
-    slot-put _ _ _ _ (asked .0) (asked .1 .0 .0) _ _ (call .before .before .before .before .before .index .ensures) (call .before .before .before .index2 .ensures)
+    slot-put kinds _ _ _ _ (asked .0) (asked .1 .0 .0) _ _ (call .before .before .before .before .before .index .ensures) (call .before .before .before .index2 .ensures)
     _ _ _ _ _ _ _ (asked .1 .1) _ _ (call .new-list .ensures) _ (c .before .g .given .1) (asked .1 .0 .1 .0)
 
 returns-2 : tie.Need-returns-2

@@ -17,7 +17,7 @@ abbrev Inv-loop : tie.InvT-loop
 Inv-loop start flags numbers offsets targets offs₀ all₀ slots end₀ s₀ offs all end s =
     (s ≤ kinds * length flags) × (length offs ≡ length offs₀) × (length all ≡ length all₀)
     × Built offs all s end (cut (take (s + 1) offs) (take end all))
-    × (newListsFrom start flags numbers [] (cut offsets targets) ≡ newListsFrom start flags numbers (cut (take (s + 1) offs) (take end all)) (drop s (cut offsets targets)))
+    × (newListsFrom kinds start flags numbers [] (cut offsets targets) ≡ newListsFrom kinds start flags numbers (cut (take (s + 1) offs) (take end all)) (drop s (cut offsets targets)))
 
 abbrev μ-loop : tie.MeasureT-loop
 μ-loop start flags numbers offsets targets offs₀ all₀ slots end₀ s₀ offs all end s =

@@ -4,6 +4,7 @@ use mathlib.Core.Path.{_≡_}
 use Prim.Native.Nat.{_≤_, _+_, _-_}
 use lib.ListN.{length}
 use borrow.Author.Needs.{needs}
+use Rattle.columns.specs.Limits.{kinds}
 use Rattle.lists.specs.Lists.{filter, upFrom}
 use Rattle.columns.specs.EdgeSet.{cut}
 use Rattle.run_renumber.specs.Reparented.{isReparented, reparented}
@@ -15,7 +16,7 @@ use Rattle.run_renumber.proofs.count_reparented.Tie as tie
 abbrev Inv-loop : tie.InvT-loop
 Inv-loop start flags offsets targets n₀ i₀ n i =
     (i ≤ length flags) × (n ≤ i)
-    × (reparented start flags (cut offsets targets) ≡ n + length (filter (isReparented start flags (cut offsets targets)) (upFrom i (length flags - i))))
+    × (reparented kinds start flags (cut offsets targets) ≡ n + length (filter (isReparented kinds start flags (cut offsets targets)) (upFrom i (length flags - i))))
 
 abbrev μ-loop : tie.MeasureT-loop
 μ-loop start flags offsets targets n₀ i₀ n i =

@@ -5,6 +5,7 @@ use Prim.Native.Nat.{_≤_, _+_, _-_}
 use lib.ListN.{length, take}
 use lib.Seq.{slice}
 use borrow.Author.Needs.{needs}
+use Rattle.columns.specs.Limits.{kinds}
 use Rattle.columns.specs.EdgeSet.{cut}
 use Rattle.run_renumber.specs.NewLists.{addParent, newList}
 use Rattle.run_renumber.proofs.Growing.{above-now, room-now, kept-now}
@@ -15,8 +16,8 @@ use Rattle.run_renumber.proofs.new_list.Tie as tie
 abbrev Inv-loop : tie.InvT-loop
 Inv-loop start flags numbers kind offs s all₀ base parents a b n₀ i₀ all n i =
     (i ≤ b) × (base ≤ n) × (n ≤ length all) × (length all ≡ length all₀) × (take base all ≡ take base all₀)
-    × (newList start flags numbers kind (cut (take (s + 1) offs) (take base all₀)) (slice a b parents)
-    ≡ foldl (addParent start flags numbers kind (cut (take (s + 1) offs) (take base all₀))) (slice base n all) (slice i b parents))
+    × (newList kinds start flags numbers kind (cut (take (s + 1) offs) (take base all₀)) (slice a b parents)
+    ≡ foldl (addParent kinds start flags numbers kind (cut (take (s + 1) offs) (take base all₀))) (slice base n all) (slice i b parents))
 
 abbrev μ-loop : tie.MeasureT-loop
 μ-loop start flags numbers kind offs s all₀ base parents a b n₀ i₀ all n i =

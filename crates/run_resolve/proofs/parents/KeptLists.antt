@@ -12,6 +12,7 @@ use Rattle.lists.specs.Lists.{part, joined, upFrom}
 use Rattle.lists.proofs.Flat.{length-upFrom}
 use Rattle.lists.proofs.Filters.{each-below}
 use Rattle.columns.specs.Limits.{kinds, maxNumbers}
+use Rattle.columns.proofs.Served.{kinds-served}
 use Rattle.columns.specs.EdgeSet.{offsetsForm, cut}
 use Rattle.run_renumber.specs.declared.Grown.{Grown}
 use Rattle.run_renumber.specs.declared.Grown.the-variants.{Upto, Full}
@@ -51,34 +52,34 @@ numbers-held m targets all h l k = omega (arith, length-take-le m targets (omega
 -- ── the lists that are kept ──────────────────────────────────────────────────────────────────
 
 module _ (flags : List ℕ) (lists : List (List ℕ)) (w : length lists ≡ kinds * length flags) where
-  kept-length : length (keepSlots (gone flags) lists) ≡ kinds * survive flags
+  kept-length : length (keepSlots kinds (gone flags) lists) ≡ kinds * survive flags
   unfolding survive gone
   kept-length =
       let es = gone flags in
       let m : length es ≡ length flags = length-map flags (λ f. not (eqb f 0)) in
       let f : ℕ → List (List ℕ) = λ i. part (kinds * i) kinds lists in
-      rw (keep-slots es lists)
+      rw (keep-slots kinds kinds-served es lists)
       (length-wide f kinds (keep es (upFrom 0 (length es)))
       (each-keep (λ i. length (f i) ≡ kinds) es (upFrom 0 (length es)) (each-below _ (length es) (λ i l. length-part (kinds * i) kinds lists (omega (arith, w, m)))))
       ∙ ap (λ k. kinds * k) (length-keep es (upFrom 0 (length es)) (length-upFrom 0 (length es))))
 
-  edges-built : (offs all : List ℕ) (r : ℕ) → length all ≡ 4096 → Built offs all (length (keepSlots (gone flags) lists)) r (keepSlots (gone flags) lists)
+  edges-built : (offs all : List ℕ) (r : ℕ) → length all ≡ 4096 → Built offs all (length (keepSlots kinds (gone flags) lists)) r (keepSlots kinds (gone flags) lists)
       → EdgesKept flags lists (edgesOf r offs all)
   unfolding slotsIn edgesOk
   edges-built offs all r l b =
-      let ks = keepSlots (gone flags) lists in
+      let ks = keepSlots kinds (gone flags) lists in
       record {
         slots = ap (λ k. cut (take (k + 1) offs) (take r all)) (sym kept-length) ∙ built-cut offs all (length ks) r ks b;
-        form = rw (le-leb r maxNumbers (omega (arith, b .filled)), ← kept-length) (built-form offs all (length ks) r ks b (survive flags) kept-length);
+        form = rw (le-leb r maxNumbers (omega (arith, b .filled)), ← kept-length) (built-form kinds offs all (length ks) r ks b (survive flags) kept-length);
       }
 
 pub kept-edges : (n m : ℕ) (flags offsets targets offs all : List ℕ) (r : ℕ) → n ≤ 1024 → length flags ≡ 1024 → m ≤ 4096 → length targets ≡ 4096
-    → offsetsForm n m (take (2 * n + 1) offsets) ≡ true → length all ≡ 4096
-    → Built offs all (length (keepSlots (gone (take n flags)) (cut (take (2 * n + 1) offsets) (take m targets)))) r (keepSlots (gone (take n flags)) (cut (take (2 * n + 1) offsets) (take m targets)))
+    → offsetsForm kinds n m (take (2 * n + 1) offsets) ≡ true → length all ≡ 4096
+    → Built offs all (length (keepSlots kinds (gone (take n flags)) (cut (take (2 * n + 1) offsets) (take m targets)))) r (keepSlots kinds (gone (take n flags)) (cut (take (2 * n + 1) offsets) (take m targets)))
     → EdgesKept (take n flags) (cut (take (2 * n + 1) offsets) (take m targets)) (edgesOf r offs all)
 kept-edges n m flags offsets targets offs all r h l i k f q b =
     edges-built (take n flags) (cut (take (2 * n + 1) offsets) (take m targets))
-    (rows-length (length (take n flags)) (take (2 * n + 1) offsets) (take m targets) (form-here n m flags offsets targets h l i k f)) offs all r q b
+    (rows-length kinds (length (take n flags)) (take (2 * n + 1) offsets) (take m targets) (form-here n m flags offsets targets h l i k f)) offs all r q b
 
 -- ── all new lists, then those of the survivors ───────────────────────────────────────────────
 
@@ -90,8 +91,8 @@ module _ (n : ℕ) (lists : List (List ℕ)) (g : Grown) (offs all : List ℕ) (
     pub built-few : m ≤ 4096
     built-few = omega (arith, built .filled)
 
-    pub built-table : offsetsForm n m (take (2 * n + 1) offs) ≡ true
-    built-table = built-form offs all (2 * n) m lists built n refl
+    pub built-table : offsetsForm kinds n m (take (2 * n + 1) offs) ≡ true
+    built-table = built-form kinds offs all (2 * n) m lists built n refl
 
     renewed-kept : (flags : List ℕ) (q : Edges) → EdgesKept flags (cut (take (2 * n + 1) offs) (take m all)) q → Renewal flags lists (record { edges = q; over = false })
     renewed-kept flags q k = record {
@@ -112,19 +113,19 @@ module _ (n c : ℕ) (os ts : List ℕ) (ok : edgesOk n (edgesOf c os ts) ≡ tr
   pub columns-few : c ≤ 4096
   columns-few = edges-few n (edgesOf c os ts) ok
 
-  pub columns-table : offsetsForm n c (take (2 * n + 1) os) ≡ true
+  pub columns-table : offsetsForm kinds n c (take (2 * n + 1) os) ≡ true
   columns-table = edges-table n (edgesOf c os ts) ok
 
 module _ (start n c : ℕ) (flags os ts : List ℕ) (g : Grown) (offs all : List ℕ)
-    (x : Result g offs all (2 * n) (newLists start (take n flags) (cut (take (2 * n + 1) os) (take c ts)))) (l : length all ≡ 4096) where
+    (x : Result g offs all (2 * n) (newLists kinds start (take n flags) (cut (take (2 * n + 1) os) (take c ts)))) (l : length all ≡ 4096) where
   pub edges-kept : (m : ℕ) → g ≡ Upto m → (k : ℕ) (os′ ts′ : List ℕ) → EdgesKept (take n flags) (cut (take (2 * n + 1) offs) (take m all)) (edgesOf k os′ ts′)
-      → Renewal (take n flags) (newLists start (take n flags) (slotsIn n (edgesOf c os ts))) (renewedOf (Upto k) os′ ts′)
+      → Renewal (take n flags) (newLists kinds start (take n flags) (slotsIn n (edgesOf c os ts))) (renewedOf (Upto k) os′ ts′)
   unfolding slotsIn
-  edges-kept m f k os′ ts′ q = renewed-kept n (newLists start (take n flags) (slotsIn n (edgesOf c os ts))) g offs all x l m f (take n flags) (edgesOf k os′ ts′) q
+  edges-kept m f k os′ ts′ q = renewed-kept n (newLists kinds start (take n flags) (slotsIn n (edgesOf c os ts))) g offs all x l m f (take n flags) (edgesOf k os′ ts′) q
 
-  pub edges-over : g ≡ Full → (os′ ts′ : List ℕ) → Renewal (take n flags) (newLists start (take n flags) (slotsIn n (edgesOf c os ts))) (renewedOf Full os′ ts′)
+  pub edges-over : g ≡ Full → (os′ ts′ : List ℕ) → Renewal (take n flags) (newLists kinds start (take n flags) (slotsIn n (edgesOf c os ts))) (renewedOf Full os′ ts′)
   unfolding slotsIn
-  edges-over f os′ ts′ = renewed-over n (newLists start (take n flags) (slotsIn n (edgesOf c os ts))) g offs all x l f (take n flags) (edgesOf 0 os′ ts′)
+  edges-over f os′ ts′ = renewed-over n (newLists kinds start (take n flags) (slotsIn n (edgesOf c os ts))) g offs all x l f (take n flags) (edgesOf 0 os′ ts′)
 
 -- the answer, by its cases
 module _ (flags : List ℕ) (lists : List (List ℕ)) (g : Grown) (os ts : List ℕ) (x : Renewal flags lists (renewedOf g os ts)) where

@@ -3,6 +3,7 @@ use mathlib.Core.Path.{_≡_}
 use mathlib.Core.List.{List}
 use Prim.Native.Nat.{ℕ}
 use lib.ListN.{length, take}
+use Rattle.columns.specs.Limits.{kinds}
 use Rattle.lists.proofs.Flat.{length-map-upFrom}
 use Rattle.cleaning.specs.Survivors.{survivorSheet}
 use Rattle.run_state.specs.declared.Edges.{Edges}
@@ -16,7 +17,7 @@ use Rattle.run_resolve.specs.survivor_sheet.Survive.{SheetKept}
 
 pub sheet-survives : (h : Held) (lists : List (List ℕ)) (e : Edges) (r : Sheet) → length (take (h .sheet .rows .count) (h .erased)) ≡ h .sheet .rows .count
     → EdgesKept (take (h .sheet .rows .count) (h .erased)) lists e → SheetKept (take (h .sheet .rows .count) (h .erased)) e (h .sheet) r
-    → sheetIn r ≡ survivorSheet (heldIn h) lists
+    → sheetIn r ≡ survivorSheet kinds (heldIn h) lists
 unfolding sheetIn heldIn survivorSheet gone
 sheet-survives h lists e r l o k =
     let s = h .sheet in

@@ -6,7 +6,7 @@ use Prim.Native.Nat.{ℕ}
 use lib.Dec.{ltb}
 use lib.ListN.{length}
 use Rattle.lists.specs.Lists.{joined}
-use Rattle.columns.specs.Limits.{maxNumbers}
+use Rattle.columns.specs.Limits.{kinds, maxNumbers}
 use Rattle.cleaning.specs.Survivors.{keepSlots}
 use Rattle.run_renumber.specs.declared.Grown.{Grown}
 use Rattle.run_renumber.specs.declared.Grown.the-variants.{Upto, Full}
@@ -19,7 +19,7 @@ use Rattle.run_resolve.specs.declared.parents.Renewed.{Renewed}
 
 -- the lists of the rows that survive, by the flags of all rows and their lists
 pub record EdgesKept (flags : List ℕ) (lists : List (List ℕ)) (q : Edges) : Type 0 where
-  pub slots : slotsIn (survive flags) q ≡ keepSlots (gone flags) lists
+  pub slots : slotsIn (survive flags) q ≡ keepSlots kinds (gone flags) lists
   pub form : edgesOk (survive flags) q ≡ true
 
 -- the same, unless the lists of all rows are over the limit

@@ -13,7 +13,8 @@ use borrow.Author.Tests.{lt-leb, leb-true, ltb-true}
 use Rattle.lists.specs.Lists.{sum}
 use Rattle.lists.proofs.Tests.{both}
 use Rattle.lists.proofs.Slices.{take-sets}
-use Rattle.columns.specs.Limits.{end64}
+use Rattle.columns.specs.Limits.{kinds, end64}
+use Rattle.columns.proofs.Served.{kinds-served}
 use Rattle.columns.specs.Building.{subjectOk, numbersOk}
 use Rattle.columns.specs.declared.refusal.Refusal.{Refusal}
 use Rattle.columns.specs.declared.refusal.Refusal.the-variants.{SubjectLength, NumberRange}
@@ -51,12 +52,12 @@ covered-same group subject end false c = refl
 
 module _ (l : List ℕ) (f : FileAt) where
   pub looks-back : (fs : List File)
-      → filesRules (endsWith (f .front .head .group) (subjectIn l (f .front)) (f .front .head .first + f .front .head .rows) (f .tail .covered)) fs ≡ filesRules (some (sourceOf (fileIn l f))) fs
+      → filesRules kinds (endsWith (f .front .head .group) (subjectIn l (f .front)) (f .front .head .first + f .front .head .rows) (f .tail .covered)) fs ≡ filesRules kinds (some (sourceOf kinds (fileIn l f))) fs
   unfolding ending sourceOf fileIn fileFrom frontIn headIn tailIn
   looks-back fs =
       let h = f .front .head in
       let end = h .first + h .rows in
-      files-alike (ending (h .group) (subjectIn l (f .front)) end (f .tail .covered)) (sourceOf (fileIn l f)) refl refl
+      files-alike kinds kinds-served (ending (h .group) (subjectIn l (f .front)) end (f .tail .covered)) (sourceOf kinds (fileIn l f)) refl refl
       (add-zero end ∙ ap (λ n. h .first + n) (sym (rows-counted l f)))
       (covered-same (h .group) (subjectIn l (f .front)) end (f .tail .covered) (coverIn (partIn l (f .tail .body)) (h .rows) (f .tail .cover))) fs
 
@@ -85,7 +86,7 @@ seen-fits subject was name h u e = rw (e, length-sets, u) h
 pub name-count : (s : Seen) → s .length ≤ length (s .subject) → s .length ≡ length (take (s .length) (s .subject))
 name-count s h = sym (length-take-le (s .length) (s .subject) h)
 
-pub seen-rules : (s : Seen) (f : File) {r : Ruling} → r ≡ ruling (fileRules (backOf (s .back) (take (s .length) (s .subject))) f) → r ≡ ruling (fileRules (seenOf s) f)
+pub seen-rules : (s : Seen) (f : File) {r : Ruling} → r ≡ ruling (fileRules kinds (backOf (s .back) (take (s .length) (s .subject))) f) → r ≡ ruling (fileRules kinds (seenOf s) f)
 unfolding seenOf
 seen-rules s f e = e
 
@@ -115,25 +116,25 @@ module _ (l : List ℕ) (f : FileAt) (u : Uncovers (f .tail .covered) (f .tail .
 
 -- ── one turn ─────────────────────────────────────────────────────────────────────────────────
 
-pub rules-start : (l : List ℕ) (s : Seen) → ruling (rulesOf (seenOf s) (parse l)) ≡ ruling (rulesOf (seenOf s) (files (length l - 0) l 0))
+pub rules-start : (l : List ℕ) (s : Seen) → ruling (rulesOf (seenOf s) (parse kinds l)) ≡ ruling (rulesOf (seenOf s) (files kinds (length l - 0) l 0))
 unfolding parse
 rules-start l s = let z : length l - 0 ≡ length l = omega arith in rw z
 
 -- what is seen before the first file is what was handed over
-pub first-look : (l : List ℕ) (before : Option Source) (s : Seen) {r : Ruling} → r ≡ ruling (rulesOf (seenOf s) (parse l)) → seenOf s ≡ before → r ≡ ruling (rulesOf before (parse l))
+pub first-look : (l : List ℕ) (before : Option Source) (s : Seen) {r : Ruling} → r ≡ ruling (rulesOf (seenOf s) (parse kinds l)) → seenOf s ≡ before → r ≡ ruling (rulesOf before (parse kinds l))
 first-look l before s e i = rw i at e
 
-pub within-start : (l : List ℕ) → Within (totalsOf (parse l)) → Within (totalsOf (files (length l - 0) l 0))
+pub within-start : (l : List ℕ) → Within (totalsOf (parse kinds l)) → Within (totalsOf (files kinds (length l - 0) l 0))
 unfolding parse
 within-start l w = let z : length l - 0 ≡ length l = omega arith in rw z w
 
-module _ {t : Ruling} (l : List ℕ) (s : Seen) (k p : ℕ) (e : t ≡ ruling (rulesOf (seenOf s) (files (length l - k) l p))) where
+module _ {t : Ruling} (l : List ℕ) (s : Seen) (k p : ℕ) (e : t ≡ ruling (rulesOf (seenOf s) (files kinds (length l - k) l p))) where
   pub files-done : length l ≤ p → Kept ≡ t
   unfolding rulesOf filesRules
   files-done h = rw (e, files-end (length l - k) l p h)
 
-  module _ (h : p < length l) (g : k ≤ p) (x : FileRead) (d : fileOf l x ≡ file l p) (w : Within (totalsOf (files (length l - k) l p))) where
-    step : files (length l - k) l p ≡ andThen (fileOf l x) (λ f q. andThen (files (length l - (k + 1)) l q) (λ fs q. got (f ∷ fs) q))
+  module _ (h : p < length l) (g : k ≤ p) (x : FileRead) (d : fileOf l x ≡ file kinds l p) (w : Within (totalsOf (files kinds (length l - k) l p))) where
+    step : files kinds (length l - k) l p ≡ andThen (fileOf l x) (λ f q. andThen (files kinds (length l - (k + 1)) l q) (λ fs q. got (f ∷ fs) q))
     unfolding files _>>=_
     step = let z : length l - k ≡ suc (length l - (k + 1)) = omega arith in rw (z, lt-leb (length l) p h, d)
 
@@ -142,32 +143,32 @@ module _ {t : Ruling} (l : List ℕ) (s : Seen) (k p : ℕ) (e : t ≡ ruling (r
     no-archive m = absurd (let v = rw (step, m) at w in v)
 
     module _ {f : FileAt} (m : x ≡ FileIs f) (a : AfterFile l p x) where
-      here : files (length l - k) l p ≡ andThen (files (length l - (k + 1)) l (f .tail .end)) (λ fs q. got (fileIn l f ∷ fs) q)
+      here : files kinds (length l - k) l p ≡ andThen (files kinds (length l - (k + 1)) l (f .tail .end)) (λ fs q. got (fileIn l f ∷ fs) q)
       here = step ∙ rw m
 
-      both-within : Small f × Within (totalsOf (files (length l - (k + 1)) l (f .tail .end)))
-      both-within = let c = rw m at a in within-both l f (c .2 .5) (files (length l - (k + 1)) l (f .tail .end)) (rw here at w)
+      both-within : Small f × Within (totalsOf (files kinds (length l - (k + 1)) l (f .tail .end)))
+      both-within = let c = rw m at a in within-both l f (c .2 .5) (files kinds (length l - (k + 1)) l (f .tail .end)) (rw here at w)
 
       pub is-small : Small f
       is-small = both-within .0
 
-      pub still-within : (j : ℕ) → j ≡ k + 1 → Within (totalsOf (files (length l - j) l (f .tail .end)))
+      pub still-within : (j : ℕ) → j ≡ k + 1 → Within (totalsOf (files kinds (length l - j) l (f .tail .end)))
       still-within j i = rw i (both-within .1)
 
-      module _ {r : Ruling} (v : r ≡ ruling (fileRules (seenOf s) (fileIn l f))) where
+      module _ {r : Ruling} (v : r ≡ ruling (fileRules kinds (seenOf s) (fileIn l f))) where
         pub files-stop : {y : Refusal} → r ≡ Broken y → Broken y ≡ t
         unfolding rulesOf filesRules totalsOf
-        files-stop {y} q = rw (e, here) (go (files (length l - (k + 1)) l (f .tail .end)) (both-within .1))
+        files-stop {y} q = rw (e, here) (go (files kinds (length l - (k + 1)) l (f .tail .end)) (both-within .1))
           where
             go : (o : Parsed (List File)) → Within (totalsOf o) → Broken y ≡ ruling (rulesOf (seenOf s) (andThen o (λ fs q. got (fileIn l f ∷ fs) q)))
             go broken z = absurd z
-            go (got fs n) z = stops-here (fileRules (seenOf s) (fileIn l f)) (filesRules (some (sourceOf (fileIn l f))) fs) v y q
+            go (got fs n) z = stops-here (fileRules kinds (seenOf s) (fileIn l f)) (filesRules kinds (some (sourceOf kinds (fileIn l f))) fs) v y q
 
         pub files-on : r ≡ Kept → (j : ℕ) → j ≡ k + 1 → (z : Seen)
             → seenOf z ≡ endsWith (f .front .head .group) (subjectIn l (f .front)) (f .front .head .first + f .front .head .rows) (f .tail .covered)
-            → t ≡ ruling (rulesOf (seenOf z) (files (length l - j) l (f .tail .end)))
+            → t ≡ ruling (rulesOf (seenOf z) (files kinds (length l - j) l (f .tail .end)))
         unfolding rulesOf filesRules totalsOf
-        files-on q j n z i = rw (n, e, here, i) (go (files (length l - (k + 1)) l (f .tail .end)) (both-within .1))
+        files-on q j n z i = rw (n, e, here, i) (go (files kinds (length l - (k + 1)) l (f .tail .end)) (both-within .1))
           where
             after : Option Source
             after = endsWith (f .front .head .group) (subjectIn l (f .front)) (f .front .head .first + f .front .head .rows) (f .tail .covered)
@@ -175,7 +176,7 @@ module _ {t : Ruling} (l : List ℕ) (s : Seen) (k p : ℕ) (e : t ≡ ruling (r
             go : (o : Parsed (List File)) → Within (totalsOf o) → ruling (rulesOf (seenOf s) (andThen o (λ fs q. got (fileIn l f ∷ fs) q))) ≡ ruling (rulesOf after o)
             go broken n = absurd n
             go (got fs n) u =
-                sym (goes-on (fileRules (seenOf s) (fileIn l f)) (filesRules (some (sourceOf (fileIn l f))) fs) v q refl) ∙ sym (ap ruling (looks-back l f fs))
+                sym (goes-on (fileRules kinds (seenOf s) (fileIn l f)) (filesRules kinds (some (sourceOf kinds (fileIn l f))) fs) v q refl) ∙ sym (ap ruling (looks-back l f fs))
 
 module _ (l : List ℕ) (p : ℕ) (x : FileRead) {f : FileAt} (a : AfterFile l p x) (m : x ≡ FileIs f) where
   pub head-holds : HoldsHead l (f .front .head) (f .front .file)
@@ -192,9 +193,9 @@ module _ (l : List ℕ) (p : ℕ) (x : FileRead) {f : FileAt} (a : AfterFile l p
 
 -- ── what a file that keeps its rules says of its subject and its numbers ─────────────────────
 
-module _ (l : List ℕ) (before : Option Source) (f : FileAt) {r : Ruling} (v : r ≡ ruling (fileRules before (fileIn l f))) (q : r ≡ Kept) where
-  kept : fileRules before (fileIn l f) ≡ none
-  kept = told-kept (fileRules before (fileIn l f)) v q
+module _ (l : List ℕ) (before : Option Source) (f : FileAt) {r : Ruling} (v : r ≡ ruling (fileRules kinds before (fileIn l f))) (q : r ≡ Kept) where
+  kept : fileRules kinds before (fileIn l f) ≡ none
+  kept = told-kept (fileRules kinds before (fileIn l f)) v q
 
   pub kept-subject : (p : ℕ) (x : FileRead) → AfterFile l p x → x ≡ FileIs f → f .front .head .subject ≤ 255
   unfolding fileRules subjectOk fileIn fileFrom frontIn headIn

@@ -8,7 +8,7 @@ use native.Mathlib.Omega.{arith}
 use lib.ListN.{take, drop}
 use borrow.Author.Tests.{not-true, not-false, ltb-true}
 use lib.Dec.{ltb}
-use Rattle.columns.specs.Limits.{end64}
+use Rattle.columns.specs.Limits.{kinds, end64}
 use Rattle.columns.specs.Building.{numbersOk}
 use Rattle.columns.specs.declared.refusal.Refusal.{Refusal}
 use Rattle.columns.specs.declared.refusal.Refusal.the-variants.{NumberRange}
@@ -94,11 +94,11 @@ module _ (l : List ℕ) (f : FileAt) {x : Ruling} (e : x ≡ ruling (edgesRules 
   then-tail g k = goes-on _ (tailRules l (f .front .head) (f .middle) (f .tail)) e g k
 
 module _ (before : Option Source) (l : List ℕ) (f : FileAt) {x : Ruling} (e : x ≡ ruling (headRules before (subjectIn l (f .front)) (f .front .head) (f .tail .covered))) where
-  pub head-bad : {y : Refusal} → x ≡ Broken y → Broken y ≡ ruling (fileRules before (fileIn l f))
+  pub head-bad : {y : Refusal} → x ≡ Broken y → Broken y ≡ ruling (fileRules kinds before (fileIn l f))
   head-bad {y} g = rw (parts-are l f before) (stops-here _ (restRules l f) e y g)
 
   module _ (g : x ≡ Kept) where
-    pub then-rest : {r : Ruling} → r ≡ ruling (restRules l f) → r ≡ ruling (fileRules before (fileIn l f))
+    pub then-rest : {r : Ruling} → r ≡ ruling (restRules l f) → r ≡ ruling (fileRules kinds before (fileIn l f))
     then-rest k = rw (parts-are l f before) (goes-on _ (restRules l f) e g k)
 
     -- 3 was kept

@@ -6,6 +6,7 @@ use mathlib.Core.Option.{Option, none, some}
 use Prim.Native.Nat.{ℕ}
 use lib.Dec.{eqb}
 use lib.ListN.{length}
+use Rattle.columns.specs.Limits.{kinds}
 use Rattle.columns.specs.Refusal.{refuse, firstOf}
 use Rattle.columns.specs.declared.refusal.Refusal.{Refusal}
 use Rattle.columns.specs.declared.refusal.Refusal.the-variants.{GroupOrder, SourceOrder, CoverInSome}
@@ -57,7 +58,7 @@ there-cond : (b : Bool) (c : CoverColumns) → isThere (cond b (some c) none) �
 there-cond true c = refl
 there-cond false c = refl
 
-grouped : (before : Option Source) (f : File) → fileRules before f
+grouped : (before : Option Source) (f : File) → fileRules kinds before f
     ≡ firstOf (firstOf (ownRules (f .subject) (f .first) (length (f .rows)) (f .depth) ∷ backRules before (f .group) (f .subject) (f .first) (isThere (f .cover)) ∷ [])
     ∷ firstOf (setsRules (f .first) (length (f .rows)) (fileEnd f) (f .forward) (f .reverse) (f .inbound)
     ∷ firstOf (recordsRules (f .first) (length (f .rows)) (fileEnd f) (f .roots) (f .unresolved) ∷ coverRules (f .cover) ∷ []) ∷ []) ∷ [])
@@ -69,6 +70,6 @@ module _ (l : List ℕ) (f : FileAt) where
   unfolding fileIn fileFrom tailIn
   cover-there = there-cond (f .tail .covered) (coverIn (partIn l (f .tail .body)) (f .front .head .rows) (f .tail .cover))
 
-  pub parts-are : (before : Option Source) → fileRules before (fileIn l f) ≡ firstOf (headRules before (subjectIn l (f .front)) (f .front .head) (f .tail .covered) ∷ restRules l f ∷ [])
+  pub parts-are : (before : Option Source) → fileRules kinds before (fileIn l f) ≡ firstOf (headRules before (subjectIn l (f .front)) (f .front .head) (f .tail .covered) ∷ restRules l f ∷ [])
   unfolding fileIn fileFrom frontIn middleIn tailIn headIn setsIn headRules restRules edgesRules tailRules listsRules coverRule
   parts-are before = grouped before (fileIn l f) ∙ rw (rows-counted l f, cover-there)

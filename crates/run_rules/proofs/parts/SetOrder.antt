@@ -6,6 +6,7 @@ use native.Mathlib.Omega.{arith}
 use lib.IntN.{ℤ}
 use lib.ListN.{length, take, length-map}
 use lib.Seq.{sets, length-sets, length-take-le}
+use Rattle.columns.specs.Limits.{kinds}
 use Rattle.lists.proofs.Slices.{take-sets}
 use Rattle.columns.specs.EdgeSet.{EdgeSet}
 use Rattle.columns.specs.Answers.{columnsOf, ruling}
@@ -46,25 +47,25 @@ module _ (rows n : ℕ) (h : rows ≤ 1024) (k : n ≤ 4096) where
   deltas-count ds v = sym (length-take-le n ds (omega arith))
 
 -- the rules of the columns that were read are those of the set
-pub rules-loaded : (set first rows end : ℕ) (y x : EdgeSet) {r : Ruling} → y ≡ x → r ≡ ruling (setRules set first rows end y) → r ≡ ruling (setRules set first rows end x)
+pub rules-loaded : (set first rows end : ℕ) (y x : EdgeSet) {r : Ruling} → y ≡ x → r ≡ ruling (setRules kinds set first rows end y) → r ≡ ruling (setRules kinds set first rows end x)
 rules-loaded set first rows end y x e g = rw (← e) g
 
 -- ── what is answered of a set ────────────────────────────────────────────────────────────────
 
-module _ (first rows end : ℕ) (r i : EdgeSet) {x : Ruling} (e : x ≡ ruling (setRules 1 first rows end r)) where
+module _ (first rows end : ℕ) (r i : EdgeSet) {x : Ruling} (e : x ≡ ruling (setRules kinds 1 first rows end r)) where
   pub reverse-bad : {y : Refusal} → x ≡ Broken y → Broken y ≡ ruling (laterRules first rows end r i)
   unfolding laterRules
-  reverse-bad {y} g = stops-here (setRules 1 first rows end r) (setRules 2 first rows end i) e y g
+  reverse-bad {y} g = stops-here (setRules kinds 1 first rows end r) (setRules kinds 2 first rows end i) e y g
 
-  pub then-inbound : {s : Ruling} → x ≡ Kept → s ≡ ruling (setRules 2 first rows end i) → s ≡ ruling (laterRules first rows end r i)
+  pub then-inbound : {s : Ruling} → x ≡ Kept → s ≡ ruling (setRules kinds 2 first rows end i) → s ≡ ruling (laterRules first rows end r i)
   unfolding laterRules
-  then-inbound g k = goes-on (setRules 1 first rows end r) (setRules 2 first rows end i) e g k
+  then-inbound g k = goes-on (setRules kinds 1 first rows end r) (setRules kinds 2 first rows end i) e g k
 
-module _ (first rows end : ℕ) (f r i : EdgeSet) {x : Ruling} (e : x ≡ ruling (setRules 0 first rows end f)) where
+module _ (first rows end : ℕ) (f r i : EdgeSet) {x : Ruling} (e : x ≡ ruling (setRules kinds 0 first rows end f)) where
   pub forward-bad : {y : Refusal} → x ≡ Broken y → Broken y ≡ ruling (setsRules first rows end f r i)
   unfolding setsRules
-  forward-bad {y} g = stops-here (setRules 0 first rows end f) (laterRules first rows end r i) e y g
+  forward-bad {y} g = stops-here (setRules kinds 0 first rows end f) (laterRules first rows end r i) e y g
 
   pub then-later : {s : Ruling} → x ≡ Kept → s ≡ ruling (laterRules first rows end r i) → s ≡ ruling (setsRules first rows end f r i)
   unfolding setsRules
-  then-later g k = goes-on (setRules 0 first rows end f) (laterRules first rows end r i) e g k
+  then-later g k = goes-on (setRules kinds 0 first rows end f) (laterRules first rows end r i) e g k

@@ -4,7 +4,7 @@ use mathlib.Core.List.{List}
 use mathlib.Core.Option.{Option, none, some}
 use Prim.Native.Nat.{ℕ, _≤_}
 use lib.ListN.{take}
-use Rattle.columns.specs.Limits.{maxRecords, maxNumbers}
+use Rattle.columns.specs.Limits.{kinds, maxRecords, maxNumbers}
 use Rattle.columns.specs.declared.refusal.Refusal.{Refusal}
 use Rattle.archive.specs.File.{File}
 use Rattle.archive.specs.Reader.{Parsed, broken, got}
@@ -19,7 +19,7 @@ use Rattle.run_rules.specs.declared.files.all.Seen.{Seen}
 -- the rules of the files that bytes hold; what is no archive is refused before
 unfoldable pub rulesOf : Option Source → Parsed (List File) → Option Refusal
 rulesOf before broken = none
-rulesOf before (got fs end) = filesRules before fs
+rulesOf before (got fs end) = filesRules kinds before fs
 
 -- an archive whose sums are within the limits that columns are loaded by
 abbrev pub Within : Summed → Type 0

@@ -61,11 +61,11 @@ recordsRules first rows end roots us = firstOf (refuse RootOutside (not (all (in
 
 -- 17 to 19 of the reverse and of the inbound set
 unfoldable pub laterRules : ℕ → ℕ → ℕ → EdgeSet → EdgeSet → Option Refusal
-laterRules first rows end r i = firstOf (setRules reverse first rows end r ∷ setRules inbound first rows end i ∷ [])
+laterRules first rows end r i = firstOf (setRules kinds reverse first rows end r ∷ setRules kinds inbound first rows end i ∷ [])
 
 -- 17 to 19, set by set
 unfoldable pub setsRules : ℕ → ℕ → ℕ → EdgeSet → EdgeSet → EdgeSet → Option Refusal
-setsRules first rows end f r i = firstOf (setRules forward first rows end f ∷ laterRules first rows end r i ∷ [])
+setsRules first rows end f r i = firstOf (setRules kinds forward first rows end f ∷ laterRules first rows end r i ∷ [])
 
 -- a range's minimum is not above its maximum
 unfoldable pub inOrder : Range → Bool

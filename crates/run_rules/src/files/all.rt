@@ -10,7 +10,7 @@ use columns::refusal::Ruling;
 ghost use mathlib.Core.Path.{_≡_};
 ghost use Prim.Native.Nat.{_+_, _≤_, _<_};
 ghost use lib.ListN.{length, take, drop};
-ghost use Rattle.columns.specs.Limits.{end64};
+ghost use Rattle.columns.specs.Limits.{kinds, end64};
 ghost use Rattle.columns.specs.Answers.{ruling};
 ghost use Rattle.archive.specs.Parse.{parse};
 ghost use Rattle.archive_read.specs.Layout.{HoldsHead, HoldsFile, fileIn};
@@ -37,7 +37,7 @@ fn next_rules(
 ) -> Ruling
     requires { ⌜ s .length ≤ length (s .subject) ⌝ }
     requires { ⌜ HoldsFile (now bytes) f × Small f ⌝ }
-    ensures { λ r. ⌜ r ≡ ruling (fileRules (seenOf s) (fileIn (now (bytes .entry)) f)) ⌝ }
+    ensures { λ r. ⌜ r ≡ ruling (fileRules kinds (seenOf s) (fileIn (now (bytes .entry)) f)) ⌝ }
 {
     let n = s.length;
     let name = s.subject;
@@ -97,8 +97,8 @@ fn next(k: usize, end: usize) -> usize
 
 // The rules of an archive's files, the first of which looks back at rows of that subject. What is no archive or past the limits is refused before.
 pub fn files_rules(bytes: &[u8], back: Back, subject: &[u8]) -> Ruling
-    requires { ⌜ (length (now subject) ≤ 255) × Within (totalsOf (parse (now bytes))) ⌝ }
-    ensures { λ r. ⌜ r ≡ ruling (rulesOf (backOf back (now (subject .entry))) (parse (now (bytes .entry)))) ⌝ }
+    requires { ⌜ (length (now subject) ≤ 255) × Within (totalsOf (parse kinds (now bytes))) ⌝ }
+    ensures { λ r. ⌜ r ≡ ruling (rulesOf (backOf back (now (subject .entry))) (parse kinds (now (bytes .entry)))) ⌝ }
 {
     // work space, made once for the sets of all files
     let mut offsets = [0u64; 2049];

@@ -15,7 +15,7 @@ ghost use mathlib.Core.Path.{_≡_};
 ghost use mathlib.Core.Option.{some};
 ghost use Prim.Native.Nat.{_+_, _≤_, _<_};
 ghost use lib.ListN.{length, take, drop};
-ghost use Rattle.columns.specs.Limits.{end64};
+ghost use Rattle.columns.specs.Limits.{kinds, end64};
 ghost use Rattle.columns.specs.Answers.{ruling};
 ghost use Rattle.archive_read.specs.Layout.{partIn, HoldsHead, HoldsSets, HoldsCover, HoldsMiddle, HoldsTail, HoldsFile, fileIn};
 ghost use Rattle.archive_read.specs.bodies.View.{coverIn};
@@ -181,7 +181,7 @@ pub fn file_rules(
     deltas: &mut [i64; 4096],
 ) -> Ruling
     requires { ⌜ HoldsFile (now bytes) f × Small f ⌝ }
-    ensures { λ r. ⌜ r ≡ ruling (fileRules (backOf back (now (before .entry))) (fileIn (now (bytes .entry)) f)) ⌝ }
+    ensures { λ r. ⌜ r ≡ ruling (fileRules kinds (backOf back (now (before .entry))) (fileIn (now (bytes .entry)) f)) ⌝ }
 {
     let t = f.tail;
     let r = front_rules(bytes, f.front, t.covered, back, before);

@@ -8,6 +8,7 @@ use columns_slots::sets::set_rules;
 ghost use mathlib.Core.Path.{_≡_};
 ghost use Prim.Native.Nat.{_+_, _*_, _≤_};
 ghost use lib.ListN.{length, take};
+ghost use Rattle.columns.specs.Limits.{kinds};
 ghost use Rattle.columns.specs.Answers.{setNumber, ruling, columnsOf};
 ghost use Rattle.columns.specs.Reading.{setRules};
 ghost use Rattle.archive_read.specs.bodies.View.{setEnd, setIn};
@@ -43,7 +44,7 @@ fn loaded_rules(
 ) -> Ruling
     requires { ⌜ (rows ≤ 1024) × (n ≤ 4096) ⌝ }
     requires { ⌜ (length (now offsets) ≡ 2049) × (length (now deltas) ≡ 4096) ⌝ }
-    ensures { λ r. ⌜ r ≡ ruling (setRules (setNumber set) first rows end (columnsOf n (take (2 * rows + 1) (now (offsets .entry))) (take n (now (deltas .entry))))) ⌝ }
+    ensures { λ r. ⌜ r ≡ ruling (setRules kinds (setNumber set) first rows end (columnsOf n (take (2 * rows + 1) (now (offsets .entry))) (take n (now (deltas .entry))))) ⌝ }
 {
     let k = 2 * rows + 1;
     set_rules(set, first, rows, end, n as u64, &offsets[..k], &deltas[..n])
@@ -62,7 +63,7 @@ fn rule_set(
     deltas: &mut [i64; 4096],
 ) -> Ruling
     requires { ⌜ (rows ≤ 1024) × ((n ≤ 4096) × (setEnd rows p n ≤ length (now b))) ⌝ }
-    ensures { λ r. ⌜ r ≡ ruling (setRules (setNumber set) first rows end (setIn (now (b .entry)) rows p n)) ⌝ }
+    ensures { λ r. ⌜ r ≡ ruling (setRules kinds (setNumber set) first rows end (setIn (now (b .entry)) rows p n)) ⌝ }
 {
     load_set(b, rows, p, n, offsets, deltas);
     loaded_rules(set, first, rows, end, n, offsets, deltas)

@@ -10,7 +10,7 @@ use lib.ListN.{length, length-take}
 use borrow.Author.Tests.{leb-true}
 use Rattle.lists.proofs.Tests.{both}
 use Rattle.lists.proofs.Each.{each-getD}
-use Rattle.columns.specs.Limits.{maxGroups, maxSubject, end64}
+use Rattle.columns.specs.Limits.{kinds, maxGroups, maxSubject, end64}
 use Rattle.columns.specs.Building.{slotRules}
 use Rattle.archive_bytes.specs.Bytes.{several}
 use Rattle.archive.proofs.Back.{length-several}
@@ -71,9 +71,9 @@ none-there : {A : Type 0} (o : Option A) → not (isThere o) ≡ true → o ≡ 
 none-there none h = refl
 none-there (some x) h = absurd (false≢true h)
 
-lists-once : (s : Sheet) → onceOk s ≡ true → slotRules (s .start) 0 (slotsIn (s .rows .count) (s .edges)) ≡ none
+lists-once : (s : Sheet) → onceOk s ≡ true → slotRules kinds (s .start) 0 (slotsIn (s .rows .count) (s .edges)) ≡ none
 unfolding onceOk
-lists-once s w = none-there (slotRules (s .start) 0 (slotsIn (s .rows .count) (s .edges))) w
+lists-once s w = none-there (slotRules kinds (s .start) 0 (slotsIn (s .rows .count) (s .edges))) w
 
 -- ── tables ───────────────────────────────────────────────────────────────────────────────────
 

@@ -6,6 +6,7 @@ use Prim.Native.Nat.{ℕ, _+_, _*_, _≤_}
 use native.Mathlib.Omega.{arith}
 use lib.ListN.{length, take, drop, length-append, length-take, length-drop}
 use lib.Seq.{length-take-le}
+use Rattle.columns.specs.Limits.{kinds}
 use Rattle.lists.specs.Lists.{joined, starts, all, distinct}
 use Rattle.lists.proofs.Flat.{length-starts}
 use Rattle.columns.specs.EdgeSet.{offsetsForm, cut}
@@ -22,7 +23,7 @@ abbrev lists : Counts → Edges → List (List ℕ)
 lists z e = cut (take (2 * z .rows + 1) (e .offsets)) (take (e .count) (e .targets))
 
 abbrev turned : Counts → Edges → List (List ℕ)
-turned z e = reverseLists (z .start) (z .rows) (lists z e)
+turned z e = reverseLists kinds (z .start) (z .rows) (lists z e)
 
 module _ (z : Counts) (e : Edges) (t : Turnable z e) where
   few : e .count ≤ 4096
@@ -44,7 +45,7 @@ module _ (z : Counts) (e : Edges) (t : Turnable z e) where
     pub targets-few : length (take (e .count) (e .targets)) ≤ 4096
     targets-few = omega (arith, few, targets-count)
 
-    pub lists-form : offsetsForm (z .rows) (length (take (e .count) (e .targets))) (take (2 * z .rows + 1) (e .offsets)) ≡ true
+    pub lists-form : offsetsForm kinds (z .rows) (length (take (e .count) (e .targets))) (take (2 * z .rows + 1) (e .offsets)) ≡ true
     lists-form = rw (← targets-count) (in-form (z .rows) e (t .in-form))
 
     pub kids-room : (kids : List ℕ) → length kids ≡ 4096 → length (take (e .count) (e .targets)) ≤ length kids

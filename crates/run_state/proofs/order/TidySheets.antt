@@ -92,7 +92,7 @@ and-true {a} {b} e f = rw (e, f)
 pub slots-length : (n : ℕ) (e : Edges) → edgesOk n e ≡ true → length (slotsIn n e) ≡ kinds * n
 unfolding edgesOk slotsIn
 slots-length n e k =
-    let f = both (leb (e .count) maxNumbers) (offsetsForm n (e .count) (take (kinds * n + 1) (e .offsets))) k in
+    let f = both (leb (e .count) maxNumbers) (offsetsForm kinds n (e .count) (take (kinds * n + 1) (e .offsets))) k in
     length-cut (kinds * n) 0 (take (kinds * n + 1) (e .offsets)) (take (e .count) (e .targets)) (table-of n (e .count) (take (kinds * n + 1) (e .offsets)) (f .1) .long)
 
 module _ (s : Sheet) (l : LongSheet s) (k : sheetOk s ≡ true) where
@@ -141,7 +141,7 @@ module _ (s : Sheet) (l : LongSheet s) (k : sheetOk s ≡ true) where
       let z : 0 + s .rows .count ≡ s .rows .count = omega arith in
       rw z at (labels-fit (s .groups) (s .rows) 0 (s .rows .count) (omega (arith, rows-few s counts, l .rows .groups)) (rw z e))
 
-  pub tidy-sheet : ordered s ≡ true → Tidy (sheetIn s)
+  pub tidy-sheet : ordered s ≡ true → Tidy kinds (sheetIn s)
   unfolding ordered groupsOrdered sheetIn recordsOk below
   tidy-sheet o =
       let a = both (groupsOrdered (s .groups .count) (s .rows .count) (s .rows .groups)) _ o in
@@ -165,7 +165,7 @@ module _ (s : Sheet) (l : LongSheet s) (k : sheetOk s ≡ true) where
         labelled = labels-there (g .1);
       }
 
-  pub ordered-sheet : Tidy (sheetIn s) → ordered s ≡ true
+  pub ordered-sheet : Tidy kinds (sheetIn s) → ordered s ≡ true
   unfolding ordered groupsOrdered sheetIn below
   ordered-sheet t =
       let g : all (below (s .groups .count)) (take (s .rows .count) (s .rows .groups)) ≡ true = rw facts-length at (t .groupsKnown) in
@@ -181,16 +181,16 @@ module _ (s : Sheet) (l : LongSheet s) (k : sheetOk s ≡ true) where
 -- ── what is held ─────────────────────────────────────────────────────────────────────────────
 
 -- the parents of slots that pass the test are below the slots' events
-pub slots-below : (start slot : ℕ) (lists : List (List ℕ)) → earlier start slot lists ≡ true → EachFrom (SlotBelow start) slot lists
+pub slots-below : (start slot : ℕ) (lists : List (List ℕ)) → earlier start slot lists ≡ true → EachFrom (SlotBelow kinds start) slot lists
 unfolding earlier below
 slots-below start slot [] e = tt
 slots-below start slot (ps ∷ lists) e =
-    let q = both (all (below (eventOf start slot)) ps) (earlier start (suc slot) lists) e in (
-      each-imp (λ p. below (eventOf start slot) p ≡ true) (λ p. p < eventOf start slot) ps (λ p t. ltb-true p (eventOf start slot) t) (all-each (below (eventOf start slot)) ps (q .0)),
+    let q = both (all (below (eventOf kinds start slot)) ps) (earlier start (suc slot) lists) e in (
+      each-imp (λ p. below (eventOf kinds start slot) p ≡ true) (λ p. p < eventOf kinds start slot) ps (λ p t. ltb-true p (eventOf kinds start slot) t) (all-each (below (eventOf kinds start slot)) ps (q .0)),
       slots-below start (suc slot) lists (q .1),
     )
 
-pub neat-held : (h : Held) → LongHeld h → heldOk h ≡ true → ordered (h .sheet) ≡ true → Neat (heldIn h)
+pub neat-held : (h : Held) → LongHeld h → heldOk h ≡ true → ordered (h .sheet) ≡ true → Neat kinds (heldIn h)
 unfolding heldIn sheetIn heldOk recordsOk below inFile
 neat-held h l k o =
     let s = h .sheet in

@@ -1,7 +1,7 @@
 -- How long the columns of a run are.
 use mathlib.Core.Path.{_≡_}
 use lib.ListN.{length}
-use Rattle.columns.specs.Limits.{maxRecords, maxNumbers, maxGroups, maxSubject, offsetsRoom}
+use Rattle.columns.specs.Limits.{kinds, maxRecords, maxNumbers, maxGroups, maxSubject, offsetsRoom}
 use Rattle.run_state.specs.declared.Groups.{Groups}
 use Rattle.run_state.specs.declared.Rows.{Rows}
 use Rattle.run_state.specs.declared.Edges.{Edges}
@@ -25,7 +25,7 @@ pub record LongRows (r : Rows) : Type 0 where
   pub seqs : length (r .seqs) ≡ maxRecords
 
 pub record LongEdges (e : Edges) : Type 0 where
-  pub offsets : length (e .offsets) ≡ offsetsRoom
+  pub offsets : length (e .offsets) ≡ offsetsRoom kinds
   pub targets : length (e .targets) ≡ maxNumbers
 
 pub record LongUnresolved (u : Unresolved) : Type 0 where

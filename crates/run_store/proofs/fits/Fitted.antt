@@ -13,7 +13,8 @@ use Rattle.lists.specs.Lists.{sum}
 use Rattle.lists.proofs.Tests.{both}
 use Rattle.lists.proofs.Each.{each-map, each-imp}
 use Rattle.lists.proofs.Flat.{length-map-upFrom}
-use Rattle.columns.specs.Limits.{maxGroups, maxSubject}
+use Rattle.columns.specs.Limits.{kinds, maxGroups, maxSubject}
+use Rattle.columns.proofs.Served.{kinds-served}
 use Rattle.columns.specs.EdgeSet.{EdgeSet, forward, reverse, inbound}
 use Rattle.columns.specs.Reading.{setRules}
 use Rattle.columns.specs.Readable.{Readable}
@@ -67,7 +68,7 @@ sums-fit c e =
     let p = passed CoverForm (linksOk (c .links)) (each-none (rangeRules (c .ranges) ∷ linkRules (c .links) ∷ []) e .1 .0) in
     both (sumsFit (c .links .fromChains)) _ (both (evenColumns (c .links)) _ p .1) .0
 
-module _ (h : Held) (l : List ℕ) (f : FileAt) (fs : List File) (long : LongHeld h) (ok : heldOk h ≡ true) (neat : Neat (heldIn h)) (left : Left h (fileIn l f ∷ fs))
+module _ (h : Held) (l : List ℕ) (f : FileAt) (fs : List File) (long : LongHeld h) (ok : heldOk h ≡ true) (neat : Neat kinds (heldIn h)) (left : Left h (fileIn l f ∷ fs))
     (holds : HoldsFile l f) (u : Uncovers (f .tail .covered) (f .tail .cover)) where
   abbrev F : File
   F = fileIn l f
@@ -78,16 +79,16 @@ module _ (h : Held) (l : List ℕ) (f : FileAt) (fs : List File) (long : LongHel
   abbrev before : Option Source
   before = lookBack (sheetIn (h .sheet))
 
-  rules : fileRules before F ≡ none
+  rules : fileRules kinds before F ≡ none
   unfolding filesRules
-  rules = each-none (fileRules before F ∷ filesRules (some (sourceOf F)) fs ∷ []) (left .rules) .0
+  rules = each-none (fileRules kinds before F ∷ filesRules kinds (some (sourceOf kinds F)) fs ∷ []) (left .rules) .0
 
-  pub sound : Sound (sourceOf F)
-  sound = taken-followed before (F ∷ fs) (left .rules) .0
+  pub sound : Sound kinds (sourceOf kinds F)
+  sound = taken-followed kinds kinds-served before (F ∷ fs) (left .rules) .0
 
-  pub next : Ready (heldIn h) (sourceOf F)
+  pub next : Ready kinds (heldIn h) (sourceOf kinds F)
   unfolding heldIn
-  next = ready-held (heldIn h) neat (sourceOf F) (taken-followed before (F ∷ fs) (left .rules) .1)
+  next = ready-held (heldIn h) neat (sourceOf kinds F) (taken-followed kinds kinds-served before (F ∷ fs) (left .rules) .1)
 
   -- ── what is held ─────────────────────────────────────────────────────────────────────────────
 
@@ -125,15 +126,15 @@ module _ (h : Held) (l : List ℕ) (f : FileAt) (fs : List File) (long : LongHel
   unfolding sourceOf subjectOk
   subject-short = leb-true (length (F .subject)) maxSubject (both (ltb 0 (length (F .subject))) _ (sound .subject) .1)
 
-  forward-kept : setRules forward (F .first) (length (F .rows)) (fileEnd F) (F .forward) ≡ none
+  forward-kept : setRules kinds forward (F .first) (length (F .rows)) (fileEnd F) (F .forward) ≡ none
   unfolding fileRules
   forward-kept = each-none (_ ∷ _) rules .1 .1 .1 .1 .1 .1 .0
 
-  reverse-kept : setRules reverse (F .first) (length (F .rows)) (fileEnd F) (F .reverse) ≡ none
+  reverse-kept : setRules kinds reverse (F .first) (length (F .rows)) (fileEnd F) (F .reverse) ≡ none
   unfolding fileRules
   reverse-kept = each-none (_ ∷ _) rules .1 .1 .1 .1 .1 .1 .1 .0
 
-  inbound-kept : setRules inbound (F .first) (length (F .rows)) (fileEnd F) (F .inbound) ≡ none
+  inbound-kept : setRules kinds inbound (F .first) (length (F .rows)) (fileEnd F) (F .inbound) ≡ none
   unfolding fileRules
   inbound-kept = each-none (_ ∷ _) rules .1 .1 .1 .1 .1 .1 .1 .1 .0
 
@@ -143,12 +144,12 @@ module _ (h : Held) (l : List ℕ) (f : FileAt) (fs : List File) (long : LongHel
 
   -- ── sets ─────────────────────────────────────────────────────────────────────────────────────
 
-  module _ (set : ℕ) (e : Edges) (s : EdgeSet) (kept : setRules set (F .first) (length (F .rows)) (fileEnd F) s ≡ none) (c : length (s .deltas) ≡ s .count)
+  module _ (set : ℕ) (e : Edges) (s : EdgeSet) (kept : setRules kinds set (F .first) (length (F .rows)) (fileEnd F) s ≡ none) (c : length (s .deltas) ≡ s .count)
       (room : e .count + length (s .deltas) ≤ 4096) where
     set-fit : edgesOk n e ≡ true → LongEdges e → SetFit n (length (F .rows)) e s
-    set-fit k g = record { held = k; form = kept-form set (F .first) (length (F .rows)) (fileEnd F) s kept; counted = c; few = omega arith; long = g .offsets; wide = g .targets }
+    set-fit k g = record { held = k; form = kept-form kinds set (F .first) (length (F .rows)) (fileEnd F) s kept; counted = c; few = omega arith; long = g .offsets; wide = g .targets }
 
-    readable : Readable (F .first) s
+    readable : Readable kinds (F .first) s
     readable = record { set = set; rows = length (F .rows); end = fileEnd F; kept = kept; few = omega arith }
 
   forward-room : h .sheet .edges .count + length (F .forward .deltas) ≤ 4096

@@ -7,6 +7,8 @@ use mathlib.Core.Option.{some}
 use Prim.Native.Nat.{ℕ, suc, _-_, _≤_, _<_}
 use native.Mathlib.Omega.{arith}
 use lib.ListN.{length}
+use Rattle.columns.specs.Limits.{kinds}
+use Rattle.columns.proofs.Served.{kinds-served}
 use Rattle.lists.specs.Lists.{isEmpty, upFrom, add}
 use Rattle.lists.proofs.Tests.{tested}
 use Rattle.lists.proofs.Once.{fold-grows}
@@ -18,13 +20,13 @@ use Rattle.cleaning.proofs.HeldRows.{Ready, ready}
 use Rattle.cleaning.proofs.HeldLimits.{add-number}
 use Rattle.cleaning.proofs.Neat.{Neat, looksLike, look-back, held-last, ready-first}
 
-module _ (h : Held) (n : Neat h) where
-  pub ready-held : (s : Source) → FollowsLast (lookBack (h .sheet)) s → Ready h s
+module _ (h : Held) (n : Neat kinds h) where
+  pub ready-held : (s : Source) → FollowsLast (lookBack (h .sheet)) s → Ready kinds h s
   ready-held s f = go (tested (isEmpty (h .sheet .groups)))
     where
-      go : (isEmpty (h .sheet .groups) ≡ true) ⊎ (isEmpty (h .sheet .groups) ≡ false) → Ready h s
-      go (inl b) = ready-first h n b s (subst (λ x. FollowsLast x s) (look-back (h .sheet) true b) f)
-      go (inr b) = ready (some (looksLike (h .sheet))) h s (held-last h n b) (subst (λ x. FollowsLast x s) (look-back (h .sheet) false b) f)
+      go : (isEmpty (h .sheet .groups) ≡ true) ⊎ (isEmpty (h .sheet .groups) ≡ false) → Ready kinds h s
+      go (inl b) = ready-first kinds kinds-served h n b s (subst (λ x. FollowsLast x s) (look-back (h .sheet) true b) f)
+      go (inr b) = ready kinds kinds-served (some (looksLike (h .sheet))) h s (held-last kinds kinds-served h n b) (subst (λ x. FollowsLast x s) (look-back (h .sheet) false b) f)
 
 -- ── group numbers ────────────────────────────────────────────────────────────────────────────
 

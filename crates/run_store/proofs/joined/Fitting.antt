@@ -5,6 +5,7 @@ use mathlib.Core.Logic.{_⊎_}
 use mathlib.Core.Option.{Option, none, some}
 use Prim.Native.Nat.{ℕ, _≤_, _<_, _+_}
 use lib.ListN.{length, getD}
+use Rattle.columns.specs.Limits.{kinds}
 use Rattle.columns.specs.EdgeSet.{EdgeSet, offsetsForm}
 use Rattle.archive.specs.File.{CoverColumns, File}
 use Rattle.archive.specs.Parse.{depthRead}
@@ -25,7 +26,7 @@ use Rattle.run_store.proofs.joined.RowLabels.{Labelled}
 -- the lists of n rows are in form, a set of a file of some rows is too, and there is room for both
 pub record SetFit (n rows : ℕ) (e : Edges) (s : EdgeSet) : Type 0 where
   pub held : edgesOk n e ≡ true
-  pub form : offsetsForm rows (s .count) (s .offsets) ≡ true
+  pub form : offsetsForm kinds rows (s .count) (s .offsets) ≡ true
   pub counted : length (s .deltas) ≡ s .count
   pub few : e .count + s .count ≤ 4096
   pub long : length (e .offsets) ≡ 2049

@@ -46,7 +46,7 @@ pub record SheetSound (s : Sheet) (f : File) : Type 0 where
   pub linksFew : s .links .count + storedLinkCount (f .cover) ≤ 1024
   pub children : Each (λ u. (f .first ≤ u .child) × (u .child < f .first + length (f .rows))) (f .unresolved)
   pub roots : Each (λ r. r .row < length (f .rows)) (f .roots)
-  pub below : EachFrom (SlotBelow (f .first)) 0 (slotsOf (f .first) (f .forward))
+  pub below : EachFrom (SlotBelow kinds (f .first)) 0 (slotsOf kinds (f .first) (f .forward))
 
 yes : {a b : Bool} → a ≡ true → b ≡ true → (a && b) ≡ true
 yes e f = rw (e, f)
@@ -55,7 +55,7 @@ slots-length : (n : ℕ) (e : Edges) → edgesOk n e ≡ true → length (slotsI
 unfolding edgesOk slotsIn
 slots-length n e h =
     let os = take (kinds * n + 1) (e .offsets) in
-    let l = form-length n (e .count) os (both (leb (e .count) maxNumbers) (offsetsForm n (e .count) os) h .1) in
+    let l = form-length kinds n (e .count) os (both (leb (e .count) maxNumbers) (offsetsForm kinds n (e .count) os) h .1) in
     omega (arith, cut-length os (take (e .count) (e .targets)), l)
 
 pub edges-ok : (n rows first m : ℕ) (e : Edges) (x : EdgeSet) → SetFit n rows e x → n + rows ≤ 1024 → m ≡ n + rows → edgesOk m (edgesWith e n first x) ≡ true
@@ -117,7 +117,7 @@ module _ (s : Sheet) (f : File) (flag least greatest : ℕ) (ok : sheetOk s ≡ 
   parents-more : earlier start′ 0 (slotsIn (grownRows s f flag least greatest fit .count) (edgesWith (s .edges) n (f .first) (f .forward))) ≡ true
   parents-more =
       rw (slots-more n m (f .first) (grownRows s f flag least greatest fit .count) (s .edges) (f .forward) (fit .forward) (fit .rows .room) count)
-      (parents-earlier (s .start) start′ n (f .first) (slotsIn n (s .edges)) (slotsOf (f .first) (f .forward)) (sound .first) (sound .stays)
+      (parents-earlier (s .start) start′ n (f .first) (slotsIn n (s .edges)) (slotsOf kinds (f .first) (f .forward)) (sound .first) (sound .stays)
       (slots-length n (s .edges) (parts .1)) (parts .3) (sound .below))
 
   pub sheet-stays-ok : sheetOk (sheetMore s f flag least greatest) ≡ true

@@ -12,7 +12,7 @@ use borrow.Author.Tests.{ltb-false}
 use Rattle.lists.specs.Lists.{sum, once, upFrom}
 use Rattle.lists.proofs.Once.{or-is-false}
 use Rattle.lists.proofs.Flat.{length-map-upFrom}
-use Rattle.columns.specs.Limits.{maxRecords, maxGroups}
+use Rattle.columns.specs.Limits.{kinds, maxRecords, maxGroups}
 use Rattle.columns.specs.Refusal.{refuse}
 use Rattle.columns.specs.declared.refusal.Refusal.the-variants.{OverRecords, OverNumbers}
 use Rattle.columns.proofs.FirstBroken.{each-none, not-refused}
@@ -37,16 +37,16 @@ all-within m a b c d g r e =
       omega (arith, ltb-false m g (q .1)),
     )
 
-module _ (h : Held) (f : File) (fs : List File) (tags : h .sheet .rows .count ≤ length (h .sheet .rows .tags)) (e : holdRules (heldIn h) (f ∷ fs) ≡ none) where
+module _ (h : Held) (f : File) (fs : List File) (tags : h .sheet .rows .count ≤ length (h .sheet .rows .tags)) (e : holdRules kinds (heldIn h) (f ∷ fs) ≡ none) where
   kept : recordsOver (heldIn h) (f ∷ fs) ≡ false
   unfolding holdRules
   kept = not-refused OverRecords (recordsOver (heldIn h) (f ∷ fs))
-      (each-none (refuse OverRecords (recordsOver (heldIn h) (f ∷ fs)) ∷ refuse OverNumbers (numbersOver (heldIn h) (f ∷ fs)) ∷ filesRules (lookBack (heldIn h .sheet)) (f ∷ fs) ∷ []) e .0)
+      (each-none (refuse OverRecords (recordsOver (heldIn h) (f ∷ fs)) ∷ refuse OverNumbers (numbersOver (heldIn h) (f ∷ fs)) ∷ filesRules kinds (lookBack (heldIn h .sheet)) (f ∷ fs) ∷ []) e .0)
 
-  pub file-rules : filesRules (lookBack (heldIn h .sheet)) (f ∷ fs) ≡ none
+  pub file-rules : filesRules kinds (lookBack (heldIn h .sheet)) (f ∷ fs) ≡ none
   unfolding holdRules
   file-rules =
-      each-none (refuse OverRecords (recordsOver (heldIn h) (f ∷ fs)) ∷ refuse OverNumbers (numbersOver (heldIn h) (f ∷ fs)) ∷ filesRules (lookBack (heldIn h .sheet)) (f ∷ fs) ∷ []) e .1 .1 .0
+      each-none (refuse OverRecords (recordsOver (heldIn h) (f ∷ fs)) ∷ refuse OverNumbers (numbersOver (heldIn h) (f ∷ fs)) ∷ filesRules kinds (lookBack (heldIn h .sheet)) (f ∷ fs) ∷ []) e .1 .1 .0
 
   few : (rowCount (heldIn h .sheet) + sum (λ f. length (f .rows)) (f ∷ fs) ≤ maxRecords)
       × (length (heldIn h .sheet .roots) + sum (λ f. length (f .roots)) (f ∷ fs) ≤ maxRecords)

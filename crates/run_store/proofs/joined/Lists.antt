@@ -25,21 +25,21 @@ use Rattle.run_store.specs.parts.Grown.{edgesWith}
 use Rattle.run_store.proofs.joined.Grows.{sets-take}
 
 -- targets are as many as deltas, list by list
-starts-targets : (first slot a : ℕ) (ls : List (List ℤ)) → starts a (targetsFrom first slot ls) ≡ starts a ls
+starts-targets : (first slot a : ℕ) (ls : List (List ℤ)) → starts a (targetsFrom kinds first slot ls) ≡ starts a ls
 unfolding starts targetsFrom
 starts-targets first slot a [] = refl
 starts-targets first slot a (ds ∷ ls) =
-    ap (λ r. a ∷ r) (ap (λ i. starts (a + i) (targetsFrom first (suc slot) ls)) (length-map ds (targetOf (eventOf first slot))) ∙ starts-targets first (suc slot) (a + length ds) ls)
+    ap (λ r. a ∷ r) (ap (λ i. starts (a + i) (targetsFrom kinds first (suc slot) ls)) (length-map ds (targetOf (eventOf kinds first slot))) ∙ starts-targets first (suc slot) (a + length ds) ls)
 
-joined-targets : (first slot : ℕ) (ls : List (List ℤ)) → length (joined (targetsFrom first slot ls)) ≡ length (joined ls)
+joined-targets : (first slot : ℕ) (ls : List (List ℤ)) → length (joined (targetsFrom kinds first slot ls)) ≡ length (joined ls)
 unfolding joined targetsFrom
 joined-targets first slot [] = refl
 joined-targets first slot (ds ∷ ls) =
     omega (
       arith,
-      length-append (map (targetOf (eventOf first slot)) ds) (joined (targetsFrom first (suc slot) ls)),
+      length-append (map (targetOf (eventOf kinds first slot)) ds) (joined (targetsFrom kinds first (suc slot) ls)),
       length-append ds (joined ls),
-      length-map ds (targetOf (eventOf first slot)),
+      length-map ds (targetOf (eventOf kinds first slot)),
       joined-targets first (suc slot) ls,
     )
 
@@ -68,7 +68,7 @@ starts-append a (k ∷ ks) ls =
 
 -- ── a set more ───────────────────────────────────────────────────────────────────────────────
 
-module _ (n rows first : ℕ) (e : Edges) (s : EdgeSet) (form : edgesOk n e ≡ true) (more : offsetsForm rows (s .count) (s .offsets) ≡ true)
+module _ (n rows first : ℕ) (e : Edges) (s : EdgeSet) (form : edgesOk n e ≡ true) (more : offsetsForm kinds rows (s .count) (s .offsets) ≡ true)
     (counted : length (s .deltas) ≡ s .count) (few : e .count + s .count ≤ 4096) (fit : n + rows ≤ 1024)
     (long : length (e .offsets) ≡ 2049) (wide : length (e .targets) ≡ 4096) where
   abbrev os : List ℕ
@@ -80,27 +80,27 @@ module _ (n rows first : ℕ) (e : Edges) (s : EdgeSet) (form : edgesOk n e ≡ 
   length-xs : length xs ≡ e .count
   length-xs = length-take-le (e .count) (e .targets) (omega arith)
 
-  os-form : offsetsForm n (e .count) os ≡ true
+  os-form : offsetsForm kinds n (e .count) os ≡ true
   unfolding edgesOk
   os-form = both (leb (e .count) maxNumbers) _ form .1
 
   os-climb : fromTo 0 (length xs) os ≡ true
-  os-climb = rw length-xs (form-climbs n (e .count) os os-form)
+  os-climb = rw length-xs (form-climbs kinds n (e .count) os os-form)
 
   ps-climb : fromTo 0 (length (s .deltas)) (s .offsets) ≡ true
-  ps-climb = rw counted (form-climbs rows (s .count) (s .offsets) more)
+  ps-climb = rw counted (form-climbs kinds rows (s .count) (s .offsets) more)
 
   abbrev ks : List (List ℕ)
   ks = cut os xs
 
   abbrev ls : List (List ℕ)
-  ls = slotsOf first s
+  ls = slotsOf kinds first s
 
   ps-starts : s .offsets ≡ starts 0 ls
   unfolding slotsOf
   ps-starts = sym (starts-cut (s .deltas) (s .offsets) ps-climb) ∙ sym (starts-targets first 0 0 (cut (s .offsets) (s .deltas)))
 
-  pub targets-counted : length (joined (slotsOf first s)) ≡ s .count
+  pub targets-counted : length (joined (slotsOf kinds first s)) ≡ s .count
   unfolding slotsOf
   targets-counted = joined-targets first 0 (cut (s .offsets) (s .deltas)) ∙ ap length (joined-cut (s .deltas) (s .offsets) ps-climb) ∙ counted
 
@@ -118,7 +118,7 @@ module _ (n rows first : ℕ) (e : Edges) (s : EdgeSet) (form : edgesOk n e ≡ 
   unfolding edgesWith
   new-offsets =
       let l : length (map (λ o. e .count + o) (drop 1 (s .offsets))) ≡ kinds * rows =
-      omega (arith, length-map (drop 1 (s .offsets)) (λ o. e .count + o), length-drop 1 (s .offsets), form-length rows (s .count) (s .offsets) more) in
+      omega (arith, length-map (drop 1 (s .offsets)) (λ o. e .count + o), length-drop 1 (s .offsets), form-length kinds rows (s .count) (s .offsets) more) in
       sets-take (map (λ o. e .count + o) (drop 1 (s .offsets))) (e .offsets) (kinds * n + 1) (kinds * (n + rows) + 1) (omega arith) (omega arith) ∙ both-starts
 
   new-targets : take (e .count + s .count) (edgesWith e n first s .targets) ≡ joined (ks ++ ls)
@@ -127,16 +127,16 @@ module _ (n rows first : ℕ) (e : Edges) (s : EdgeSet) (form : edgesOk n e ≡ 
       sets-take (joined ls) (e .targets) (e .count) (e .count + s .count) (ap (λ i. e .count + i) targets-counted) (omega arith)
       ∙ ap (λ r. r ++ joined ls) (sym (joined-cut xs os os-climb)) ∙ sym (joined-append ks ls)
 
-  pub slots-grown : slotsIn (n + rows) (edgesWith e n first s) ≡ slotsIn n e ++ slotsOf first s
+  pub slots-grown : slotsIn (n + rows) (edgesWith e n first s) ≡ slotsIn n e ++ slotsOf kinds first s
   unfolding slotsIn edgesWith
   slots-grown = ap (λ o. cut o (take (e .count + s .count) (edgesWith e n first s .targets))) new-offsets ∙ ap (cut (starts 0 (ks ++ ls))) new-targets ∙ cut-joined (ks ++ ls)
 
   length-slots : length (ks ++ ls) ≡ kinds * (n + rows)
   length-slots =
-      omega (arith, length-append ks ls, length-starts 0 ks, length-starts 0 ls, ap length ps-starts, ap length (sym (starts-cut xs os os-climb)), form-length rows (s .count) (s .offsets) more, form-length n (e .count) os os-form)
+      omega (arith, length-append ks ls, length-starts 0 ks, length-starts 0 ls, ap length ps-starts, ap length (sym (starts-cut xs os os-climb)), form-length kinds rows (s .count) (s .offsets) more, form-length kinds n (e .count) os os-form)
 
   pub edges-grown : edgesOk (n + rows) (edgesWith e n first s) ≡ true
   unfolding edgesOk edgesWith
   edges-grown =
       let c : length (joined (ks ++ ls)) ≡ e .count + s .count = ap length (joined-append ks ls) ∙ omega (arith, length-append (joined ks) (joined ls), length-ks, targets-counted) in
-      rw (le-leb (e .count + s .count) maxNumbers few, new-offsets, ← c) (starts-form (n + rows) (ks ++ ls) length-slots)
+      rw (le-leb (e .count + s .count) maxNumbers few, new-offsets, ← c) (starts-form kinds (n + rows) (ks ++ ls) length-slots)

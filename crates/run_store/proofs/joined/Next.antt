@@ -13,7 +13,7 @@ use Rattle.lists.specs.Lists.{all}
 use Rattle.lists.proofs.Tests.{tested, both, all-each}
 use Rattle.lists.proofs.Each.{each-imp, each-getD}
 use Rattle.lists.proofs.Flat.{length-map-upFrom, getD-map-upFrom}
-use Rattle.columns.specs.Limits.{maxSubject}
+use Rattle.columns.specs.Limits.{kinds, maxSubject}
 use Rattle.columns.specs.Building.{subjectOk}
 use Rattle.archive.specs.File.{File}
 use Rattle.cleaning.specs.Taking.{storedLinkCount}
@@ -33,7 +33,7 @@ pub record Few (h : Held) (f : File) : Type 0 where
   pub roots : h .sheet .roots .count + length (f .roots) ≤ 1024
   pub links : h .sheet .links .count + storedLinkCount (f .cover) ≤ 1024
 
-module _ (h : Held) (f : File) (flags : h .sheet .rows .count ≤ length (h .erased)) (q : Ready (heldIn h) (sourceOf f)) where
+module _ (h : Held) (f : File) (flags : h .sheet .rows .count ≤ length (h .erased)) (q : Ready kinds (heldIn h) (sourceOf kinds f)) where
   rows-held : length (heldIn h .erased) ≡ h .sheet .rows .count
   unfolding heldIn
   rows-held = length-map (take (h .sheet .rows .count) (h .erased)) flagged ∙ length-take-le (h .sheet .rows .count) (h .erased) flags
@@ -42,13 +42,13 @@ module _ (h : Held) (f : File) (flags : h .sheet .rows .count ≤ length (h .era
   unfolding heldIn sheetIn
   groups-held = length-map-upFrom (factsAt (h .sheet .groups)) 0 (h .sheet .groups .count)
 
-  start-is : (sheetWith (heldIn h .sheet) (sourceOf f)) .start ≡ cond (eqb (h .sheet .groups .count) 0) (f .first) (h .sheet .start)
+  start-is : (sheetWith (heldIn h .sheet) (sourceOf kinds f)) .start ≡ cond (eqb (h .sheet .groups .count) 0) (f .first) (h .sheet .start)
   unfolding heldIn sheetIn sheetWith sourceOf
   start-is = ap (λ b. cond b (f .first) (h .sheet .start)) (sym (empty-listed (factsAt (h .sheet .groups)) (h .sheet .groups .count)))
 
   first-is : cond (eqb (h .sheet .groups .count) 0) (f .first) (h .sheet .start) + h .sheet .rows .count ≡ f .first
   unfolding sourceOf
-  first-is = ap (λ i. i + h .sheet .rows .count) (sym start-is) ∙ ap (λ i. (sheetWith (heldIn h .sheet) (sourceOf f)) .start + i) (sym rows-held) ∙ q .start
+  first-is = ap (λ i. i + h .sheet .rows .count) (sym start-is) ∙ ap (λ i. (sheetWith (heldIn h .sheet) (sourceOf kinds f)) .start + i) (sym rows-held) ∙ q .start
 
   stays-is : 0 < h .sheet .rows .count → cond (eqb (h .sheet .groups .count) 0) (f .first) (h .sheet .start) ≡ h .sheet .start
   unfolding heldIn sheetIn
@@ -83,7 +83,7 @@ module _ (h : Held) (f : File) (flags : h .sheet .rows .count ≤ length (h .era
       omega (arith, ltb-true (getD (take n gs) i 0) m t, getD-take n gs i 0 l, groups-held)
 
   -- what the rules of the file say
-  pub sheet-sound : Sound (sourceOf f) → Few h f → SheetSound (h .sheet) f
+  pub sheet-sound : Sound kinds (sourceOf kinds f) → Few h f → SheetSound (h .sheet) f
   unfolding sourceOf subjectOk
   sheet-sound d few = record {
     first = first-is;
@@ -94,7 +94,7 @@ module _ (h : Held) (f : File) (flags : h .sheet .rows .count ≤ length (h .era
     unresolvedFew = few .unresolved;
     rootsFew = few .roots;
     linksFew = few .links;
-    children = each-imp (RecordIn (sourceOf f)) (λ u. (f .first ≤ u .child) × (u .child < f .first + length (f .rows))) (f .unresolved) (λ u t. (t .0, t .1)) (d .unresolved);
+    children = each-imp (RecordIn (sourceOf kinds f)) (λ u. (f .first ≤ u .child) × (u .child < f .first + length (f .rows))) (f .unresolved) (λ u t. (t .0, t .1)) (d .unresolved);
     roots = d .roots;
     below = d .below;
   }

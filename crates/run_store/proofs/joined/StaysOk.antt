@@ -81,24 +81,24 @@ earlier-append : (first slot : ℕ) (ks ls : List (List ℕ)) → earlier first 
 unfolding earlier
 earlier-append first slot [] ls h k = rw (add-zero slot) at k
 earlier-append first slot (x ∷ ks) ls h k =
-    let p = both (all (below (eventOf first slot)) x) (earlier first (suc slot) ks) h in
+    let p = both (all (below (eventOf kinds first slot)) x) (earlier first (suc slot) ks) h in
     let z : slot + suc (length ks) ≡ suc slot + length ks = omega arith in
     rw (p .0) (earlier-append first (suc slot) ks ls (p .1) (ap (λ i. earlier first i ls) (sym z) ∙ k))
 
-event-on : (first start n slot : ℕ) → start + n ≡ first → eventOf start (kinds * n + slot) ≡ eventOf first slot
+event-on : (first start n slot : ℕ) → start + n ≡ first → eventOf kinds start (kinds * n + slot) ≡ eventOf kinds first slot
 event-on first start n slot e = omega arith
 
-earlier-of : (first start n slot : ℕ) (ls : List (List ℕ)) → start + n ≡ first → EachFrom (SlotBelow first) slot ls → earlier start (kinds * n + slot) ls ≡ true
+earlier-of : (first start n slot : ℕ) (ls : List (List ℕ)) → start + n ≡ first → EachFrom (SlotBelow kinds first) slot ls → earlier start (kinds * n + slot) ls ≡ true
 unfolding earlier below
 earlier-of first start n slot [] e h = refl
 earlier-of first start n slot (x ∷ ls) e h =
     let z = event-on first start n slot e in
     let y : suc (kinds * n + slot) ≡ kinds * n + suc slot = omega arith in
-    rw (z, all-of (λ p. ltb p (eventOf first slot)) x (each-imp (λ p. suc p ≤ eventOf first slot) (λ p. ltb p (eventOf first slot) ≡ true) x (λ p t. lt-ltb p (eventOf first slot) t) (h .0)), y)
+    rw (z, all-of (λ p. ltb p (eventOf kinds first slot)) x (each-imp (λ p. suc p ≤ eventOf kinds first slot) (λ p. ltb p (eventOf kinds first slot) ≡ true) x (λ p t. lt-ltb p (eventOf kinds first slot) t) (h .0)), y)
     (earlier-of first start n (suc slot) ls e (h .1))
 
 pub parents-earlier : (start start′ n first : ℕ) (ks ls : List (List ℕ)) → start′ + n ≡ first → (0 < n → start′ ≡ start) → length ks ≡ kinds * n
-    → earlier start 0 ks ≡ true → EachFrom (SlotBelow first) 0 ls → earlier start′ 0 (ks ++ ls) ≡ true
+    → earlier start 0 ks ≡ true → EachFrom (SlotBelow kinds first) 0 ls → earlier start′ 0 (ks ++ ls) ≡ true
 unfolding earlier
 parents-earlier start start′ n first [] ls e s l h k =
     let z : n ≡ 0 = omega arith in

@@ -10,6 +10,7 @@ use lib.Dec.{eqb}
 use lib.ListN.{length, take}
 use lib.Seq.{sets, length-take-le}
 use borrow.Author.Tests.{ne-eqb}
+use Rattle.columns.specs.Limits.{kinds}
 use Rattle.lists.specs.Lists.{isEmpty, upFrom}
 use Rattle.columns.specs.Reading.{Label, slotsOf}
 use Rattle.columns.specs.EdgeSet.{EdgeSet}
@@ -83,7 +84,7 @@ links-more l group (some c) fit =
     links-grown l group (c .links .fromChains) (c .links .fromSeqs) (c .links .toChains) (c .links .toSeqs) (fit .0) (fit .1) (fit .2) (fit .3)
 
 pub slots-more : (n rows first m : ℕ) (e : Edges) (s : EdgeSet) → SetFit n rows e s → n + rows ≤ 1024 → m ≡ n + rows
-    → slotsIn m (edgesWith e n first s) ≡ slotsIn n e ++ slotsOf first s
+    → slotsIn m (edgesWith e n first s) ≡ slotsIn n e ++ slotsOf kinds first s
 slots-more n rows first m e s fit room z =
     ap (λ i. slotsIn i (edgesWith e n first s)) z ∙ slots-grown n rows first e s (fit .held) (fit .form) (fit .counted) (fit .few) room (fit .long) (fit .wide)
 
@@ -145,7 +146,7 @@ module _ (s : sheets.Sheet) (f : File) (flag least greatest : ℕ) (fit : SheetF
   unfolding unresolvedWith
   unresolved-is = unresolved-grown (s .unresolved) (f .unresolved) (fit .unresolved .children) (fit .unresolved .kinds) (fit .unresolved .handles)
 
-  pub sheet-more : sheetIn (sheetMore s f flag least greatest) ≡ sheetWith (sheetIn s) (sourceOf f)
+  pub sheet-more : sheetIn (sheetMore s f flag least greatest) ≡ sheetWith (sheetIn s) (sourceOf kinds f)
   unfolding sheetIn sheetMore sheetWith sourceOf
   sheet-more = same-sheet
       (ap (λ b. cond b (f .first) (s .start)) (empty-listed (factsAt (s .groups)) (s .groups .count)))
@@ -162,7 +163,7 @@ same-held : {a a′ : Sheet.Sheet} {b b′ : List Bool} {c c′ d d′ : List (L
 same-held p q r s t = rw (p, q, r, s, t)
 
 pub held-more : (h : holds.Held) (f : File) (flag least greatest : ℕ) → HeldFit h f flag least greatest
-    → heldIn (heldMore h f flag least greatest) ≡ heldWith (heldIn h) (sourceOf f)
+    → heldIn (heldMore h f flag least greatest) ≡ heldWith (heldIn h) (sourceOf kinds f)
 unfolding heldIn heldMore heldWith sourceOf sheetMore
 held-more h f flag least greatest fit =
     let n = h .sheet .rows .count in

@@ -9,6 +9,7 @@ use mir.Syntax.{w64}
 use mir.Val.{Fits}
 use native.Mathlib.Omega.{arith}
 use borrow.Author.Tests.{not-true, not-false}
+use Rattle.columns.specs.Limits.{kinds}
 use Rattle.archive_bytes.specs.Bytes.{be, column}
 use Rattle.cover.specs.Cover.{sums}
 use Rattle.archive.specs.File.{CoverColumns}
@@ -95,7 +96,7 @@ module _ (h : Held) (c : ℕ) (s a b x y : List ℕ) (l : List ℕ) (k p : ℕ) 
   pub links-done : length l ≤ p → r ≡ stored h l .links
   links-done g = part-done (λ q. q .links) h r l k p w g
 
-  module _ (lt : p < length l) (le : k ≤ p) (z : FileRead) (d : fileOf l z ≡ file l p) where
+  module _ (lt : p < length l) (le : k ≤ p) (z : FileRead) (d : fileOf l z ≡ file kinds l p) where
     pub no-links : z ≡ NoFile → r ≡ stored h l .links
     no-links m = absurd (no-file linksNow h r l k p w lt le z d m)
 

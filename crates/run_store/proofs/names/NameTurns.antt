@@ -6,6 +6,7 @@ use mathlib.Core.Option.{none, some}
 use Prim.Native.Nat.{ℕ, _≤_, _<_, _+_}
 use lib.Dec.{eqb}
 use lib.ListN.{length, take, drop}
+use Rattle.columns.specs.Limits.{kinds}
 use Rattle.archive.specs.File.{CoverColumns}
 use Rattle.archive.specs.Parse.{file}
 use Rattle.archive_read.specs.bodies.View.{headIn, coverIn}
@@ -87,7 +88,7 @@ module _ (h : Held) (q : Names) (l : List ℕ) (k p : ℕ) (w : Walk namesOf h q
     names = w .is;
   }
 
-  module _ (lt : p < length l) (le : k ≤ p) (z : FileRead) (d : fileOf l z ≡ file l p) where
+  module _ (lt : p < length l) (le : k ≤ p) (z : FileRead) (d : fileOf l z ≡ file kinds l p) where
     pub names-none : z ≡ NoFile → Named h l q
     names-none m = absurd (no-file namesOf h q l k p w lt le z d m)
 

@@ -7,6 +7,7 @@ use lib.Seq.{sets}
 use mir.Syntax.{w64}
 use mir.Val.{Fits}
 use native.Mathlib.Omega.{arith}
+use Rattle.columns.specs.Limits.{kinds}
 use Rattle.archive_bytes.specs.Bytes.{be, several}
 use Rattle.archive_bytes.proofs.Several.{map-several}
 use Rattle.archive.specs.Parse.{file, unresolvedAt, rootAt}
@@ -68,7 +69,7 @@ module _ (h : Held) (c : ℕ) (a b e : List ℕ) (l : List ℕ) (k p : ℕ) (w :
   pub unresolved-done : length l ≤ p → u ≡ stored h l .unresolved
   unresolved-done g = part-done (λ q. q .unresolved) h u l k p w g
 
-  module _ (lt : p < length l) (le : k ≤ p) (z : FileRead) (d : fileOf l z ≡ file l p) where
+  module _ (lt : p < length l) (le : k ≤ p) (z : FileRead) (d : fileOf l z ≡ file kinds l p) where
     pub unresolved-none : z ≡ NoFile → u ≡ stored h l .unresolved
     unresolved-none m = absurd (no-file unresolvedNow h u l k p w lt le z d m)
 
@@ -107,7 +108,7 @@ module _ (h : Held) (c : ℕ) (a b : List ℕ) (n : ℕ) (l : List ℕ) (k p : �
   pub roots-done : length l ≤ p → rootsOf c a b ≡ stored h l .roots
   roots-done g = ap (λ v. v .0) (part-done (λ q. (q .roots, q .rows .count)) h t l k p w g)
 
-  module _ (lt : p < length l) (le : k ≤ p) (z : FileRead) (d : fileOf l z ≡ file l p) where
+  module _ (lt : p < length l) (le : k ≤ p) (z : FileRead) (d : fileOf l z ≡ file kinds l p) where
     pub roots-none : z ≡ NoFile → rootsOf c a b ≡ stored h l .roots
     roots-none m = absurd (no-file rootsNow h t l k p w lt le z d m)
 

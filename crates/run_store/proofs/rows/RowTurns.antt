@@ -11,6 +11,7 @@ use mir.Syntax.{w64}
 use mir.Val.{Fits}
 use native.Mathlib.Omega.{arith}
 use borrow.Author.Tests.{not-true, not-false}
+use Rattle.columns.specs.Limits.{kinds}
 use Rattle.archive_bytes.specs.Bytes.{be, several, column}
 use Rattle.archive_bytes.proofs.Several.{map-several}
 use Rattle.archive.specs.File.{CoverColumns, Row}
@@ -105,7 +106,7 @@ module _ (h : Held) (c : ℕ) (a b x y : List ℕ) (l : List ℕ) (k p : ℕ) (w
   pub rows-done : length l ≤ p → r ≡ stored h l .rows
   rows-done e = part-done (λ q. q .rows) h r l k p w e
 
-  module _ (lt : p < length l) (le : k ≤ p) (z : FileRead) (d : fileOf l z ≡ file l p) where
+  module _ (lt : p < length l) (le : k ≤ p) (z : FileRead) (d : fileOf l z ≡ file kinds l p) where
     pub rows-none : z ≡ NoFile → r ≡ stored h l .rows
     rows-none m = absurd (no-file rowsNow h r l k p w lt le z d m)
 
@@ -138,7 +139,7 @@ module _ (h : Held) (s : List ℕ) (c : ℕ) (l : List ℕ) (k p : ℕ) (w : Wal
   pub flags-done : length l ≤ p → s ≡ stored h l .erased
   flags-done e = ap (λ v. v .0) (part-done (λ q. (q .erased, q .rows .count)) h (s, c) l k p w e)
 
-  module _ (lt : p < length l) (le : k ≤ p) (z : FileRead) (d : fileOf l z ≡ file l p) where
+  module _ (lt : p < length l) (le : k ≤ p) (z : FileRead) (d : fileOf l z ≡ file kinds l p) where
     pub flags-none : z ≡ NoFile → s ≡ stored h l .erased
     flags-none m = absurd (no-file flagsNow h (s, c) l k p w lt le z d m)
 

@@ -9,6 +9,7 @@ use lib.Seq.{sets, length-take-le, length-sets}
 use mir.Syntax.{w64}
 use mir.Val.{Fits}
 use native.Mathlib.Omega.{arith}
+use Rattle.columns.specs.Limits.{kinds}
 use Rattle.columns.specs.Answers.{columnsOf}
 use Rattle.columns.specs.Readable.{Readable}
 use Rattle.lists.specs.Lists.{joined}
@@ -69,9 +70,9 @@ module _ (rows k : ℕ) (l : List ℕ) (at : ℕ) (z : List ℕ) (y : List ℤ) 
   numbers-long v = rw (f, length-sets) v
 
 -- offsets of a set whose rules are kept climb
-pub readable-climbs : (first count : ℕ) (os : List ℕ) (ds : List ℤ) → Readable first (columnsOf count os ds) → fromTo 0 count os ≡ true
+pub readable-climbs : (first count : ℕ) (os : List ℕ) (ds : List ℤ) → Readable kinds first (columnsOf count os ds) → fromTo 0 count os ≡ true
 readable-climbs first count os ds r =
-    form-climbs (r .rows) count os (kept-form (r .set) first (r .rows) (r .end) (columnsOf count os ds) (r .kept))
+    form-climbs kinds (r .rows) count os (kept-form kinds (r .set) first (r .rows) (r .end) (columnsOf count os ds) (r .kept))
 
 module _ (n rows : ℕ) (l : List ℕ) (h : n + rows ≤ 1024) (e : length l ≡ 2049) where
   pub table-front : 2 * rows + 1 ≡ length (take (2 * rows + 1) l)
@@ -89,14 +90,14 @@ numbers-front m k l h e = sym (length-take-le k l (omega arith))
 -- a set that was read to two arrays
 module _ (c n : ℕ) (l : List ℕ) (f : FrontAt) (s : SetPlace) (r : SetRoom c n l f (s .at) (s .count)) (o : List ℕ) (y : List ℤ)
     (v : columnsOf (s .count) (take (2 * f .head .rows + 1) o) (take (s .count) y) ≡ setAt (partIn l (f .sets)) (f .head .rows) (s .at) (s .count)) where
-  pub loaded-readable : Readable (f .head .first) (columnsOf (s .count) (take (2 * f .head .rows + 1) o) (take (s .count) y))
+  pub loaded-readable : Readable kinds (f .head .first) (columnsOf (s .count) (take (2 * f .head .rows + 1) o) (take (s .count) y))
   loaded-readable = rw v (r .readable)
 
   pub loaded-climbs : fromTo 0 (s .count) (take (2 * f .head .rows + 1) o) ≡ true
   loaded-climbs = readable-climbs (f .head .first) (s .count) (take (2 * f .head .rows + 1) o) (take (s .count) y) loaded-readable
 
   pub set-added : (a b : List ℕ) {a′ b′ : List ℕ} → a′ ≡ sets a (2 * n + 1) (map (λ u. c + u) (drop 1 (take (2 * f .head .rows + 1) o)))
-      → b′ ≡ sets b c (joined (slotsOf (f .head .first) (columnsOf (s .count) (take (2 * f .head .rows + 1) o) (take (s .count) y))))
+      → b′ ≡ sets b c (joined (slotsOf kinds (f .head .first) (columnsOf (s .count) (take (2 * f .head .rows + 1) o) (take (s .count) y))))
       → edgesOf (c + s .count) a′ b′ ≡ edgesWith (edgesOf c a b) n (f .head .first) (setAt (partIn l (f .sets)) (f .head .rows) (s .at) (s .count))
   unfolding edgesWith
   set-added a b {a′} {b′} g t = made ∙ ap (edgesWith (edgesOf c a b) n (f .head .first)) v
@@ -143,7 +144,7 @@ module _ (side : Side) (h : Held) (c : ℕ) (a y : List ℕ) (n : ℕ) (l : List
   pub side-done : length l ≤ p → e ≡ sideOf side (stored h l)
   side-done t = ap (λ v. v .0) (part-done (λ q. (sideOf side q, q .rows .count)) h (e, n) l k p w t)
 
-  module _ (lt : p < length l) (le : k ≤ p) (x : FileRead) (d : fileOf l x ≡ file l p) where
+  module _ (lt : p < length l) (le : k ≤ p) (x : FileRead) (d : fileOf l x ≡ file kinds l p) where
     pub side-none : x ≡ NoFile → e ≡ sideOf side (stored h l)
     side-none m = absurd (no-file (sideNow side) h (e, n) l k p w lt le x d m)
 

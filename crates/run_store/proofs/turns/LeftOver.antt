@@ -11,7 +11,8 @@ use lib.ListN.{length, getD}
 use borrow.Author.Tests.{ltb-false, eq-eqb, ne-eqb}
 use Rattle.lists.specs.Lists.{sum, once, add, isEmpty, upFrom, Each}
 use Rattle.lists.proofs.Once.{or-is-false}
-use Rattle.columns.specs.Limits.{maxRecords, maxNumbers, maxGroups}
+use Rattle.columns.specs.Limits.{kinds, maxRecords, maxNumbers, maxGroups}
+use Rattle.columns.proofs.Served.{kinds-served}
 use Rattle.columns.specs.Refusal.{refuse}
 use Rattle.columns.specs.declared.refusal.Refusal.the-variants.{OverRecords, OverNumbers}
 use Rattle.columns.proofs.FirstBroken.{each-none, not-refused}
@@ -55,10 +56,10 @@ use Rattle.run_store.proofs.fits.Fitted.{sound, next, held-fit, held-so
 within : (m a : ℕ) → ltb m a ≡ false → a ≤ m
 within m a e = omega (arith, ltb-false m a e)
 
-pub left-start : (h : Held) (fs : List File) → LongHeld h → heldOk h ≡ true → holdRules (heldIn h) fs ≡ none → Left h fs
+pub left-start : (h : Held) (fs : List File) → LongHeld h → heldOk h ≡ true → holdRules kinds (heldIn h) fs ≡ none → Left h fs
 unfolding holdRules manyRecords manyNumbers figures totals groupsOver heldIn
 left-start h fs long ok e =
-    let parts = each-none (refuse OverRecords (recordsOver (heldIn h) fs) ∷ refuse OverNumbers (numbersOver (heldIn h) fs) ∷ filesRules (lookBack (sheetIn (h .sheet))) fs ∷ []) e in
+    let parts = each-none (refuse OverRecords (recordsOver (heldIn h) fs) ∷ refuse OverNumbers (numbersOver (heldIn h) fs) ∷ filesRules kinds (lookBack (sheetIn (h .sheet))) fs ∷ []) e in
     let r = records-same h long ok fs ∙ not-refused OverRecords (recordsOver (heldIn h) fs) (parts .0) in
     let s = numbers-same h long ok fs ∙ not-refused OverNumbers (numbersOver (heldIn h) fs) (parts .1 .0) in
     let a = or-is-false _ (ltb maxGroups (length (once (upFrom 0 (h .sheet .groups .count) ++ map (λ f. f .group) fs)))) r in
@@ -83,14 +84,14 @@ left-start h fs long ok e =
 
 -- ── looking back ─────────────────────────────────────────────────────────────────────────────
 
-looks-at : (r : Source) (h : run.Held) → HeldLast r h → (fs : List File) → filesRules (lookBack (h .sheet)) fs ≡ filesRules (some r) fs
+looks-at : (r : Source) (h : run.Held) → HeldLast kinds r h → (fs : List File) → filesRules kinds (lookBack (h .sheet)) fs ≡ filesRules kinds (some r) fs
 unfolding lookBack isEmpty ending
 looks-at r h e fs =
     let k = length (h .sheet .groups) - 1 in
     let c = (getD (h .sheet .groups) k noFacts) .covered in
     let last : k ≡ r .group = omega (arith, e .groups) in
     rw (not-empty (h .sheet .groups) (omega (arith, e .groups)))
-    (files-alike (ending k (h .sheet .subject) (h .sheet .start + rowCount (h .sheet)) c) r last (e .subject)
+    (files-alike kinds kinds-served (ending k (h .sheet .subject) (h .sheet .start + rowCount (h .sheet)) c) r last (e .subject)
     (omega (arith, e .end, e .rows .tags))
     (there-cond c (record { labels = []; ranges = 0; links = [] }) ∙ ap (λ j. (getD (h .sheet .groups) j noFacts) .covered) last ∙ e .covered) fs)
 
@@ -101,7 +102,7 @@ groups-count g n flag least greatest covered (inr e) = rw (ne-eqb n (g .count) (
 
 -- ── after a file ─────────────────────────────────────────────────────────────────────────────
 
-module _ (h : Held) (l : List ℕ) (f : FileAt) (fs : List File) (long : LongHeld h) (ok : heldOk h ≡ true) (neat : Neat (heldIn h)) (left : Left h (fileIn l f ∷ fs))
+module _ (h : Held) (l : List ℕ) (f : FileAt) (fs : List File) (long : LongHeld h) (ok : heldOk h ≡ true) (neat : Neat kinds (heldIn h)) (left : Left h (fileIn l f ∷ fs))
     (holds : HoldsFile l f) (u : Uncovers (f .tail .covered) (f .tail .cover)) where
   abbrev F : File
   F = fileIn l f
@@ -109,32 +110,32 @@ module _ (h : Held) (l : List ℕ) (f : FileAt) (fs : List File) (long : LongHel
   abbrev more : Held
   more = heldNext h l f
 
-  pub view-next : heldIn more ≡ heldWith (heldIn h) (sourceOf F)
+  pub view-next : heldIn more ≡ heldWith (heldIn h) (sourceOf kinds F)
   view-next = held-more h F (f .front .head .flag) (f .front .head .least) (f .front .head .greatest) (held-fit h l f fs long ok neat left holds u)
 
   pub ok-next : heldOk more ≡ true
   ok-next = held-stays-ok h F (f .front .head .flag) (f .front .head .least) (f .front .head .greatest) ok (held-fit h l f fs long ok neat left holds u)
       (held-sound h l f fs long ok neat left holds u)
 
-  ready-now : Ready (heldIn h) (sourceOf F)
+  ready-now : Ready kinds (heldIn h) (sourceOf kinds F)
   ready-now = next h l f fs long ok neat left holds u
 
-  pub neat-next : Each FileFits (F ∷ fs) → Neat (heldIn more)
+  pub neat-next : Each (FileFits kinds) (F ∷ fs) → Neat kinds (heldIn more)
   neat-next k =
       let d = sound h l f fs long ok neat left holds u in
-      let o = orderly-taken (lookBack (sheetIn (h .sheet))) (F ∷ fs) (left .rules) k .0 in
-      subst Neat (sym view-next) (record {
-        rows = (held-with (heldIn h) (sourceOf F) ready-now d) .rows;
-        tidy = tidy-with (heldIn h) (sourceOf F) ready-now d o (neat .tidy);
-        below = below-with (heldIn h) (sourceOf F) ready-now d (neat .below);
+      let o = orderly-taken kinds kinds-served (lookBack (sheetIn (h .sheet))) (F ∷ fs) (left .rules) k .0 in
+      subst (Neat kinds) (sym view-next) (record {
+        rows = (held-with kinds kinds-served (heldIn h) (sourceOf kinds F) ready-now d) .rows;
+        tidy = tidy-with kinds kinds-served (heldIn h) (sourceOf kinds F) ready-now d o (neat .tidy);
+        below = below-with kinds kinds-served (heldIn h) (sourceOf kinds F) ready-now d (neat .below);
       })
 
-  rules-next : filesRules (lookBack (sheetIn (more .sheet))) fs ≡ none
+  rules-next : filesRules kinds (lookBack (sheetIn (more .sheet))) fs ≡ none
   unfolding filesRules heldIn
   rules-next =
       let d = sound h l f fs long ok neat left holds u in
-      let r = each-none (fileRules (lookBack (sheetIn (h .sheet))) F ∷ filesRules (some (sourceOf F)) fs ∷ []) (left .rules) .1 .0 in
-      ap (λ x. filesRules (lookBack (x .sheet)) fs) view-next ∙ looks-at (sourceOf F) (heldWith (heldIn h) (sourceOf F)) (held-with (heldIn h) (sourceOf F) ready-now d) fs ∙ r
+      let r = each-none (fileRules kinds (lookBack (sheetIn (h .sheet))) F ∷ filesRules kinds (some (sourceOf kinds F)) fs ∷ []) (left .rules) .1 .0 in
+      ap (λ x. filesRules kinds (lookBack (x .sheet)) fs) view-next ∙ looks-at (sourceOf kinds F) (heldWith (heldIn h) (sourceOf kinds F)) (held-with kinds kinds-served (heldIn h) (sourceOf kinds F) ready-now d) fs ∙ r
 
   group-place : (F .group ≡ h .sheet .groups .count) ⊎ (F .group + 1 ≡ h .sheet .groups .count)
   group-place = group-is h F (flags-long h l f fs long ok neat left holds u) ready-now

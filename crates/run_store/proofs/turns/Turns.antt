@@ -6,6 +6,7 @@ use Prim.Native.Nat.{ℕ, suc, _+_, _-_, _≤_, _<_}
 use native.Mathlib.Omega.{arith}
 use lib.ListN.{length}
 use borrow.Author.Tests.{lt-leb, not-false}
+use Rattle.columns.specs.Limits.{kinds}
 use Rattle.lists.specs.Lists.{Each}
 use Rattle.lists.proofs.Tests.{both}
 use Rattle.archive.specs.Reader.{Parsed, broken, got, andThen, _>>=_}
@@ -45,28 +46,28 @@ pub record Going (h q : Held) (l : List ℕ) (r : Parsed (List File)) : Type 0 w
   pub parsed : isGot r ≡ true
   pub long : LongHeld q
   pub ok : heldOk q ≡ true
-  pub neat : Neat (heldIn q)
+  pub neat : Neat kinds (heldIn q)
   pub left : Left q (filesIn r)
-  pub fits : Each FileFits (filesIn r)
-  pub whole : heldAfter h (parse l) ≡ heldAfter q r
+  pub fits : Each (FileFits kinds) (filesIn r)
+  pub whole : heldAfter h (parse kinds l) ≡ heldAfter q r
   pub parts : stored h l ≡ partsAfter (partsOf q) (filesIn r)
 
 -- what a loop has after k files, at place p, is a view of what is held then
 pub record Walk {A : Type 0} (view : Held → A) (h : Held) (a : A) (l : List ℕ) (k p : ℕ) : Type 0 where
   pub held : Held
-  pub going : Going h held l (files (length l - k) l p)
+  pub going : Going h held l (files kinds (length l - k) l p)
   pub is : a ≡ view held
 
 pub walk-start : {A : Type 0} (view : Held → A) (h : Held) (l : List ℕ) → Accepted h l → Walk view h (view h) l 0 0
 unfolding parse
 walk-start view h l a =
     let z : length l - 0 ≡ length l = omega arith in
-    let g : Going h h l (files (length l) l 0) = record {
+    let g : Going h h l (files kinds (length l) l 0) = record {
       parsed = a .parsed;
       long = a .long;
       ok = a .ok;
       neat = neat-held h (a .long) (a .ok) (a .order);
-      left = left-start h (filesIn (parse l)) (a .long) (a .ok) (a .rules);
+      left = left-start h (filesIn (parse kinds l)) (a .long) (a .ok) (a .rules);
       fits = a .fits;
       whole = refl;
       parts = refl;
@@ -98,11 +99,11 @@ module _ {A : Type 0} (view : Held → A) (h : Held) (a : A) (l : List ℕ) (k p
   abbrev q : Held
   q = w .held
 
-  abbrev g : Going h q l (files (length l - k) l p)
+  abbrev g : Going h q l (files kinds (length l - k) l p)
   g = w .going
 
   -- what is held at the end is what the archive's files leave
-  pub walk-whole : length l ≤ p → heldIn q ≡ heldAfter h (parse l)
+  pub walk-whole : length l ≤ p → heldIn q ≡ heldAfter h (parse kinds l)
   walk-whole e = sym (g .whole ∙ ap (heldAfter q) (files-end (length l - k) l p e))
 
   pub walk-parts : length l ≤ p → partsOf q ≡ stored h l
@@ -113,28 +114,28 @@ module _ {A : Type 0} (view : Held → A) (h : Held) (a : A) (l : List ℕ) (k p
   unfolding heldOk heldIn
   walk-ordered = ordered-sheet (q .sheet) (g .long .sheet) (both (sheetOk (q .sheet)) _ (g .ok) .0) (g .neat .tidy)
 
-  module _ (lt : p < length l) (le : k ≤ p) (x : FileRead) (d : fileOf l x ≡ file l p) where
-    step : files (length l - k) l p ≡ andThen (fileOf l x) (λ f e. andThen (files (length l - (k + 1)) l e) (λ fs e. got (f ∷ fs) e))
+  module _ (lt : p < length l) (le : k ≤ p) (x : FileRead) (d : fileOf l x ≡ file kinds l p) where
+    step : files kinds (length l - k) l p ≡ andThen (fileOf l x) (λ f e. andThen (files kinds (length l - (k + 1)) l e) (λ fs e. got (f ∷ fs) e))
     unfolding files _>>=_
     step = let z : length l - k ≡ suc (length l - (k + 1)) = omega arith in rw (z, lt-leb (length l) p lt, d)
 
     pub no-file : x ≡ NoFile → ⊥
-    no-file m = let e : files (length l - k) l p ≡ broken = step ∙ rw m in false≢true (sym (ap isGot e) ∙ g .parsed)
+    no-file m = let e : files kinds (length l - k) l p ≡ broken = step ∙ rw m in false≢true (sym (ap isGot e) ∙ g .parsed)
 
     module _ {f : FileAt} (m : x ≡ FileIs f) (b : AfterFile l p x) where
       abbrev rest : Parsed (List File)
-      rest = files (length l - (k + 1)) l (f .tail .end)
+      rest = files kinds (length l - (k + 1)) l (f .tail .end)
 
-      here : files (length l - k) l p ≡ andThen rest (λ fs e. got (fileIn l f ∷ fs) e)
+      here : files kinds (length l - k) l p ≡ andThen rest (λ fs e. got (fileIn l f ∷ fs) e)
       here = step ∙ rw m
 
-      split : (isGot rest ≡ true) × (filesIn (files (length l - k) l p) ≡ fileIn l f ∷ filesIn rest)
+      split : (isGot rest ≡ true) × (filesIn (files kinds (length l - k) l p) ≡ fileIn l f ∷ filesIn rest)
       split = let t = got-rest (fileIn l f) rest (sym (ap isGot here) ∙ g .parsed) in (t .0, ap filesIn here ∙ t .1)
 
       left-here : Left q (fileIn l f ∷ filesIn rest)
       left-here = rw (split .1) at (g .left)
 
-      fits-here : Each FileFits (fileIn l f ∷ filesIn rest)
+      fits-here : Each (FileFits kinds) (fileIn l f ∷ filesIn rest)
       fits-here = rw (split .1) at (g .fits)
 
       holds : HoldsFile l f
@@ -155,8 +156,8 @@ module _ {A : Type 0} (view : Held → A) (h : Held) (a : A) (l : List ℕ) (k p
         neat = neat-next q l f (filesIn rest) (g .long) (g .ok) (g .neat) left-here holds uncovers fits-here;
         left = left-next q l f (filesIn rest) (g .long) (g .ok) (g .neat) left-here holds uncovers;
         fits = fits-here .1;
-        whole = g .whole ∙ ap (λ fs. foldl heldWith (heldIn q) (map sourceOf fs)) (split .1)
-            ∙ ap (λ s. foldl heldWith s (map sourceOf (filesIn rest))) (sym (view-next q l f (filesIn rest) (g .long) (g .ok) (g .neat) left-here holds uncovers));
+        whole = g .whole ∙ ap (λ fs. foldl heldWith (heldIn q) (map (sourceOf kinds) fs)) (split .1)
+            ∙ ap (λ s. foldl heldWith s (map (sourceOf kinds) (filesIn rest))) (sym (view-next q l f (filesIn rest) (g .long) (g .ok) (g .neat) left-here holds uncovers));
         parts = g .parts ∙ ap (partsAfter (partsOf q)) (split .1)
             ∙ ap (λ s. partsAfter s (filesIn rest)) (sym (parts-next q (fileIn l f) (f .front .head .flag) (f .front .head .least) (f .front .head .greatest)));
       }

@@ -4,6 +4,7 @@ use mathlib.Core.Bool.{Bool, true, false}
 use mathlib.Core.List.{List}
 use Prim.Native.Nat.{ℕ, _+_, _≤_, _<_}
 use lib.ListN.{drop}
+use Rattle.columns.specs.Limits.{kinds}
 use Rattle.columns.specs.Readable.{Readable}
 use Rattle.archive_bytes.specs.Bytes.{be, several, column}
 use Rattle.cover.specs.Cover.{sumsFit}
@@ -21,7 +22,7 @@ use Rattle.run_state.specs.declared.Held.{Held}
 pub record SetRoom (c n : ℕ) (l : List ℕ) (f : FrontAt) (p k : ℕ) : Type 0 where
   pub rows : n + f .head .rows ≤ 1024
   pub few : c + k ≤ 4096
-  pub readable : Readable (f .head .first) (setAt (partIn l (f .sets)) (f .head .rows) p k)
+  pub readable : Readable kinds (f .head .first) (setAt (partIn l (f .sets)) (f .head .rows) p k)
 
 -- the links of a cover are sums that fit
 abbrev pub SumsIn : Bool → List ℕ → ℕ → TailAt → Type 0

@@ -4,6 +4,7 @@ use mathlib.Core.List.{List, map, foldl}
 use mathlib.Core.Option.{none}
 use Prim.Native.Nat.{_≤_, _+_}
 use lib.ListN.{length}
+use Rattle.columns.specs.Limits.{kinds}
 use Rattle.lists.specs.Lists.{sum, add, upFrom}
 use Rattle.archive.specs.File.{File}
 use Rattle.cleaning.specs.Taking.{storedRanges, storedLinkCount, filesRules}
@@ -21,4 +22,4 @@ pub record Left (h : Held) (fs : List File) : Type 0 where
   pub forward : h .sheet .edges .count + sum (λ f. length (f .forward .deltas)) fs ≤ 4096
   pub reverse : h .reverse .count + sum (λ f. length (f .reverse .deltas)) fs ≤ 4096
   pub inbound : h .inbound .count + sum (λ f. length (f .inbound .deltas)) fs ≤ 4096
-  pub rules : filesRules (lookBack (sheetIn (h .sheet))) fs ≡ none
+  pub rules : filesRules kinds (lookBack (sheetIn (h .sheet))) fs ≡ none

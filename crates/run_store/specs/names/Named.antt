@@ -5,6 +5,7 @@ use mathlib.Core.List.{List}
 use Prim.Native.Nat.{ℕ, _+_, _≤_, _<_}
 use lib.Dec.{eqb}
 use lib.ListN.{take, drop}
+use Rattle.columns.specs.Limits.{kinds}
 use Rattle.archive.specs.Parse.{parse}
 use Rattle.archive_read.specs.Layout.{partIn, HoldsHead}
 use Rattle.archive_read.specs.declared.records.FileAt.{FileAt}
@@ -40,7 +41,7 @@ pub record NamesRoom (q : Names) (l : List ℕ) (f : FileAt) : Type 0 where
 -- the names are those of what is held after the files of an archive
 pub record Named (h : Held) (l : List ℕ) (r : Names) : Type 0 where
   pub held : Held
-  pub whole : heldIn held ≡ heldAfter h (parse l)
+  pub whole : heldIn held ≡ heldAfter h (parse kinds l)
   pub long : LongHeld held
   pub ok : heldOk held ≡ true
   pub order : ordered (held .sheet) ≡ true

@@ -46,7 +46,7 @@ unfoldable pub edgesWith : Edges → ℕ → ℕ → EdgeSet → Edges
 edgesWith e n first s = record {
   count = e .count + s .count;
   offsets = sets (e .offsets) (kinds * n + 1) (map (λ o. e .count + o) (drop 1 (s .offsets)));
-  targets = sets (e .targets) (e .count) (joined (slotsOf first s));
+  targets = sets (e .targets) (e .count) (joined (slotsOf kinds first s));
 }
 
 unfoldable pub unresolvedWith : records.Unresolved → List File.Unresolved → records.Unresolved

@@ -1,6 +1,7 @@
 -- What is held after the files of an archive are stored.
 use mathlib.Core.Bool.{Bool, true, false}
 use mathlib.Core.List.{List, map, foldl}
+use Rattle.columns.specs.Limits.{kinds}
 use Rattle.archive.specs.Reader.{Parsed, broken, got}
 use Rattle.archive.specs.File.{File}
 use Rattle.cleaning.specs.Source.{sourceOf}
@@ -17,4 +18,4 @@ isGot (got fs end) = true
 
 -- what is held with the files of an archive more
 abbrev pub heldAfter : Held → Parsed (List File) → run.Held
-heldAfter h r = foldl heldWith (heldIn h) (map sourceOf (filesIn r))
+heldAfter h r = foldl heldWith (heldIn h) (map (sourceOf kinds) (filesIn r))

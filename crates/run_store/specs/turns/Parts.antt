@@ -5,6 +5,7 @@ use mathlib.Core.List.{List, [], _∷_, map}
 use mathlib.Core.Option.{none}
 use Prim.Native.Nat.{ℕ}
 use lib.Seq.{sets}
+use Rattle.columns.specs.Limits.{kinds}
 use Rattle.lists.specs.Lists.{Each}
 use Rattle.archive.specs.File.{File}
 use Rattle.archive.specs.Fits.{FileFits}
@@ -67,13 +68,13 @@ partsAfter p (f ∷ fs) = partsAfter (partsMore p f) fs
 
 -- the columns of what is held after the files of an archive
 abbrev pub stored : Held → List ℕ → Parts
-stored h l = partsAfter (partsOf h) (filesIn (parse l))
+stored h l = partsAfter (partsOf h) (filesIn (parse kinds l))
 
 -- the bytes are an archive whose files may be stored in what is held
 pub record Accepted (h : Held) (l : List ℕ) : Type 0 where
   pub long : LongHeld h
   pub ok : heldOk h ≡ true
   pub order : ordered (h .sheet) ≡ true
-  pub parsed : isGot (parse l) ≡ true
-  pub fits : Each FileFits (filesIn (parse l))
-  pub rules : holdRules (heldIn h) (filesIn (parse l)) ≡ none
+  pub parsed : isGot (parse kinds l) ≡ true
+  pub fits : Each (FileFits kinds) (filesIn (parse kinds l))
+  pub rules : holdRules kinds (heldIn h) (filesIn (parse kinds l)) ≡ none

@@ -2,6 +2,7 @@
 use mathlib.Core.Path.{_≡_}
 use Prim.Native.Nat.{_≤_, _-_}
 use lib.ListN.{length}
+use Rattle.columns.specs.Limits.{kinds}
 use Rattle.archive.specs.Parse.{files, parse}
 use Rattle.archive_read.specs.Sums.{totalsOf, Below, plus}
 use Rattle.archive_read.proofs.AtFiles.{sums-start, sums-done, sums-broken, sums-next, file-past, file-fits, file-counts, still-below}
@@ -10,7 +11,7 @@ use Rattle.archive_read.proofs.files.sum_up.Statement.{statement}
 use Rattle.archive_read.proofs.files.sum_up.Tie as tie
 
 abbrev Inv-loop : tie.InvT-loop
-Inv-loop bytes t₀ p₀ t p = Below t p × (p ≤ length bytes) × (totalsOf (parse bytes) ≡ plus t (totalsOf (files (length bytes - t .files) bytes p)))
+Inv-loop bytes t₀ p₀ t p = Below t p × (p ≤ length bytes) × (totalsOf (parse kinds bytes) ≡ plus t (totalsOf (files kinds (length bytes - t .files) bytes p)))
 
 abbrev μ-loop : tie.MeasureT-loop
 μ-loop bytes t₀ p₀ t p = length bytes - p

@@ -1,6 +1,7 @@
 -- `archive_store::sections::store_deltas` meets its contract.
 use Prim.Native.Nat.{_*_, _-_, _≤_}
 use lib.ListN.{drop}
+use Rattle.columns.specs.Limits.{kinds}
 use Rattle.lists.specs.Lists.{joined}
 use Rattle.lists.proofs.Storing.{Storing, storing-begins}
 use Rattle.columns.specs.EdgeSet.{deltasFrom}
@@ -15,8 +16,8 @@ use Rattle.archive_store.proofs.sections.store_deltas.Tie as tie
 abbrev Inv-loop : tie.InvT-loop
 Inv-loop out₀ at first n offsets targets from low high q₀ p₀ out q p =
     (q ≤ 2 * n)
-    × Storing out₀ at (deltaBytes (joined (deltasFrom first 0 (rowsWithin low high from n offsets targets)))) out p
-    (deltaBytes (joined (deltasFrom first q (drop q (rowsWithin low high from n offsets targets)))))
+    × Storing out₀ at (deltaBytes (joined (deltasFrom kinds first 0 (rowsWithin kinds low high from n offsets targets)))) out p
+    (deltaBytes (joined (deltasFrom kinds first q (drop q (rowsWithin kinds low high from n offsets targets)))))
 
 abbrev μ-loop : tie.MeasureT-loop
 μ-loop out₀ at first n offsets targets from low high q₀ p₀ out q p = 2 * n - q
@@ -25,13 +26,13 @@ loop-holds : tie.Need-loop-holds Inv-loop μ-loop
 loop-holds c = (search needs, search storing-begins)
 
 store-list-requires : tie.Need-store-list-requires Inv-loop μ-loop
-store-list-requires c κs = ((search needs, search needs), search (slots-room deltaBytes bytes-none bytes-append))
+store-list-requires c κs = ((search needs, search needs), search (slots-room kinds deltaBytes bytes-none bytes-append))
 
 loop-again : tie.Need-loop-again Inv-loop μ-loop
-loop-again c = (search needs, search (slots-on deltaBytes bytes-none bytes-append))
+loop-again c = (search needs, search (slots-on kinds deltaBytes bytes-none bytes-append))
 
 returns : tie.Need-returns Inv-loop μ-loop
-returns c = (search (slots-done deltaBytes bytes-none bytes-append), search (slots-next deltaBytes bytes-none bytes-append))
+returns c = (search (slots-done kinds deltaBytes bytes-none bytes-append), search (slots-next kinds deltaBytes bytes-none bytes-append))
 
 pub store-deltas-spec : {M : Type 1} → statement M
 store-deltas-spec =

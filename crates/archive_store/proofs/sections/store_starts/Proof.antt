@@ -2,6 +2,7 @@
 use mathlib.Core.Path.{_≡_}
 use Prim.Native.Nat.{_+_, _-_, _*_, _≤_}
 use lib.ListN.{length, drop}
+use Rattle.columns.specs.Limits.{kinds}
 use Rattle.lists.specs.Lists.{joined, starts}
 use Rattle.lists.proofs.Storing.{Storing, storing-begins}
 use Rattle.columns.specs.Building.{rowsWithin}
@@ -14,8 +15,8 @@ use Rattle.archive_store.proofs.sections.store_starts.Tie as tie
 abbrev Inv-loop : tie.InvT-loop
 Inv-loop out₀ at n offsets targets from low high sum₀ q₀ p₀ out sum q p =
     (q ≤ 2 * n)
-    × (length (joined (rowsWithin low high from n offsets targets)) ≡ sum + length (joined (drop q (rowsWithin low high from n offsets targets))))
-    × Storing out₀ at (columnBytes 8 (starts 0 (rowsWithin low high from n offsets targets))) out p (columnBytes 8 (starts sum (drop q (rowsWithin low high from n offsets targets))))
+    × (length (joined (rowsWithin kinds low high from n offsets targets)) ≡ sum + length (joined (drop q (rowsWithin kinds low high from n offsets targets))))
+    × Storing out₀ at (columnBytes 8 (starts 0 (rowsWithin kinds low high from n offsets targets))) out p (columnBytes 8 (starts sum (drop q (rowsWithin kinds low high from n offsets targets))))
 
 abbrev μ-loop : tie.MeasureT-loop
 μ-loop out₀ at n offsets targets from low high sum₀ q₀ p₀ out sum q p = 2 * n - q

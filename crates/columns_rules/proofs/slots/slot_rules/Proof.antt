@@ -2,6 +2,7 @@
 use mathlib.Core.Path.{_≡_}
 use Prim.Native.Nat.{_≤_, _-_, _*_}
 use lib.ListN.{drop}
+use Rattle.columns.specs.Limits.{kinds}
 use Rattle.columns.specs.EdgeSet.{cut}
 use Rattle.columns.specs.Building.{slotRules}
 use Rattle.columns.specs.Answers.{ruling}
@@ -12,7 +13,7 @@ use Rattle.columns_rules.proofs.slots.slot_rules.Tie as tie
 
 abbrev Inv-loop : tie.InvT-loop
 Inv-loop first rows offsets targets s₀ s =
-    (s ≤ 2 * rows) × (ruling (slotRules first 0 (cut offsets targets)) ≡ ruling (slotRules first s (drop s (cut offsets targets))))
+    (s ≤ 2 * rows) × (ruling (slotRules kinds first 0 (cut offsets targets)) ≡ ruling (slotRules kinds first s (drop s (cut offsets targets))))
 
 abbrev μ-loop : tie.MeasureT-loop
 μ-loop first rows offsets targets s₀ s = 2 * rows - s

@@ -3,6 +3,7 @@ use mathlib.Core.Path.{_≡_}
 use Prim.Native.Nat.{_-_, _%_, _<_}
 use lib.ListN.{length, drop}
 use borrow.Author.Needs.{needs}
+use Rattle.columns.specs.Limits.{kinds}
 use Rattle.columns.specs.EdgeSet.{cut}
 use Rattle.columns.specs.Reading.{soundFrom}
 use Rattle.columns.proofs.Offsets.{some-offset}
@@ -12,7 +13,7 @@ use Rattle.columns_slots.proofs.sets.are_sound.Statement.{statement}
 use Rattle.columns_slots.proofs.sets.are_sound.Tie as tie
 
 abbrev Inv-loop : tie.InvT-loop
-Inv-loop set first end offsets deltas slot₀ slot = (slot % 2 ≡ 0) × (slot < length offsets) × (soundFrom set first end 0 (cut offsets deltas) ≡ soundFrom set first end slot (drop slot (cut offsets deltas)))
+Inv-loop set first end offsets deltas slot₀ slot = (slot % 2 ≡ 0) × (slot < length offsets) × (soundFrom kinds set first end 0 (cut offsets deltas) ≡ soundFrom kinds set first end slot (drop slot (cut offsets deltas)))
 
 abbrev μ-loop : tie.MeasureT-loop
 μ-loop set first end offsets deltas slot₀ slot = length offsets - slot

@@ -2,6 +2,7 @@
 use mathlib.Core.Path.{_≡_}
 use Prim.Native.Nat.{_≤_, _+_, _-_, _*_}
 use lib.ListN.{drop}
+use Rattle.columns.specs.Limits.{kinds}
 use Rattle.lists.specs.Lists.{part}
 use Rattle.columns.specs.EdgeSet.{cut}
 use Rattle.columns.specs.Building.{deltasFit}
@@ -13,7 +14,7 @@ use Rattle.columns_rules.proofs.spans.reach.slots_fit.Tie as tie
 
 abbrev Inv-loop : tie.InvT-loop
 Inv-loop first rows from n offsets targets q₀ q =
-    (q ≤ 2 * n) × (deltasFit (first + from) (part (2 * from) (2 * n) (cut offsets targets)) ≡ slotsFit (first + from) q (drop q (part (2 * from) (2 * n) (cut offsets targets))))
+    (q ≤ 2 * n) × (deltasFit kinds (first + from) (part (2 * from) (2 * n) (cut offsets targets)) ≡ slotsFit (first + from) q (drop q (part (2 * from) (2 * n) (cut offsets targets))))
 
 abbrev μ-loop : tie.MeasureT-loop
 μ-loop first rows from n offsets targets q₀ q = 2 * n - q

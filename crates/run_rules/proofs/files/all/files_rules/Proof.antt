@@ -2,6 +2,7 @@
 use mathlib.Core.Path.{_≡_}
 use Prim.Native.Nat.{_≤_, _-_}
 use lib.ListN.{length}
+use Rattle.columns.specs.Limits.{kinds}
 use Rattle.archive.specs.Parse.{parse, files}
 use Rattle.archive_read.specs.Sums.{totalsOf}
 use Rattle.archive_read.proofs.AtFiles.{file-fits, file-holds}
@@ -14,8 +15,8 @@ use Rattle.run_rules.proofs.files.all.files_rules.Tie as tie
 
 abbrev Inv-loop : tie.InvT-loop
 Inv-loop bytes subject offsets₀ deltas₀ s₀ k₀ p₀ offsets deltas s k p =
-    (p ≤ length bytes) × (k ≤ p) × (s .length ≤ length (s .subject)) × Within (totalsOf (files (length bytes - k) bytes p))
-    × (ruling (rulesOf (seenOf s₀) (parse bytes)) ≡ ruling (rulesOf (seenOf s) (files (length bytes - k) bytes p)))
+    (p ≤ length bytes) × (k ≤ p) × (s .length ≤ length (s .subject)) × Within (totalsOf (files kinds (length bytes - k) bytes p))
+    × (ruling (rulesOf (seenOf s₀) (parse kinds bytes)) ≡ ruling (rulesOf (seenOf s) (files kinds (length bytes - k) bytes p)))
 
 abbrev μ-loop : tie.MeasureT-loop
 μ-loop bytes subject offsets₀ deltas₀ s₀ k₀ p₀ offsets deltas s k p = length bytes - p
