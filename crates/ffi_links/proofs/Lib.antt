@@ -1,0 +1,6 @@
+pub mod Loans
+pub mod Four
+pub mod Taken
+pub mod Sorting
+pub mod Meaning
+pub mod Answered
