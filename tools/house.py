@@ -7,7 +7,8 @@ Doors: a function of one storey is called from another only if README's table of
 may also call every public function. Promises: a public function of README's table has an `ensures` and no `requires`, and as many must-fail
 edits as the table says; every exported function is in the table, and no function that can be called from outside a crate with public
 functions has a `requires`. Edits: the first line of each names a public function, a definition, or the function of a near miss, and the
-wrong answer that it rules out; the text that it changes stands in its file once."""
+wrong answer that it rules out; the text that it changes stands in its file once. Lines: none of a definition, a law or a function is over
+200 characters, but for one with a text in it."""
 import pathlib
 import re
 import sys
@@ -167,10 +168,22 @@ def promises(table):
     return wrong + [f"{path} is exported and not in the table of public functions" for path in exported() if path not in public]
 
 
+# ── lines ────────────────────────────────────────────────────────────────────────────────────
+
+def lines():
+    """Lines that are too long to be read. Answers of a walk, lists of what computes and archives with known answers are not looked at."""
+    for file in sorted([*CRATES.rglob("*.rt"), *CRATES.rglob("*.antt")]):
+        if file.name in ("Proof.antt", "Computes.antt") or file.parts[len(CRATES.parts)] == "try_known":
+            continue
+        for number, line in enumerate(file.read_text().splitlines(), 1):
+            if len(line) > 200 and '"' not in line:
+                yield f"{file.relative_to(ROOT)}:{number}: a line of {len(line)} characters"
+
+
 def main():
     table = rows("Public functions")
-    wrong = doors({path for row in table for path in functions(row[1])}) + promises(table)
-    print("\n".join(f"house: {line}" for line in dict.fromkeys(wrong)) or "house: doors, promises and edits are as README says")
+    wrong = doors({path for row in table for path in functions(row[1])}) + promises(table) + list(lines())
+    print("\n".join(f"house: {line}" for line in dict.fromkeys(wrong)) or "house: doors, promises, edits and lines are as README and this file say")
     return 1 if wrong else 0
 
 

@@ -26,7 +26,8 @@ use Rattle.archive.proofs.Bodies.{head-back, sets-back, rows-back, unre
 file-back : (K : ℕ) → Back (Parse.file K) (Said fileBytes (FileFits K))
 unfolding Parse.file fileBytes headBytes edgesBytes
 file-back K =
-    then-back (recordOf 1 Parse.head) _ (record-back 1 Parse.head head-back) (λ h. then-back (recordOf 2 (Parse.sets K (h .rows))) _ (record-back 2 (Parse.sets K (h .rows)) (sets-back K (h .rows))) (λ s.
+    then-back (recordOf 1 Parse.head) _ (record-back 1 Parse.head head-back)
+    (λ h. then-back (recordOf 2 (Parse.sets K (h .rows))) _ (record-back 2 (Parse.sets K (h .rows)) (sets-back K (h .rows))) (λ s.
     then-back (recordOf 3 (Parse.rows (h .rows))) _ (record-back 3 (Parse.rows (h .rows)) (rows-back (h .rows))) (λ rs.
     then-back (recordOf 4 Parse.unresolved) _ (record-back 4 Parse.unresolved unresolved-back) (λ us. then-back (recordOf 5 Parse.roots) _ (record-back 5 Parse.roots roots-back) (λ ts.
     then-back (optionally 6 (Parse.cover (h .rows))) _ (cover-found-back (h .rows)) (λ c. end-back (λ l p. true) _ (λ l p t kc kt ku kr ks kh.

@@ -21,10 +21,12 @@ use Rattle.archive.specs.Reader.{broken, got, _>>=_, byte, number, bytes
 use Rattle.archive.specs.File.{Row, Unresolved, Root, CoverColumns, File}
 use Rattle.archive.specs.Parse
 use Rattle.archive.specs.Parse.{Head, depthFlagOk, headEnd, edgeSet, rowAt, unresolvedAt, rootAt, rangeAt, files, parse}
-use Rattle.archive.specs.Encode.{recordBytes, depthBytes, headFields, headBytes, setBytes, setsBytes, edgesBytes, flagOf, rowBytes, unresolvedBytes, rootBytes, rangeBytes, linksBytes, coverBytes, countedBytes, coverRecord, fileBytes, encode}
+use Rattle.archive.specs.Encode.{recordBytes, depthBytes, headFields, headBytes, setBytes, setsBytes, edgesBytes, flagOf, rowBytes, unresolvedBytes, rootBytes}
+use Rattle.archive.specs.Encode.{rangeBytes, linksBytes, coverBytes, countedBytes, coverRecord, fileBytes, encode}
 use Rattle.archive.specs.Fits.{DepthFits, SetFits, UnresolvedFits, RootFits, RangeFits, LinksFit, CoverFits, CoverFitsIn, FileFits, Short}
 use Rattle.archive_bytes.proofs.Numbers.{length-bytesOf, be-at, signed-all, unsigned-all}
-use Rattle.archive.proofs.Forward.{Reads, then-reads, end-reads, again-reads, number-reads, byte-reads, bytes-reads, Item, table-reads, things-read, numbers-read, counted-read, stops-at-end, record-kind, record-reads, found-reads, none-reads}
+use Rattle.archive.proofs.Forward.{Reads, then-reads, end-reads, again-reads, number-reads, byte-reads, bytes-reads, Item, table-reads, things-read, numbers-read}
+use Rattle.archive.proofs.Forward.{counted-read, stops-at-end, record-kind, record-reads, found-reads, none-reads}
 
 -- ── 1 file ───────────────────────────────────────────────────────────────────────────────────
 
@@ -161,7 +163,8 @@ unfolding Parse.cover coverBytes
 cover-reads rows c k =
     let m = length (c .ranges) in
     then-reads (numbers 4 rows) _ (numbers-read 4 rows (c .labels .chains) (k .chainCount) (k .chains)) (then-reads (numbers 4 rows) _ (numbers-read 4 rows (c .labels .seqs) (k .seqCount) (k .seqs))
-    (then-reads (number 4) _ (number-reads 4 m (k .rangeCount)) (then-reads (table 12 rangeAt m) _ (things-read 12 rangeBytes range-wide rangeAt (c .ranges) (each-imp _ _ (c .ranges) range-item (k .ranges)) m refl)
+    (then-reads (number 4) _ (number-reads 4 m (k .rangeCount))
+    (then-reads (table 12 rangeAt m) _ (things-read 12 rangeBytes range-wide rangeAt (c .ranges) (each-imp _ _ (c .ranges) range-item (k .ranges)) m refl)
     (end-reads Parse.links _ (links-read (c .links) (k .links)) (λ l p h. refl)))))
 
 cover-record-reads : {post : List ℕ} (rows : ℕ) (o : Option CoverColumns) → CoverFitsIn rows o → eqb (getD post 5 0) 6 ≡ false → Reads post (optionally 6 (Parse.cover rows)) (coverRecord o) o

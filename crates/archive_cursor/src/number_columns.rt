@@ -35,7 +35,8 @@ pub fn load_u64s(bytes: &[u8], at: usize, n: usize, out: &mut [u64]) -> Ruling
 
 pub fn load_i64s(bytes: &[u8], at: usize, n: usize, out: &mut [i64]) -> Ruling
     ensures { λ r. ⌜ r ≡ ruling (loadRules 8 n (now (bytes .entry)) at (now (out .entry))) ⌝ }
-    ensures { λ _. ⌜ now (out .exit) ≡ left (loadRules 8 n (now (bytes .entry)) at (now (out .entry))) (now (out .entry)) (sets (now (out .entry)) 0 (map signedOf (column 8 n (now (bytes .entry)) at))) ⌝ }
+    ensures { λ _. ⌜ now (out .exit) ≡ left (loadRules 8 n (now (bytes .entry)) at (now (out .entry))) (now (out .entry))
+        (sets (now (out .entry)) 0 (map signedOf (column 8 n (now (bytes .entry)) at))) ⌝ }
 {
     if !fits(bytes.len(), at, n, 8) {
         return Ruling::Broken(Refusal::RecordBroken);
@@ -78,7 +79,8 @@ pub fn put_u64s(xs: &[u64], n: usize, out: &mut [u8], at: usize) -> Ruling
 
 pub fn put_i64s(xs: &[i64], n: usize, out: &mut [u8], at: usize) -> Ruling
     ensures { λ r. ⌜ r ≡ ruling (storeRules 8 n (now (xs .entry)) (now (out .entry)) at) ⌝ }
-    ensures { λ _. ⌜ now (out .exit) ≡ left (storeRules 8 n (now (xs .entry)) (now (out .entry)) at) (now (out .entry)) (sets (now (out .entry)) at (flat (bytesOf 8) (map unsignedOf (take n (now (xs .entry)))))) ⌝ }
+    ensures { λ _. ⌜ now (out .exit) ≡ left (storeRules 8 n (now (xs .entry)) (now (out .entry)) at) (now (out .entry))
+        (sets (now (out .entry)) at (flat (bytesOf 8) (map unsignedOf (take n (now (xs .entry)))))) ⌝ }
 {
     if xs.len() < n {
         return Ruling::Broken(Refusal::RecordBroken);

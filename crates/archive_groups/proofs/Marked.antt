@@ -154,7 +154,8 @@ module _ (l : List ℕ) (k m p : ℕ) (s : List ℕ) (st : Still l k s (files ki
             same = st .same ∙ ap (λ x. foldl add s (groupsOf x)) opened ∙ rest-groups (fileIn l f) rest s r ∙ ap (λ u. foldl add u (groupsOf rest)) (ap (add s) (sym b) ∙ sym a);
           }
 
-too-many : (l : List ℕ) (k n : ℕ) (list : List ℕ) (rest : Parsed (List File)) → Still l k (upFrom 0 k ++ take n list) rest → n ≤ length list → 16 < k + n → true ≡ groupsOver k (filesOf (parse kinds l))
+too-many : (l : List ℕ) (k n : ℕ) (list : List ℕ) (rest : Parsed (List File)) → Still l k (upFrom 0 k ++ take n list) rest → n ≤ length list → 16 < k + n
+    → true ≡ groupsOver k (filesOf (parse kinds l))
 unfolding groupsOver
 too-many l k n list rest st j h =
     sym (lt-ltb maxGroups (length (once (upFrom 0 k ++ groupsOf (parse kinds l))))

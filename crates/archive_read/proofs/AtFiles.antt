@@ -158,5 +158,14 @@ module _ (l : List ℕ) (p : ℕ) (x : FileRead) {f : FileAt} (a : AfterFile l p
       go : Below t p → Below (withFile t f) (f .tail .end)
       go b =
           let q = file-past in
-          let c = file-counts in
-          (omega arith, omega (arith, c .0), omega (arith, c .2), omega (arith, c .1), omega (arith, c .3 .0), omega (arith, c .3 .1), omega (arith, c .4 .0), omega (arith, c .4 .1), omega (arith, c .4 .2))
+          let c = file-counts in (
+            omega arith,
+            omega (arith, c .0),
+            omega (arith, c .2),
+            omega (arith, c .1),
+            omega (arith, c .3 .0),
+            omega (arith, c .3 .1),
+            omega (arith, c .4 .0),
+            omega (arith, c .4 .1),
+            omega (arith, c .4 .2),
+          )

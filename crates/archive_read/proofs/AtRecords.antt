@@ -13,8 +13,11 @@ use Rattle.archive.specs.Bytes.{several}
 use Rattle.archive.specs.Reader.{Parsed, broken, got, andThen, _>>=_, whole, body, recordOf, optionally}
 use Rattle.archive.specs.Parse
 use Rattle.archive.specs.Parse.{rootAt, file}
-use Rattle.archive_read.specs.bodies.View.{headIn, headOf, HeadInside, setEnd, edgesOf, EdgesInside, rowsOf, RowsInside, unresolvedOf, rootsOf, ListInside, coverEnd, coverIn, coverOf, CoverInside}
-use Rattle.archive_read.specs.Layout.{partIn, bodyOf, Inside, Ends, Holds, HoldsHead, HoldsSets, FewDeltas, optionalOf, AfterOptional, front, frontIn, frontOf, AfterFront, middle, middleIn, middleOf, AfterMiddle, tail, tailIn, tailOf, tailWith, AfterTail, rest, restOf, AfterRest, fileFrom, fileIn, AfterFile}
+use Rattle.archive_read.specs.bodies.View.{headIn, headOf, HeadInside, setEnd, edgesOf, EdgesInside, rowsOf, RowsInside, unresolvedOf, rootsOf, ListInside}
+use Rattle.archive_read.specs.bodies.View.{coverEnd, coverIn, coverOf, CoverInside}
+use Rattle.archive_read.specs.Layout.{partIn, bodyOf, Inside, Ends, Holds, HoldsHead, HoldsSets, FewDeltas, optionalOf, AfterOptional, front, frontIn, frontOf}
+use Rattle.archive_read.specs.Layout.{AfterFront, middle, middleIn, middleOf, AfterMiddle, tail, tailIn, tailOf, tailWith, AfterTail, rest, restOf, AfterRest}
+use Rattle.archive_read.specs.Layout.{fileFrom, fileIn, AfterFile}
 use Rattle.archive_read.specs.declared.records.Body.{Body}
 use Rattle.archive_read.specs.declared.records.Body.the-variants.{BodyAt, NoBody}
 use Rattle.archive_read.specs.declared.bodies.HeadAt.{HeadAt}
@@ -264,8 +267,17 @@ pub rest-after : (l : List ℕ) (p n : ℕ) (x : MiddleRead) {m : MiddleAt} → 
     → (y : TailRead) {t : TailAt} → AfterTail l (m .unresolved .end) n y → y ≡ TailIs t → AfterRest l p n (RestIs m t)
 rest-after l p n x i e y j f =
     let u = rw e at i in
-    let v = rw f at j in
-    (omega (arith, u .0 .0, v .0), v .1, omega (arith, u .1, v .0), omega (arith, u .2, v .0), omega (arith, u .0 .0, v .2), (omega (arith, u .0 .0, v .3 .0), omega (arith, u .0 .0, v .3 .1)), v .4, u .3, v .5)
+    let v = rw f at j in (
+      omega (arith, u .0 .0, v .0),
+      v .1,
+      omega (arith, u .1, v .0),
+      omega (arith, u .2, v .0),
+      omega (arith, u .0 .0, v .2),
+      (omega (arith, u .0 .0, v .3 .0), omega (arith, u .0 .0, v .3 .1)),
+      v .4,
+      u .3,
+      v .5,
+    )
 
 -- ── a file ───────────────────────────────────────────────────────────────────────────────────
 

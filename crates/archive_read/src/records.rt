@@ -19,7 +19,8 @@ ghost use lib.ListN.{length, getD};
 ghost use Rattle.columns.specs.Limits.{kinds};
 ghost use Rattle.archive.specs.Reader.{body, optionally};
 ghost use Rattle.archive.specs.Parse.{cover, file};
-ghost use Rattle.archive_read.specs.Layout.{partIn, bodyOf, Inside, optionalOf, AfterOptional, front, frontOf, AfterFront, middle, middleOf, AfterMiddle, tail, tailOf, tailWith, AfterTail, rest, restOf, AfterRest, fileOf, AfterFile};
+ghost use Rattle.archive_read.specs.Layout.{partIn, bodyOf, Inside, optionalOf, AfterOptional, front, frontOf, AfterFront, middle, middleOf, AfterMiddle, tail};
+ghost use Rattle.archive_read.specs.Layout.{tailOf, tailWith, AfterTail, rest, restOf, AfterRest, fileOf, AfterFile};
 
 // The body of a record: the bytes from `at` up to `end`.
 pub struct Part {

@@ -74,14 +74,16 @@ module _ {t : List ℕ} (xs ys : List ℕ) (i p : ℕ) (out : List ℕ) where
     pub rows-done : length ys ≤ i → out ≡ t
     rows-done j = pairs-done rowFrom rowBytes 9 wide-row xs ys i p out e (omega arith)
 
-    pub row-next : {k : List ℕ} → i < length ys → k ≡ sets out p (rowBytes (rowFrom (getD xs i 0) (getD ys i 0))) → t ≡ sets k (p + 9) (flat rowBytes (zip2 rowFrom (drop (i + 1) xs) (drop (i + 1) ys)))
+    pub row-next : {k : List ℕ} → i < length ys → k ≡ sets out p (rowBytes (rowFrom (getD xs i 0) (getD ys i 0)))
+        → t ≡ sets k (p + 9) (flat rowBytes (zip2 rowFrom (drop (i + 1) xs) (drop (i + 1) ys)))
     row-next j d = pair-next rowFrom rowBytes 9 wide-row xs ys i p out e (omega arith) j d
 
   module _ (h : length ys ≡ length xs) (e : t ≡ sets out p (flat rootBytes (zip2 rootFrom (drop i xs) (drop i ys)))) where
     pub roots-done : length xs ≤ i → out ≡ t
     roots-done j = pairs-done rootFrom rootBytes 16 wide-root xs ys i p out e j
 
-    pub root-next : {k : List ℕ} → i < length xs → k ≡ sets out p (rootBytes (rootFrom (getD xs i 0) (getD ys i 0))) → t ≡ sets k (p + 16) (flat rootBytes (zip2 rootFrom (drop (i + 1) xs) (drop (i + 1) ys)))
+    pub root-next : {k : List ℕ} → i < length xs → k ≡ sets out p (rootBytes (rootFrom (getD xs i 0) (getD ys i 0)))
+        → t ≡ sets k (p + 16) (flat rootBytes (zip2 rootFrom (drop (i + 1) xs) (drop (i + 1) ys)))
     root-next j d = pair-next rootFrom rootBytes 16 wide-root xs ys i p out e j (omega arith) d
 
 -- ── three columns ────────────────────────────────────────────────────────────────────────────

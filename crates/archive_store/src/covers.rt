@@ -56,7 +56,9 @@ pub fn store_cover(
 )
     requires { ⌜ at + coverSize (length (now chains)) (length (now seqs)) (length (now ids)) (linksSize (length (now a)) (length (now b)) (length (now c)) (length (now d))) ≤ length (now out) ⌝ }
     requires { ⌜ (length (now minima) ≡ length (now ids)) × (length (now maxima) ≡ length (now ids)) × (length (now ids) < 2 ^ 32) × (length (now a) < 2 ^ 32) ⌝ }
-    ensures { λ _. ⌜ now (out .exit) ≡ sets (now (out .entry)) at (coverBytes (coverFrom (now (chains .entry)) (now (seqs .entry)) (zip3 rangeFrom (now (ids .entry)) (now (minima .entry)) (now (maxima .entry))) (linksFrom (now (a .entry)) (now (b .entry)) (now (c .entry)) (now (d .entry))))) ⌝ }
+    ensures { λ _. ⌜ now (out .exit) ≡ sets (now (out .entry)) at
+        (coverBytes (coverFrom (now (chains .entry)) (now (seqs .entry)) (zip3 rangeFrom (now (ids .entry)) (now (minima .entry)) (now (maxima .entry)))
+        (linksFrom (now (a .entry)) (now (b .entry)) (now (c .entry)) (now (d .entry))))) ⌝ }
 {
     let p = at + 4 * chains.len() + 4 * seqs.len();
     let q = p + 4 + ids.len() * 12;

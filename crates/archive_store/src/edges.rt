@@ -35,7 +35,8 @@ pub fn store_edges(
 )
     requires { ⌜ at + (setSize (length (now fo)) (length (now fd)) + (setSize (length (now ro)) (length (now rd)) + setSize (length (now io)) (length (now id)))) ≤ length (now out) ⌝ }
     requires { ⌜ (length (now fd) < 2 ^ 32) × (length (now rd) < 2 ^ 32) × (length (now id) < 2 ^ 32) ⌝ }
-    ensures { λ _. ⌜ now (out .exit) ≡ sets (now (out .entry)) at (setsBytes (setFrom (now (fo .entry)) (now (fd .entry))) (setFrom (now (ro .entry)) (now (rd .entry))) (setFrom (now (io .entry)) (now (id .entry)))) ⌝ }
+    ensures { λ _. ⌜ now (out .exit) ≡ sets (now (out .entry)) at
+        (setsBytes (setFrom (now (fo .entry)) (now (fd .entry))) (setFrom (now (ro .entry)) (now (rd .entry))) (setFrom (now (io .entry)) (now (id .entry)))) ⌝ }
 {
     let p = store_set(out, at, fo, fd);
     let q = store_set(out, p, ro, rd);

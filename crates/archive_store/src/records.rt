@@ -48,8 +48,10 @@ pub fn record_edges(
 ) -> usize
     requires { ⌜ at + (6 + setsSize (length (now fo)) (length (now fd)) (length (now ro)) (length (now rd)) (length (now io)) (length (now id))) ≤ length (now out) ⌝ }
     requires { ⌜ 2 + setsSize (length (now fo)) (length (now fd)) (length (now ro)) (length (now rd)) (length (now io)) (length (now id)) < 2 ^ 32 ⌝ }
-    ensures { λ _. ⌜ now (out .exit) ≡ sets (now (out .entry)) at (recordBytes 2 (setsBytes (setFrom (now (fo .entry)) (now (fd .entry))) (setFrom (now (ro .entry)) (now (rd .entry))) (setFrom (now (io .entry)) (now (id .entry))))) ⌝ }
-    ensures { λ r. ⌜ r ≡ at + (6 + setsSize (length (now (fo .entry))) (length (now (fd .entry))) (length (now (ro .entry))) (length (now (rd .entry))) (length (now (io .entry))) (length (now (id .entry)))) ⌝ }
+    ensures { λ _. ⌜ now (out .exit) ≡ sets (now (out .entry)) at
+        (recordBytes 2 (setsBytes (setFrom (now (fo .entry)) (now (fd .entry))) (setFrom (now (ro .entry)) (now (rd .entry))) (setFrom (now (io .entry)) (now (id .entry))))) ⌝ }
+    ensures { λ r. ⌜ r ≡ at + (6 + setsSize (length (now (fo .entry))) (length (now (fd .entry))) (length (now (ro .entry))) (length (now (rd .entry)))
+        (length (now (io .entry))) (length (now (id .entry)))) ⌝ }
 {
     let n = sets_size(fo.len(), fd.len(), ro.len(), rd.len(), io.len(), id.len());
     store_start(out, at, n, 2);
@@ -77,7 +79,8 @@ pub fn record_unresolved(
 ) -> usize
     requires { ⌜ (length (now kinds) ≡ length (now children)) × (length (now handles) ≡ length (now children)) ⌝ }
     requires { ⌜ (at + unresolvedSize (length (now children)) ≤ length (now out)) × (2 + (4 + length (now children) * 13) < 2 ^ 32) ⌝ }
-    ensures { λ _. ⌜ now (out .exit) ≡ sets (now (out .entry)) at (recordBytes 4 (countedBytes unresolvedBytes (zip3 unresolvedFrom (now (children .entry)) (now (kinds .entry)) (now (handles .entry))))) ⌝ }
+    ensures { λ _. ⌜ now (out .exit) ≡ sets (now (out .entry)) at
+        (recordBytes 4 (countedBytes unresolvedBytes (zip3 unresolvedFrom (now (children .entry)) (now (kinds .entry)) (now (handles .entry))))) ⌝ }
     ensures { λ r. ⌜ r ≡ at + unresolvedSize (length (now (children .entry))) ⌝ }
 {
     let n = children.len();
@@ -128,9 +131,13 @@ pub fn record_cover(
     d: &[u32],
 ) -> usize
     requires { ⌜ at + (6 + coverBody (length (now chains)) (length (now seqs)) (length (now ids)) (length (now a)) (length (now b)) (length (now c)) (length (now d))) ≤ length (now out) ⌝ }
-    requires { ⌜ (length (now minima) ≡ length (now ids)) × (length (now maxima) ≡ length (now ids)) × (2 + coverBody (length (now chains)) (length (now seqs)) (length (now ids)) (length (now a)) (length (now b)) (length (now c)) (length (now d)) < 2 ^ 32) ⌝ }
-    ensures { λ _. ⌜ now (out .exit) ≡ sets (now (out .entry)) at (recordBytes 6 (coverBytes (coverFrom (now (chains .entry)) (now (seqs .entry)) (zip3 rangeFrom (now (ids .entry)) (now (minima .entry)) (now (maxima .entry))) (linksFrom (now (a .entry)) (now (b .entry)) (now (c .entry)) (now (d .entry)))))) ⌝ }
-    ensures { λ r. ⌜ r ≡ at + (6 + coverBody (length (now (chains .entry))) (length (now (seqs .entry))) (length (now (ids .entry))) (length (now (a .entry))) (length (now (b .entry))) (length (now (c .entry))) (length (now (d .entry)))) ⌝ }
+    requires { ⌜ (length (now minima) ≡ length (now ids)) × (length (now maxima) ≡ length (now ids))
+        × (2 + coverBody (length (now chains)) (length (now seqs)) (length (now ids)) (length (now a)) (length (now b)) (length (now c)) (length (now d)) < 2 ^ 32) ⌝ }
+    ensures { λ _. ⌜ now (out .exit) ≡ sets (now (out .entry)) at
+        (recordBytes 6 (coverBytes (coverFrom (now (chains .entry)) (now (seqs .entry)) (zip3 rangeFrom (now (ids .entry)) (now (minima .entry)) (now (maxima .entry)))
+        (linksFrom (now (a .entry)) (now (b .entry)) (now (c .entry)) (now (d .entry)))))) ⌝ }
+    ensures { λ r. ⌜ r ≡ at + (6 + coverBody (length (now (chains .entry))) (length (now (seqs .entry))) (length (now (ids .entry))) (length (now (a .entry)))
+        (length (now (b .entry))) (length (now (c .entry))) (length (now (d .entry)))) ⌝ }
 {
     let n = cover_body(
         chains.len(),

@@ -60,7 +60,8 @@ module _ {v : Ruling} (fo ro io : List ℕ) (fd rd id : List ℤ) (len at : ℕ)
   edges-short = sets-fit _ _ _ _ _ _ (fine-numbers _ _ _ _ _ _ _ v d e)
 
   pub edges-end : {r : ℕ} → r ≡ at + (6 + setsSize (length fo) (length fd) (length ro) (length rd) (length io) (length id))
-      → Ends r ≡ wrote (edgesRules (length fo) (length fd) (length ro) (length rd) (length io) (length id) len at) (at + length (recordBytes 2 (setsBytes (setFrom fo fd) (setFrom ro rd) (setFrom io id))))
+      → Ends r ≡ wrote (edgesRules (length fo) (length fd) (length ro) (length rd) (length io) (length id) len at)
+      (at + length (recordBytes 2 (setsBytes (setFrom fo fd) (setFrom ro rd) (setFrom io id))))
   edges-end {r} f =
       ended (edgesRules (length fo) (length fd) (length ro) (length rd) (length io) (length id) len at) v d e r _
       (omega (arith, length-record 2 (setsBytes (setFrom fo fd) (setFrom ro rd) (setFrom io id)), sets-size fo ro io fd rd id))

@@ -27,7 +27,8 @@ use Rattle.archive_store.specs.declared.heads.HeadOut.{HeadOut}
 use Rattle.archive_store.proofs.Zipped.{length-zip2, length-zip3, each-zip2, each-zip3, rows-again, children-again}
 use Rattle.archive_store.proofs.records.Whole.{head-size, sets-size, rows-size, unresolved-size, roots-size, cover-size}
 use Rattle.archive_write.specs.Writes.{rowsOf, headRules, edgesRules, rowsRules, unresolvedRules, rootsRules, coverRules}
-use Rattle.archive_write.proofs.Judged.{subject-small, three-same, sets-whole, unresolved-whole, roots-whole, cover-even, few-first-of, sets-fit, cover-fits, has-room, is-ok, few-records, few-numbers}
+use Rattle.archive_write.proofs.Judged.{subject-small, three-same, sets-whole, unresolved-whole, roots-whole, cover-even, few-first-of, sets-fit, cover-fits}
+use Rattle.archive_write.proofs.Judged.{has-room, is-ok, few-records, few-numbers}
 
 -- a record that is read wherever it stands is read from the place that it was written at
 module _ {A : Type 0} (k : ℕ) (r : Reader A) {b : List ℕ} {x : A} (s : Short b) (d : Reads [] r b x) where
@@ -155,7 +156,8 @@ module _ (out : List ℕ) (at : ℕ) (chains seqs ids minima maxima a b c d : Li
     (e : coverRules (length chains) (length seqs) (length ids) (length minima) (length maxima) (length a) (length b) (length c) (length d) (length out) at ≡ none) where
   pub cover-back : Wide 4 chains → Wide 4 seqs → Wide 4 ids → Wide 4 minima → Wide 4 maxima → Wide 4 a → Wide 4 b → Wide 4 c → Wide 4 d
       → recordOf 6 (Parse.cover (length chains)) (sets out at (recordBytes 6 (coverBytes (coverFrom chains seqs (zip3 rangeFrom ids minima maxima) (linksFrom a b c d))))) at
-      ≡ got (coverFrom chains seqs (zip3 rangeFrom ids minima maxima) (linksFrom a b c d)) (at + length (recordBytes 6 (coverBytes (coverFrom chains seqs (zip3 rangeFrom ids minima maxima) (linksFrom a b c d)))))
+      ≡ got (coverFrom chains seqs (zip3 rangeFrom ids minima maxima) (linksFrom a b c d))
+      (at + length (recordBytes 6 (coverBytes (coverFrom chains seqs (zip3 rangeFrom ids minima maxima) (linksFrom a b c d)))))
   cover-back f g h i j k l m n =
       let w = cover-even _ _ _ _ _ _ _ _ _ (is-ok _ _ _ _ _ _ _ e) in
       let o = cover-fits _ _ _ _ _ _ _ _ _ (few-records _ _ _ _ _ _ _ e) in

@@ -32,7 +32,8 @@ pub enum Wrote {
 // 1: the file's numbers, its subject and its depth.
 pub fn write_head(out: &mut [u8], at: usize, h: HeadOut, s: &[u8]) -> Wrote
     ensures { λ r. ⌜ r ≡ wrote (headRules (h .rows) (length (now (s .entry))) (length (now (out .entry))) at) (at + length (recordBytes 1 (headFrom h (now (s .entry))))) ⌝ }
-    ensures { λ _. ⌜ now (out .exit) ≡ left (headRules (h .rows) (length (now (s .entry))) (length (now (out .entry))) at) (now (out .entry)) (sets (now (out .entry)) at (recordBytes 1 (headFrom h (now (s .entry))))) ⌝ }
+    ensures { λ _. ⌜ now (out .exit) ≡ left (headRules (h .rows) (length (now (s .entry))) (length (now (out .entry))) at) (now (out .entry))
+        (sets (now (out .entry)) at (recordBytes 1 (headFrom h (now (s .entry))))) ⌝ }
 {
     let v = head_rules(h.rows, s.len(), out.len(), at);
     match v {
@@ -52,8 +53,13 @@ pub fn write_edges(
     io: &[u64],
     id: &[i64],
 ) -> Wrote
-    ensures { λ r. ⌜ r ≡ wrote (edgesRules (length (now (fo .entry))) (length (now (fd .entry))) (length (now (ro .entry))) (length (now (rd .entry))) (length (now (io .entry))) (length (now (id .entry))) (length (now (out .entry))) at) (at + length (recordBytes 2 (setsBytes (setFrom (now (fo .entry)) (now (fd .entry))) (setFrom (now (ro .entry)) (now (rd .entry))) (setFrom (now (io .entry)) (now (id .entry)))))) ⌝ }
-    ensures { λ _. ⌜ now (out .exit) ≡ left (edgesRules (length (now (fo .entry))) (length (now (fd .entry))) (length (now (ro .entry))) (length (now (rd .entry))) (length (now (io .entry))) (length (now (id .entry))) (length (now (out .entry))) at) (now (out .entry)) (sets (now (out .entry)) at (recordBytes 2 (setsBytes (setFrom (now (fo .entry)) (now (fd .entry))) (setFrom (now (ro .entry)) (now (rd .entry))) (setFrom (now (io .entry)) (now (id .entry)))))) ⌝ }
+    ensures { λ r. ⌜ r ≡ wrote (edgesRules (length (now (fo .entry))) (length (now (fd .entry))) (length (now (ro .entry))) (length (now (rd .entry)))
+        (length (now (io .entry))) (length (now (id .entry))) (length (now (out .entry))) at)
+        (at + length (recordBytes 2 (setsBytes (setFrom (now (fo .entry)) (now (fd .entry))) (setFrom (now (ro .entry)) (now (rd .entry))) (setFrom (now (io .entry)) (now (id .entry)))))) ⌝ }
+    ensures { λ _. ⌜ now (out .exit) ≡ left (edgesRules (length (now (fo .entry))) (length (now (fd .entry))) (length (now (ro .entry))) (length (now (rd .entry)))
+        (length (now (io .entry))) (length (now (id .entry))) (length (now (out .entry))) at) (now (out .entry))
+        (sets (now (out .entry)) at (recordBytes 2 (setsBytes (setFrom (now (fo .entry)) (now (fd .entry))) (setFrom (now (ro .entry)) (now (rd .entry)))
+        (setFrom (now (io .entry)) (now (id .entry)))))) ⌝ }
 {
     let v = edges_rules(
         fo.len(),
@@ -73,8 +79,10 @@ pub fn write_edges(
 
 // 3: rows, each of a flag and a tag.
 pub fn write_rows(out: &mut [u8], at: usize, flags: &[u8], tags: &[u64]) -> Wrote
-    ensures { λ r. ⌜ r ≡ wrote (rowsRules (length (now (flags .entry))) (length (now (tags .entry))) (length (now (out .entry))) at) (at + length (recordBytes 3 (flat rowBytes (zip2 rowFrom (now (flags .entry)) (now (tags .entry)))))) ⌝ }
-    ensures { λ _. ⌜ now (out .exit) ≡ left (rowsRules (length (now (flags .entry))) (length (now (tags .entry))) (length (now (out .entry))) at) (now (out .entry)) (sets (now (out .entry)) at (recordBytes 3 (flat rowBytes (zip2 rowFrom (now (flags .entry)) (now (tags .entry)))))) ⌝ }
+    ensures { λ r. ⌜ r ≡ wrote (rowsRules (length (now (flags .entry))) (length (now (tags .entry))) (length (now (out .entry))) at)
+        (at + length (recordBytes 3 (flat rowBytes (zip2 rowFrom (now (flags .entry)) (now (tags .entry)))))) ⌝ }
+    ensures { λ _. ⌜ now (out .exit) ≡ left (rowsRules (length (now (flags .entry))) (length (now (tags .entry))) (length (now (out .entry))) at) (now (out .entry))
+        (sets (now (out .entry)) at (recordBytes 3 (flat rowBytes (zip2 rowFrom (now (flags .entry)) (now (tags .entry)))))) ⌝ }
 {
     let v = rows_rules(flags.len(), tags.len(), out.len(), at);
     match v {
@@ -91,8 +99,11 @@ pub fn write_unresolved(
     kinds: &[u8],
     handles: &[u32],
 ) -> Wrote
-    ensures { λ r. ⌜ r ≡ wrote (unresolvedRules (now (children .entry)) (length (now (kinds .entry))) (length (now (handles .entry))) (length (now (out .entry))) at) (at + length (recordBytes 4 (countedBytes unresolvedBytes (zip3 unresolvedFrom (now (children .entry)) (now (kinds .entry)) (now (handles .entry)))))) ⌝ }
-    ensures { λ _. ⌜ now (out .exit) ≡ left (unresolvedRules (now (children .entry)) (length (now (kinds .entry))) (length (now (handles .entry))) (length (now (out .entry))) at) (now (out .entry)) (sets (now (out .entry)) at (recordBytes 4 (countedBytes unresolvedBytes (zip3 unresolvedFrom (now (children .entry)) (now (kinds .entry)) (now (handles .entry)))))) ⌝ }
+    ensures { λ r. ⌜ r ≡ wrote (unresolvedRules (now (children .entry)) (length (now (kinds .entry))) (length (now (handles .entry))) (length (now (out .entry))) at)
+        (at + length (recordBytes 4 (countedBytes unresolvedBytes (zip3 unresolvedFrom (now (children .entry)) (now (kinds .entry)) (now (handles .entry)))))) ⌝ }
+    ensures { λ _. ⌜ now (out .exit) ≡ left (unresolvedRules (now (children .entry)) (length (now (kinds .entry))) (length (now (handles .entry)))
+        (length (now (out .entry))) at) (now (out .entry)) (sets (now (out .entry)) at
+        (recordBytes 4 (countedBytes unresolvedBytes (zip3 unresolvedFrom (now (children .entry)) (now (kinds .entry)) (now (handles .entry)))))) ⌝ }
 {
     let v = unresolved_rules(children, kinds.len(), handles.len(), out.len(), at);
     match v {
@@ -103,8 +114,10 @@ pub fn write_unresolved(
 
 // 5: state roots, each of a row and a handle.
 pub fn write_roots(out: &mut [u8], at: usize, rows: &[u64], handles: &[u64]) -> Wrote
-    ensures { λ r. ⌜ r ≡ wrote (rootsRules (now (rows .entry)) (length (now (handles .entry))) (length (now (out .entry))) at) (at + length (recordBytes 5 (countedBytes rootBytes (zip2 rootFrom (now (rows .entry)) (now (handles .entry)))))) ⌝ }
-    ensures { λ _. ⌜ now (out .exit) ≡ left (rootsRules (now (rows .entry)) (length (now (handles .entry))) (length (now (out .entry))) at) (now (out .entry)) (sets (now (out .entry)) at (recordBytes 5 (countedBytes rootBytes (zip2 rootFrom (now (rows .entry)) (now (handles .entry)))))) ⌝ }
+    ensures { λ r. ⌜ r ≡ wrote (rootsRules (now (rows .entry)) (length (now (handles .entry))) (length (now (out .entry))) at)
+        (at + length (recordBytes 5 (countedBytes rootBytes (zip2 rootFrom (now (rows .entry)) (now (handles .entry)))))) ⌝ }
+    ensures { λ _. ⌜ now (out .exit) ≡ left (rootsRules (now (rows .entry)) (length (now (handles .entry))) (length (now (out .entry))) at) (now (out .entry))
+        (sets (now (out .entry)) at (recordBytes 5 (countedBytes rootBytes (zip2 rootFrom (now (rows .entry)) (now (handles .entry)))))) ⌝ }
 {
     let v = roots_rules(rows, handles.len(), out.len(), at);
     match v {
@@ -127,8 +140,17 @@ pub fn write_cover(
     c: &[u32],
     d: &[u32],
 ) -> Wrote
-    ensures { λ r. ⌜ r ≡ wrote (coverRules (length (now (chains .entry))) (length (now (seqs .entry))) (length (now (ids .entry))) (length (now (minima .entry))) (length (now (maxima .entry))) (length (now (a .entry))) (length (now (b .entry))) (length (now (c .entry))) (length (now (d .entry))) (length (now (out .entry))) at) (at + length (recordBytes 6 (coverBytes (coverFrom (now (chains .entry)) (now (seqs .entry)) (zip3 rangeFrom (now (ids .entry)) (now (minima .entry)) (now (maxima .entry))) (linksFrom (now (a .entry)) (now (b .entry)) (now (c .entry)) (now (d .entry))))))) ⌝ }
-    ensures { λ _. ⌜ now (out .exit) ≡ left (coverRules (length (now (chains .entry))) (length (now (seqs .entry))) (length (now (ids .entry))) (length (now (minima .entry))) (length (now (maxima .entry))) (length (now (a .entry))) (length (now (b .entry))) (length (now (c .entry))) (length (now (d .entry))) (length (now (out .entry))) at) (now (out .entry)) (sets (now (out .entry)) at (recordBytes 6 (coverBytes (coverFrom (now (chains .entry)) (now (seqs .entry)) (zip3 rangeFrom (now (ids .entry)) (now (minima .entry)) (now (maxima .entry))) (linksFrom (now (a .entry)) (now (b .entry)) (now (c .entry)) (now (d .entry))))))) ⌝ }
+    ensures { λ r. ⌜ r ≡ wrote (coverRules (length (now (chains .entry))) (length (now (seqs .entry))) (length (now (ids .entry))) (length (now (minima .entry)))
+        (length (now (maxima .entry))) (length (now (a .entry))) (length (now (b .entry))) (length (now (c .entry))) (length (now (d .entry)))
+        (length (now (out .entry))) at) (at + length (recordBytes 6
+        (coverBytes (coverFrom (now (chains .entry)) (now (seqs .entry)) (zip3 rangeFrom (now (ids .entry)) (now (minima .entry)) (now (maxima .entry)))
+        (linksFrom (now (a .entry)) (now (b .entry)) (now (c .entry)) (now (d .entry))))))) ⌝ }
+    ensures { λ _. ⌜ now (out .exit) ≡ left (coverRules (length (now (chains .entry))) (length (now (seqs .entry))) (length (now (ids .entry)))
+        (length (now (minima .entry))) (length (now (maxima .entry))) (length (now (a .entry))) (length (now (b .entry))) (length (now (c .entry)))
+        (length (now (d .entry))) (length (now (out .entry))) at) (now (out .entry))
+        (sets (now (out .entry)) at (recordBytes 6 (coverBytes
+        (coverFrom (now (chains .entry)) (now (seqs .entry)) (zip3 rangeFrom (now (ids .entry)) (now (minima .entry)) (now (maxima .entry)))
+        (linksFrom (now (a .entry)) (now (b .entry)) (now (c .entry)) (now (d .entry))))))) ⌝ }
 {
     let v = cover_rules(
         chains.len(),

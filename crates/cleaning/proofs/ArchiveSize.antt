@@ -27,7 +27,9 @@ use Rattle.archive.specs.Encode.{headBytes, edgesBytes, rowBytes, unresolvedByt
 use Rattle.archive.proofs.Lengths.{length-record, length-head, length-set, length-sets, length-counted, length-links, length-cover, wide-row, wide-unresolved, wide-root}
 use Rattle.cleaning.specs.Sheet.{Sheet, rowCount}
 use Rattle.cleaning.specs.Writing.{labelColumns}
-use Rattle.cleaning.specs.Sections.{Tidy, factsOf, place, between, sectionStart, sectionRows, sectionFirst, sectionEnd, sheetEnd, sectionTags, sectionLists, sectionLabels, sectionRoots, sectionLinks, childLists, sectionChildren, coverWhere, unerasedRow, sectionFileOf, sectionFile, sectionBytes, rowSize, roomFor, maxArchiveSize}
+use Rattle.cleaning.specs.Sections.{Tidy, factsOf, place, between, sectionStart, sectionRows, sectionFirst, sectionEnd, sheetEnd, sectionTags, sectionLists}
+use Rattle.cleaning.specs.Sections.{sectionLabels, sectionRoots, sectionLinks, childLists, sectionChildren, coverWhere, unerasedRow, sectionFileOf, sectionFile}
+use Rattle.cleaning.specs.Sections.{sectionBytes, rowSize, roomFor, maxArchiveSize}
 use Rattle.cleaning.proofs.OutputFigures.{ranges-few, length-deltas}
 use Rattle.cleaning.proofs.Places.{place-within, place-rises}
 use Rattle.cleaning.proofs.SheetRows.{section-end}

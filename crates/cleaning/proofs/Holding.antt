@@ -22,7 +22,8 @@ use Rattle.cleaning.specs.Summary.{tabled}
 use Rattle.cleaning.specs.Resolving.{resolveRules}
 use Rattle.cleaning.specs.Writing.{written}
 use Rattle.cleaning.specs.Listed.{listed}
-use Rattle.cleaning.specs.Step.{Call, takes, resolves, writes, maps, counts, lists, done, told, counted, State, taking, resolved, spoiled, Outcome, takeMore, resolveBy, writeInto, listInto, resolve, step}
+use Rattle.cleaning.specs.Step.{Call, takes, resolves, writes, maps, counts, lists, done, told, counted, State, taking, resolved, spoiled, Outcome, takeMore}
+use Rattle.cleaning.specs.Step.{resolveBy, writeInto, listInto, resolve, step}
 use Rattle.cleaning.specs.Sheet.{Sheet, summaryOf}
 use Rattle.cleaning.specs.Held.{Held, nothing, heldWith, heldOf, archiveHeld, holdMore}
 use Rattle.cleaning.specs.Survivors.{survivorSheet}

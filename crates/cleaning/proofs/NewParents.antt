@@ -35,7 +35,8 @@ use Rattle.cleaning.specs.Summary.{Summary, keptBy, summary, tabled}
 use Rattle.cleaning.specs.Resolving.{entries, groupsSurvive, resolveRules}
 use Rattle.cleaning.specs.Writing.{graphOf, outputs, groupNumbers, writeRules, bytesOf, written}
 use Rattle.cleaning.specs.Accepted.{spansFit}
-use Rattle.cleaning.specs.Step.{Call, takes, resolves, writes, maps, counts, lists, Bytes, allOf, refused, wrote, State, taking, resolved, spoiled, fresh, takeMore, resolveBy, writeInto, resolve, step}
+use Rattle.cleaning.specs.Step.{Call, takes, resolves, writes, maps, counts, lists, Bytes, allOf, refused, wrote, State, taking, resolved, spoiled, fresh, takeMore}
+use Rattle.cleaning.specs.Step.{resolveBy, writeInto, resolve, step}
 use Rattle.cleaning.specs.History.{did, filesIn, archiveOfFiles, archiveOfBytes, history, took, bytesWritten, archiveIn, Wrote, cleaned}
 use Rattle.cleaning.specs.NewParents.{NewParents, Renewed, OfBytes, ParentsWritten}
 use Rattle.cleaning.proofs.Route.{ends-of}
@@ -260,4 +261,5 @@ parents-written K served cs o w m =
     let h = history K fresh cs in
     subst (λ l. Renewed K (archiveIn K h) l) (sym (ap (λ x. x .bytes) (write-cleaned K served cs w m)))
     (each-mem (λ w. Written K (flat (took K) h) w) (flat bytesWritten h) w
-    (every-write K served (Written K) (Both K) OfBytes (λ s c ss o j. (step-after K served s c ss (j .0), also-after K served s c ss o (j .0) (j .1))) (write-renews K served) fresh cs [] o ((refl, tt), none-taken)) m)
+    (every-write K served (Written K) (Both K) OfBytes (λ s c ss o j. (step-after K served s c ss (j .0), also-after K served s c ss o (j .0) (j .1)))
+    (write-renews K served) fresh cs [] o ((refl, tt), none-taken)) m)

@@ -18,14 +18,16 @@ use Rattle.lists.proofs.Rising.{filter-rising, upFrom-rising}
 use Rattle.columns.specs.Limits.{Served, end64}
 use Rattle.columns.specs.Refusal.{refuse, firstOf}
 use Rattle.columns.specs.EdgeSet.{offsetsForm}
-use Rattle.columns.specs.Building.{inFile, slotRules, numbersOk, seqsRise, labelsRules, allUnresolvedRules, allInboundRules, naming, inboundLists, deltasFit, granuleStart, reversePart, inboundPart, buildRules}
+use Rattle.columns.specs.Building.{inFile, slotRules, numbersOk, seqsRise, labelsRules, allUnresolvedRules, allInboundRules, naming, inboundLists, deltasFit}
+use Rattle.columns.specs.Building.{granuleStart, reversePart, inboundPart, buildRules}
 use Rattle.columns.specs.declared.refusal.Refusal.the-variants.{EdgeEntries, NumberRange, SeqNotRising, InboundTwice, GranuleRows, DeltaRange}
 use Rattle.columns.proofs.ReadBack.{cut-joined, starts-form}
 use Rattle.columns.proofs.FirstBroken.{passes, fails}
 use Rattle.columns.proofs.Turned.{each-table}
 use Rattle.cleaning.specs.Sheet.{Sheet, rowCount, parentsAt}
 use Rattle.cleaning.specs.Writing.{inboundColumns, unresolvedColumns}
-use Rattle.cleaning.specs.Sections.{Tidy, factsOf, sectionStart, sectionRows, sectionFirst, sectionEnd, sheetEnd, sectionLists, sectionLabels, sectionUnresolved, sectionChildren, rowEdges, otherRows, sectionEdges, labelsWhere, sectionGraph, sectionFaults}
+use Rattle.cleaning.specs.Sections.{Tidy, factsOf, sectionStart, sectionRows, sectionFirst, sectionEnd, sheetEnd, sectionLists, sectionLabels, sectionUnresolved}
+use Rattle.cleaning.specs.Sections.{sectionChildren, rowEdges, otherRows, sectionEdges, labelsWhere, sectionGraph, sectionFaults}
 use Rattle.cleaning.proofs.Groups.{others-not-mem}
 use Rattle.cleaning.proofs.Inbound.{EdgeInto, edges-into, Inbound}
 use Rattle.cleaning.proofs.FirstRules.{skip, then, one-test}
@@ -131,5 +133,6 @@ module _ (K : ℕ) (served : Served K) (s : Sheet) (t : Tidy K s) (g : ℕ) wher
           (then _ _ (ap₂ (λ i ls. refuse DeltaRange (not (deltasFit K i ls))) (starts-section K served s t g) (section-forward K served s t g))
           (one-test DeltaRange (deltasFit K (granuleStart graph) (reversePart K graph)) (deltasFit K (granuleStart graph) (inboundPart K graph))
           ∙ ap (λ b. firstOf (refuse DeltaRange (not b) ∷ []))
-          (ap₂ (λ a b. a && b) (ap₂ (deltasFit K) (starts-section K served s t g) (section-reverse K served s t g e)) (ap₂ (deltasFit K) (starts-section K served s t g) (section-inbound K served s t g e r))
+          (ap₂ (λ a b. a && b) (ap₂ (deltasFit K) (starts-section K served s t g) (section-reverse K served s t g e))
+          (ap₂ (deltasFit K) (starts-section K served s t g) (section-inbound K served s t g e r))
           ∙ deltas-halves K served end (sheetEnd s) first children (children-fit K served s t g e r)))))))))))))

@@ -28,7 +28,8 @@ use Rattle.columns.proofs.ReadBack.{cut-joined}
 use Rattle.columns.proofs.Turned.{length-table, each-table}
 use Rattle.cleaning.specs.Sheet.{Sheet, rowCount, parentsAt}
 use Rattle.cleaning.specs.Writing.{inboundColumns}
-use Rattle.cleaning.specs.Sections.{Tidy, sectionStart, sectionRows, sectionFirst, sectionEnd, sheetEnd, sectionLists, rowEdges, otherRows, sectionEdges, childLists, sectionChildren, sectionGraph}
+use Rattle.cleaning.specs.Sections.{Tidy, sectionStart, sectionRows, sectionFirst, sectionEnd, sheetEnd, sectionLists, rowEdges, otherRows, sectionEdges}
+use Rattle.cleaning.specs.Sections.{childLists, sectionChildren, sectionGraph}
 use Rattle.cleaning.proofs.Groups.{others-not-mem}
 use Rattle.cleaning.proofs.Parts.{length-part, parts-from}
 use Rattle.cleaning.proofs.Offsets.{joined-part}
@@ -130,7 +131,8 @@ module _ (K : ℕ) (served : Served K) (s : Sheet) (t : Tidy K s) (g : ℕ) wher
   pub children-section : sectionChildren K s g ≡ slotTable K (naming K (s .start) (rowCount s) (s .lists)) (sectionFirst s g) (sectionRows s g)
   unfolding childLists reverseLists
   children-section =
-      table-part K served (naming K (s .start) (rowCount s) (s .lists)) (s .start) (sectionStart s g) (sectionRows s g) (rowCount s) (omega (arith, section-end K served s t g, section-within K served s t g))
+      table-part K served (naming K (s .start) (rowCount s) (s .lists)) (s .start) (sectionStart s g) (sectionRows s g) (rowCount s)
+      (omega (arith, section-end K served s t g, section-within K served s t g))
 
   pub within-section : (low high : ℕ)
       → within low high (sectionChildren K s g)

@@ -19,8 +19,10 @@ use Rattle.columns.specs.Building.{buildRules, builtOf}
 use Rattle.cover.specs.Chains.{Link}
 use Rattle.archive.specs.Encode.{encode}
 use Rattle.cleaning.specs.Sheet.{Facts, GroupLink, Sheet, groupsFrom, groupsOfSheet, summaryOf}
-use Rattle.cleaning.specs.Writing.{Numbered, rowsIn, firstNumber, labelsIn, labelsOfGroup, edgesInto, edgesOf, inboundColumns, unresolvedColumns, graphOfRows, groupAt, graphOf, coverOfGroup, outputOf, groupNumbers, outputs, writeRules, bytesOf, written}
-use Rattle.cleaning.specs.Sections.{Tidy, Filled, factsOf, reaches, place, sectionStart, sectionRows, sectionFirst, sectionEnd, sectionLabels, sectionLinks, sectionEdges, rowEdges, otherRows, labelsWhere, coverWhere, unerasedRow, sectionGraph, sectionFile, sectionRules, sectionBytes}
+use Rattle.cleaning.specs.Writing.{Numbered, rowsIn, firstNumber, labelsIn, labelsOfGroup, edgesInto, edgesOf, inboundColumns, unresolvedColumns, graphOfRows}
+use Rattle.cleaning.specs.Writing.{groupAt, graphOf, coverOfGroup, outputOf, groupNumbers, outputs, writeRules, bytesOf, written}
+use Rattle.cleaning.specs.Sections.{Tidy, Filled, factsOf, reaches, place, sectionStart, sectionRows, sectionFirst, sectionEnd, sectionLabels, sectionLinks}
+use Rattle.cleaning.specs.Sections.{sectionEdges, rowEdges, otherRows, labelsWhere, coverWhere, unerasedRow, sectionGraph, sectionFile, sectionRules, sectionBytes}
 use Rattle.cleaning.proofs.Places.{place-rises}
 use Rattle.cleaning.proofs.FirstRules.{first-ext}
 use Rattle.cleaning.proofs.SheetRows.{rowAt, section-end, others-section, count-section, first-section, tags-section, labels-section, lists-section}

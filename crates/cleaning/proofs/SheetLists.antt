@@ -117,7 +117,8 @@ module _ (K : ℕ) (served : Served K) (s : Sheet) (t : Tidy K s) where
         let wide : length (part (K * i) K (s .lists)) ≡ K = length-part (K * i) K (s .lists) (omega (arith, all-lists, mul-le-mul-left K l)) in
         let each : Each (Earlier (s .start + i)) (part (K * i) K (s .lists)) =
         each-from (λ j. Earlier (eventOf K (s .start) j)) (Earlier (s .start + i)) (K * i + K) (0 + K * i) (part (K * i) K (s .lists))
-        (λ j ps a b h. subst (λ n. Earlier n ps) {x = eventOf K (s .start) j} {y = s .start + i} (let row : j / K ≡ i = div-eq-of-lt-le K (omega arith) (omega arith) in rw row) h) (omega (arith, wide))
+        (λ j ps a b h. subst (λ n. Earlier n ps) {x = eventOf K (s .start) j} {y = s .start + i}
+        (let row : j / K ≡ i = div-eq-of-lt-le K (omega arith) (omega arith) in rw row) h) (omega (arith, wide))
         (from-take (λ j. Earlier (eventOf K (s .start) j)) K (0 + K * i) (drop (K * i) (s .lists))
         (from-drop (λ j. Earlier (eventOf K (s .start) j)) (K * i) 0 (s .lists) (slots-earlier K served (s .start) 0 (s .lists) e))) in
         record {

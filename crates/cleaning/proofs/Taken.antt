@@ -16,7 +16,8 @@ use Rattle.columns.specs.Refusal.{refuse, firstIn}
 use Rattle.columns.specs.EdgeSet.{forward, reverse, inbound}
 use Rattle.columns.specs.Reading.{setRules}
 use Rattle.columns.specs.Building.{subjectOk, numbersOk, depthOk, inFile}
-use Rattle.columns.specs.declared.refusal.Refusal.the-variants.{SubjectLength, NumberRange, UnresolvedChild, UnresolvedKind, DepthOrder, RootOutside, GroupOrder, SourceOrder, CoverInSome, OverRecords, OverNumbers}
+use Rattle.columns.specs.declared.refusal.Refusal.the-variants.{SubjectLength, NumberRange, UnresolvedChild, UnresolvedKind, DepthOrder, RootOutside, GroupOrder}
+use Rattle.columns.specs.declared.refusal.Refusal.the-variants.{SourceOrder, CoverInSome, OverRecords, OverNumbers}
 use Rattle.archive.specs.File.{Unresolved, CoverColumns, File}
 use Rattle.cleaning.specs.Source.{Source, coverRead, sourceOf, endOf, isThere}
 use Rattle.cleaning.specs.Taking.{groupFollows, sourceFollows, coverFollows, fileEnd, unresolvedRules, coverRules, overRecords, overNumbers, fileRules, filesRules, takeRules}

@@ -134,7 +134,8 @@ module _ (K : ℕ) (served : Served K) (mid high : ℕ) where
           ← all-halves (inFile 0 mid) (inFile mid high) t l (halves l (h .0)),
           ← fit-halves (suc slot) lists (h .1),
         )
-        (four (all t (filter (inFile 0 mid) l)) (fitFrom K served first (suc slot) (within 0 mid lists)) (all t (filter (inFile mid high) l)) (fitFrom K served first (suc slot) (within mid high lists)))
+        (four (all t (filter (inFile 0 mid) l)) (fitFrom K served first (suc slot) (within 0 mid lists)) (all t (filter (inFile mid high) l))
+        (fitFrom K served first (suc slot) (within mid high lists)))
       where
         four : (a b c d : Bool) → ((a && b) && (c && d)) ≡ ((a && c) && (b && d))
         four true true c d = refl

@@ -14,13 +14,15 @@ use Rattle.lists.proofs.Each.{each-flat, each-map, each-imp, each-both, each-ge
 use Rattle.lists.proofs.Pairs.{each-upFrom}
 use Rattle.columns.specs.Limits.{Served, end64, referenceKinds}
 use Rattle.columns.specs.EdgeSet.{offsetsForm}
-use Rattle.columns.specs.Building.{Graph, subjectOk, numbersOk, allUnresolvedRules, depthOk, seqsRise, labelsRules, allInboundRules, inboundLists, deltasFit, granuleStart, forwardPart, reversePart, inboundPart, buildRules}
+use Rattle.columns.specs.Building.{Graph, subjectOk, numbersOk, allUnresolvedRules, depthOk, seqsRise, labelsRules, allInboundRules, inboundLists, deltasFit}
+use Rattle.columns.specs.Building.{granuleStart, forwardPart, reversePart, inboundPart, buildRules}
 use Rattle.columns.specs.declared.refusal.Refusal.the-variants.{SubjectLength, EdgeEntries, NumberRange, DepthOrder, SeqNotRising, InboundTwice, GranuleRows, DeltaRange}
 use Rattle.columns.proofs.ReadBack.{cut-joined, starts-form}
 use Rattle.cover.specs.Chains.{Link}
 use Rattle.archive.specs.File.{File}
 use Rattle.cleaning.specs.Summary.{Summary, summary}
-use Rattle.cleaning.specs.Writing.{Numbered, rowsIn, firstNumber, unresolvedOf, labelsIn, labelsOfGroup, slotsOfRows, unresolvedColumns, edgesOf, inboundColumns, graphOfRows, noGroup, groupAt, graphOf, groupNumbers, writeRules}
+use Rattle.cleaning.specs.Writing.{Numbered, rowsIn, firstNumber, unresolvedOf, labelsIn, labelsOfGroup, slotsOfRows, unresolvedColumns, edgesOf, inboundColumns}
+use Rattle.cleaning.specs.Writing.{graphOfRows, noGroup, groupAt, graphOf, groupNumbers, writeRules}
 use Rattle.cleaning.specs.History.{archiveOfFiles}
 use Rattle.cleaning.specs.Accepted.{labelsRise, chainsRise, spansFit, Cleanable}
 use Rattle.cleaning.proofs.Good.{GoodLabel, GoodGroup, GoodLists, Good}

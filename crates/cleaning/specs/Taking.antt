@@ -12,7 +12,8 @@ use Rattle.columns.specs.EdgeSet.{forward, reverse, inbound}
 use Rattle.columns.specs.Reading.{setRules}
 use Rattle.columns.specs.Building.{subjectOk, numbersOk, depthOk, inFile}
 use Rattle.columns.specs.declared.refusal.Refusal.{Refusal}
-use Rattle.columns.specs.declared.refusal.Refusal.the-variants.{SubjectLength, NumberRange, UnresolvedChild, UnresolvedKind, DepthOrder, RootOutside, GroupOrder, SourceOrder, CoverInSome, OverRecords, OverNumbers, RecordBroken}
+use Rattle.columns.specs.declared.refusal.Refusal.the-variants.{SubjectLength, NumberRange, UnresolvedChild, UnresolvedKind, DepthOrder, RootOutside, GroupOrder}
+use Rattle.columns.specs.declared.refusal.Refusal.the-variants.{SourceOrder, CoverInSome, OverRecords, OverNumbers, RecordBroken}
 use Rattle.cover.specs.Cover.{rangeRules, linkRules}
 use Rattle.archive.specs.File.{Unresolved, CoverColumns, File}
 use Rattle.archive.specs.Reader.{Parsed, broken, got}

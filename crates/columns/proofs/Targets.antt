@@ -40,7 +40,8 @@ sides-at : (K : ℕ) → (set first end s : ℕ) (lists : List (List ℤ)) (q : 
 unfolding soundFrom
 sides-at K set first end s [] q e h = absurd (omega arith)
 sides-at K set first end s (ds ∷ lists) zero e h = rw (add-zero s) (both _ _ (both _ _ e .0))
-sides-at K set first end s (ds ∷ lists) (suc q) e h = rw (add-suc s q, ← suc-add s q) (sides-at K set first end (suc s) lists q (both (ltb (eventOf K first s) end64 && all (sound set end (eventOf K first s)) ds) _ e .1) (omega arith))
+sides-at K set first end s (ds ∷ lists) (suc q) e h = rw (add-suc s q, ← suc-add s q)
+    (sides-at K set first end (suc s) lists q (both (ltb (eventOf K first s) end64 && all (sound set end (eventOf K first s)) ds) _ e .1) (omega arith))
 
 sides-named : (set end event : ℕ) (ds : List ℤ) → all (sound set end event) ds ≡ true → all (named event) ds ≡ true
 unfolding all sound named
@@ -96,4 +97,5 @@ no-lists K first (a ∷ bs) deltas e = none-from K first 0 a bs deltas (both (eq
 pub no-edges : (K : ℕ) → (first count : ℕ) (offsets : List ℕ) (deltas : List ℤ) → Readable K first (columnsOf count offsets deltas) → count ≡ 0
     → joined (slotsOf K first (columnsOf count offsets deltas)) ≡ []
 unfolding slotsOf
-no-edges K first count offsets deltas r h = no-lists K first offsets deltas (rw h at (form-climbs K (r .rows) count offsets (kept-form K (r .set) first (r .rows) (r .end) (columnsOf count offsets deltas) (r .kept))))
+no-edges K first count offsets deltas r h = no-lists K first offsets deltas
+    (rw h at (form-climbs K (r .rows) count offsets (kept-form K (r .set) first (r .rows) (r .end) (columnsOf count offsets deltas) (r .kept))))

@@ -96,7 +96,8 @@ all-filter q f p (x ∷ xs) h =
     let b = both (q (f x)) (all q (map f xs)) h in
     elim (tested (p x)) [ inl e ↦ rw (e, b .0) (all-filter q f p xs (b .1)) | inr e ↦ rw e (all-filter q f p xs (b .1)) ]
 
-within-reach : (K : ℕ) → (low high first slot : ℕ) (ls : List (List ℕ)) → all fits63 (joined (deltasFrom K first slot ls)) ≡ true → all fits63 (joined (deltasFrom K first slot (within low high ls))) ≡ true
+within-reach : (K : ℕ) → (low high first slot : ℕ) (ls : List (List ℕ)) → all fits63 (joined (deltasFrom K first slot ls)) ≡ true
+    → all fits63 (joined (deltasFrom K first slot (within low high ls))) ≡ true
 unfolding within joined deltasFrom
 within-reach K low high first slot [] h = h
 within-reach K low high first slot (l ∷ ls) h =

@@ -14,7 +14,9 @@ use Rattle.columns.specs.EdgeSet.{EdgeSet, offsetsForm, cut, eventOf, de
 use Rattle.columns.specs.Reading.{Label, Labels, labelsOf, labelLengths}
 use Rattle.columns.specs.Questions.{listOf}
 use Rattle.columns.specs.declared.refusal.Refusal.{Refusal}
-use Rattle.columns.specs.declared.refusal.Refusal.the-variants.{SubjectLength, EdgeEntries, NumberRange, ParentNotEarlier, ParentTwice, UnresolvedChild, UnresolvedKind, DepthOrder, LabelCount, SeqNotRising, InboundChild, InboundParent, InboundTwice, GranuleRows, DeltaRange}
+use Rattle.columns.specs.declared.refusal.Refusal.the-variants.{SubjectLength, EdgeEntries, NumberRange, ParentNotEarlier, ParentTwice, UnresolvedChild}
+use Rattle.columns.specs.declared.refusal.Refusal.the-variants.{UnresolvedKind, DepthOrder, LabelCount, SeqNotRising, InboundChild, InboundParent, InboundTwice}
+use Rattle.columns.specs.declared.refusal.Refusal.the-variants.{GranuleRows, DeltaRange}
 
 -- ── what building is given ───────────────────────────────────────────────────────────────────
 

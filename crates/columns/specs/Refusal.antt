@@ -7,7 +7,11 @@ use lib.Dec.{ltb}
 use Rattle.lists.specs.Lists.{any}
 use Rattle.columns.specs.Limits.{maxRecords, maxNumbers}
 use Rattle.columns.specs.declared.refusal.Refusal.{Refusal}
-use Rattle.columns.specs.declared.refusal.Refusal.the-variants.{SubjectLength, EdgeEntries, NumberRange, ParentNotEarlier, ParentTwice, UnresolvedChild, UnresolvedKind, DepthOrder, LabelCount, SeqNotRising, InboundChild, InboundParent, InboundTwice, GranuleRows, DeltaRange, RootOutside, OffsetsForm, DeltaCount, TargetSide, LabelColumns, LabelRange, CoverForm, RecordBroken, GroupOrder, SourceOrder, CoverInSome, NoSurvivor, OutOfTurn, SliceShort, OverRecords, OverNumbers}
+use Rattle.columns.specs.declared.refusal.Refusal.the-variants.{SubjectLength, EdgeEntries, NumberRange, ParentNotEarlier, ParentTwice, UnresolvedChild}
+use Rattle.columns.specs.declared.refusal.Refusal.the-variants.{UnresolvedKind, DepthOrder, LabelCount, SeqNotRising, InboundChild, InboundParent, InboundTwice}
+use Rattle.columns.specs.declared.refusal.Refusal.the-variants.{GranuleRows, DeltaRange, RootOutside, OffsetsForm, DeltaCount, TargetSide, LabelColumns, LabelRange}
+use Rattle.columns.specs.declared.refusal.Refusal.the-variants.{CoverForm, RecordBroken, GroupOrder, SourceOrder, CoverInSome, NoSurvivor, OutOfTurn, SliceShort}
+use Rattle.columns.specs.declared.refusal.Refusal.the-variants.{OverRecords, OverNumbers}
 
 -- the number that document 01 gives a refusal
 abbrev pub numberOf : Refusal → ℕ

@@ -33,15 +33,18 @@ use Rattle.columns_ask.proofs.Limited.{readable-reverse, readable-inbou
 
 module _ (first rows end : ℕ) (s : EdgeSet) (kind : Kind) (slot number : ℕ) (old : List ℕ) (k : Ruling)
     (e : k ≡ ruling (lentRules kinds 0 first rows end s (room (length old)))) where
-  asked : parents kinds first rows end s (kindOf kind) number (room (length old)) ≡ unless (lentRules kinds 0 first rows end s (room (length old))) (listOf kinds first (slotsOf kinds first s) (kindOf kind) number)
+  asked : parents kinds first rows end s (kindOf kind) number (room (length old))
+      ≡ unless (lentRules kinds 0 first rows end s (room (length old))) (listOf kinds first (slotsOf kinds first s) (kindOf kind) number)
   unfolding parents lentRules
   asked = refl
 
   module _ (h : k ≡ Kept) (i : slot ≡ kindOf kind) where
-    pub parents-counted : (n : ℕ) → n ≡ 0 + length (listOf kinds first (slotsOf kinds first s) slot number) → Entries n ≡ countedOf (parents kinds first rows end s (kindOf kind) number (room (length old)))
+    pub parents-counted : (n : ℕ) → n ≡ 0 + length (listOf kinds first (slotsOf kinds first s) slot number)
+        → Entries n ≡ countedOf (parents kinds first rows end s (kindOf kind) number (room (length old)))
     parents-counted n f = rw asked (list-counted k _ _ old e h n (rw (← i) (f ∙ omega arith)))
 
-    pub parents-written : (out : List ℕ) → out ≡ sets old 0 (listOf kinds first (slotsOf kinds first s) slot number) → out ≡ writtenOver old (parents kinds first rows end s (kindOf kind) number (room (length old)))
+    pub parents-written : (out : List ℕ) → out ≡ sets old 0 (listOf kinds first (slotsOf kinds first s) slot number)
+        → out ≡ writtenOver old (parents kinds first rows end s (kindOf kind) number (room (length old)))
     parents-written out f =
         let n = list-few kinds first s (readable kinds 0 first rows end s (room (length old)) k e h) (kindOf kind) number in
         rw asked (list-written k _ _ old e h (omega (arith, n, lent-room kinds 0 first rows end s (length old) k e h)) out (rw (← i) f))
@@ -55,7 +58,8 @@ module _ (first rows end : ℕ) (s : EdgeSet) (kind : Kind) (slot number : ℕ) 
 -- ── children ─────────────────────────────────────────────────────────────────────────────────
 
 -- two lists one after the other
-module _ (first : ℕ) (r i : EdgeSet) (kind number n m : ℕ) (e : n ≡ length (listOf kinds first (slotsOf kinds first r) kind number)) (f : m ≡ length (listOf kinds first (slotsOf kinds first i) kind number)) where
+module _ (first : ℕ) (r i : EdgeSet) (kind number n m : ℕ) (e : n ≡ length (listOf kinds first (slotsOf kinds first r) kind number))
+    (f : m ≡ length (listOf kinds first (slotsOf kinds first i) kind number)) where
   both-long : length (childrenOf kinds first r i kind number) ≡ n + m
   unfolding childrenOf
   both-long = omega (arith, length-append (listOf kinds first (slotsOf kinds first r) kind number) (listOf kinds first (slotsOf kinds first i) kind number))
@@ -78,7 +82,8 @@ module _ (first rows end : ℕ) (r i : EdgeSet) (kind number : ℕ) (lent : List
   module _ (h : k ≡ Kept) (over : Bool) (f : over ≡ ltb maxNumbers (length (childrenOf kinds first r i kind number))) where
     pub over-children : over ≡ true → Broken OverNumbers ≡ ruling (askedRules first rows end r i kind number lent)
     unfolding askedRules firstOf
-    over-children g = then-rest k (childrenRules first rows end r i lent) (refuse OverNumbers (ltb maxNumbers (length (childrenOf kinds first r i kind number))) ∷ []) e h (Broken OverNumbers) (rw (← f, g))
+    over-children g = then-rest k (childrenRules first rows end r i lent)
+        (refuse OverNumbers (ltb maxNumbers (length (childrenOf kinds first r i kind number))) ∷ []) e h (Broken OverNumbers) (rw (← f, g))
 
     pub few-children : over ≡ false → Kept ≡ ruling (askedRules first rows end r i kind number lent)
     unfolding askedRules firstOf
@@ -90,7 +95,8 @@ module _ (first rows end : ℕ) (r i : EdgeSet) (kind number : ℕ) (lent : List
 
 module _ (first rows end : ℕ) (r i : EdgeSet) (kind : Kind) (slot number : ℕ) (j : slot ≡ kindOf kind) (old : List ℕ) (k : Ruling)
     (e : k ≡ ruling (askedRules first rows end r i slot number (room (length old)))) where
-  asked-both : children kinds first rows end r i (kindOf kind) number (room (length old)) ≡ unless (askedRules first rows end r i slot number (room (length old))) (childrenOf kinds first r i slot number)
+  asked-both : children kinds first rows end r i (kindOf kind) number (room (length old))
+      ≡ unless (askedRules first rows end r i slot number (room (length old))) (childrenOf kinds first r i slot number)
   unfolding children askedRules childrenRules
   asked-both = rw j (ap (λ o. unless o (childrenOf kinds first r i (kindOf kind) number))
       (first-append (limits (rows ∷ []) (setLengths r ++ setLengths i) (room (length old)) ∷ setRules kinds reverse first rows end r ∷ setRules kinds inbound first rows end i ∷ [])
@@ -116,7 +122,8 @@ module _ (first rows end : ℕ) (r i : EdgeSet) (kind : Kind) (slot number : ℕ
         let few = ltb-false maxNumbers (length (childrenOf kinds first r i slot number)) (not-refused OverNumbers _ (each-none _ (told-kept _ e h) .1 .0)) in
         omega (arith, few, room-kept _ _ (length old) (each-none _ kept-both .0))
 
-    pub children-written : (out : List ℕ) → out ≡ sets old 0 (childrenOf kinds first r i slot number) → out ≡ writtenOver old (children kinds first rows end r i (kindOf kind) number (room (length old)))
+    pub children-written : (out : List ℕ) → out ≡ sets old 0 (childrenOf kinds first r i slot number)
+        → out ≡ writtenOver old (children kinds first rows end r i (kindOf kind) number (room (length old)))
     children-written out f = rw asked-both (list-written k _ _ old e h fits-both out f)
 
   pub children-refused : (why : Refusal) → k ≡ Broken why → Refused why ≡ countedOf (children kinds first rows end r i (kindOf kind) number (room (length old)))

@@ -56,7 +56,8 @@ module _ (first count : ℕ) (offsets : List ℕ) (deltas : List ℤ) (kind numb
   unfolding listOf
   below-granule h = rw (lt-ltb number first h)
 
-  inside-list : first ≤ number → listOf kinds first (slotsOf kinds first (columnsOf count offsets deltas)) kind number ≡ getD (slotsOf kinds first (columnsOf count offsets deltas)) (2 * (number - first) + kind) []
+  inside-list : first ≤ number → listOf kinds first (slotsOf kinds first (columnsOf count offsets deltas)) kind number
+      ≡ getD (slotsOf kinds first (columnsOf count offsets deltas)) (2 * (number - first) + kind) []
   unfolding listOf
   inside-list h = rw (le-ltb number first h)
 
@@ -104,7 +105,8 @@ module _ (first count : ℕ) (offsets : List ℕ) (deltas : List ℤ) (kind numb
       pub slot-rises : getD offsets (2 * (number - first) + kind) 0 ≤ getD offsets (2 * (number - first) + kind + 1) 0
       slot-rises = slot-order kinds first offsets deltas with-edges (2 * (number - first) + kind) next-in (eventOf kinds first (2 * (number - first) + kind)) _ _ refl refl refl
 
-      pub slot-length : getD offsets (2 * (number - first) + kind + 1) 0 - getD offsets (2 * (number - first) + kind) 0 ≡ length (listOf kinds first (slotsOf kinds first (columnsOf count offsets deltas)) kind number)
+      pub slot-length : getD offsets (2 * (number - first) + kind + 1) 0 - getD offsets (2 * (number - first) + kind) 0
+          ≡ length (listOf kinds first (slotsOf kinds first (columnsOf count offsets deltas)) kind number)
       slot-length = rw slot-of (sym (slot-count kinds first offsets deltas with-edges (2 * (number - first) + kind) next-in (eventOf kinds first (2 * (number - first) + kind)) _ _ refl refl refl))
 
     -- the same by the list's length
@@ -151,10 +153,12 @@ module _ (first count : ℕ) (offsets : List ℕ) (deltas : List ℤ) (kind numb
         slot-there : listOf kinds first (slotsOf kinds first (columnsOf count offsets deltas)) kind number ≡ getD (targetsFrom kinds first 0 (cut offsets deltas)) (2 * (number - first) + kind) []
         slot-there = slot-of some-edges in-granule in-rows i
 
-        pub list-ends : (at m : ℕ) → m ≡ at + length (getD (targetsFrom kinds first 0 (cut offsets deltas)) (2 * (number - first) + kind) []) → m ≡ at + length (listOf kinds first (slotsOf kinds first (columnsOf count offsets deltas)) kind number)
+        pub list-ends : (at m : ℕ) → m ≡ at + length (getD (targetsFrom kinds first 0 (cut offsets deltas)) (2 * (number - first) + kind) [])
+            → m ≡ at + length (listOf kinds first (slotsOf kinds first (columnsOf count offsets deltas)) kind number)
         list-ends at m f = rw slot-there f
 
-        pub list-put : (at : ℕ) (was out : List ℕ) → out ≡ sets was at (getD (targetsFrom kinds first 0 (cut offsets deltas)) (2 * (number - first) + kind) []) → out ≡ sets was at (listOf kinds first (slotsOf kinds first (columnsOf count offsets deltas)) kind number)
+        pub list-put : (at : ℕ) (was out : List ℕ) → out ≡ sets was at (getD (targetsFrom kinds first 0 (cut offsets deltas)) (2 * (number - first) + kind) [])
+            → out ≡ sets was at (listOf kinds first (slotsOf kinds first (columnsOf count offsets deltas)) kind number)
         list-put at was out f = rw slot-there f
 
 length-part : (a b : ℕ) (l : List ℤ) → length (slice a b l) ≤ length l

@@ -30,13 +30,15 @@ use Rattle.columns_ask.specs.Views.{childrenRules, lentLabelRules}
 -- ── limits ───────────────────────────────────────────────────────────────────────────────────
 
 -- a reverse set and an inbound set
-module _ (first rows end rc : ℕ) (ro : List ℕ) (rd : List ℤ) (ic : ℕ) (io : List ℕ) (id : List ℤ) (out : ℕ) (over : Bool) (k : Ruling) (f : over ≡ any (ltb maxNumbers) (length ro ∷ length rd ∷ length io ∷ length id ∷ []))
+module _ (first rows end rc : ℕ) (ro : List ℕ) (rd : List ℤ) (ic : ℕ) (io : List ℕ) (id : List ℤ) (out : ℕ) (over : Bool) (k : Ruling)
+    (f : over ≡ any (ltb maxNumbers) (length ro ∷ length rd ∷ length io ∷ length id ∷ []))
     (e : k ≡ ruling (limitsOf rows over (ltb out 4096))) where
   both-limits : limits (rows ∷ []) (setLengths (columnsOf rc ro rd) ++ setLengths (columnsOf ic io id)) (room out) ≡ limitsOf rows over (ltb out 4096)
   unfolding limits limitsOf setLengths short any
   both-limits = rw (f, or-false (ltb out 4096))
 
-  pub children-kept : k ≡ Kept → (q : Ruling) → q ≡ ruling (bothRules kinds first rows end (columnsOf rc ro rd) (columnsOf ic io id)) → q ≡ ruling (childrenRules first rows end (columnsOf rc ro rd) (columnsOf ic io id) (room out))
+  pub children-kept : k ≡ Kept → (q : Ruling) → q ≡ ruling (bothRules kinds first rows end (columnsOf rc ro rd) (columnsOf ic io id))
+      → q ≡ ruling (childrenRules first rows end (columnsOf rc ro rd) (columnsOf ic io id) (room out))
   unfolding childrenRules bothRules
   children-kept h q g = then-rest k _ _ (e ∙ ap ruling (sym both-limits)) h q g
 

@@ -99,7 +99,8 @@ pub fn parents(
     out: &mut [u64],
 ) -> Counted
     ensures { λ r. ⌜ r ≡ countedOf (asked.parents kinds first rows end (columnsOf count (now (offsets .entry)) (now (deltas .entry))) (kindOf kind) number (room (length (now (out .entry))))) ⌝ }
-    ensures { λ _. ⌜ now (out .exit) ≡ writtenOver (now (out .entry)) (asked.parents kinds first rows end (columnsOf count (now (offsets .entry)) (now (deltas .entry))) (kindOf kind) number (room (length (now (out .entry))))) ⌝ }
+    ensures { λ _. ⌜ now (out .exit) ≡ writtenOver (now (out .entry))
+        (asked.parents kinds first rows end (columnsOf count (now (offsets .entry)) (now (deltas .entry))) (kindOf kind) number (room (length (now (out .entry))))) ⌝ }
 {
     let rules = sets::csr_rules(
         Set::Forward,
@@ -139,7 +140,8 @@ fn children_rules(
     ideltas: &[i64],
     out: usize,
 ) -> Ruling
-    ensures { λ r. ⌜ r ≡ ruling (childrenRules first rows end (columnsOf rcount (now (roffsets .entry)) (now (rdeltas .entry))) (columnsOf icount (now (ioffsets .entry)) (now (ideltas .entry))) (room out)) ⌝ }
+    ensures { λ r. ⌜ r ≡ ruling (childrenRules first rows end (columnsOf rcount (now (roffsets .entry)) (now (rdeltas .entry)))
+        (columnsOf icount (now (ioffsets .entry)) (now (ideltas .entry))) (room out)) ⌝ }
 {
     let over = sets::is_any_over(roffsets.len(), rdeltas.len(), ioffsets.len(), ideltas.len());
     let limit = sets::limit_rules(rows, over, out < 4096);
@@ -174,7 +176,8 @@ fn are_children_over(
     requires { ⌜ kind < kinds ⌝ }
     requires { ⌜ Readable kinds first (columnsOf rcount (now roffsets) (now rdeltas)) ⌝ }
     requires { ⌜ Readable kinds first (columnsOf icount (now ioffsets) (now ideltas)) ⌝ }
-    ensures { λ r. ⌜ r ≡ ltb maxNumbers (length (asked.childrenOf kinds first (columnsOf rcount (now (roffsets .entry)) (now (rdeltas .entry))) (columnsOf icount (now (ioffsets .entry)) (now (ideltas .entry))) kind number)) ⌝ }
+    ensures { λ r. ⌜ r ≡ ltb maxNumbers (length (asked.childrenOf kinds first (columnsOf rcount (now (roffsets .entry)) (now (rdeltas .entry)))
+        (columnsOf icount (now (ioffsets .entry)) (now (ideltas .entry))) kind number)) ⌝ }
 {
     let n = list_length(first, rcount, roffsets, rdeltas, kind, number);
     let m = list_length(first, icount, ioffsets, ideltas, kind, number);
@@ -197,8 +200,10 @@ fn write_children(
     requires { ⌜ kind < kinds ⌝ }
     requires { ⌜ Readable kinds first (columnsOf rcount (now roffsets) (now rdeltas)) ⌝ }
     requires { ⌜ Readable kinds first (columnsOf icount (now ioffsets) (now ideltas)) ⌝ }
-    ensures { λ r. ⌜ r ≡ length (asked.childrenOf kinds first (columnsOf rcount (now (roffsets .entry)) (now (rdeltas .entry))) (columnsOf icount (now (ioffsets .entry)) (now (ideltas .entry))) kind number) ⌝ }
-    ensures { λ _. ⌜ now (out .exit) ≡ sets (now (out .entry)) 0 (asked.childrenOf kinds first (columnsOf rcount (now (roffsets .entry)) (now (rdeltas .entry))) (columnsOf icount (now (ioffsets .entry)) (now (ideltas .entry))) kind number) ⌝ }
+    ensures { λ r. ⌜ r ≡ length (asked.childrenOf kinds first (columnsOf rcount (now (roffsets .entry)) (now (rdeltas .entry)))
+        (columnsOf icount (now (ioffsets .entry)) (now (ideltas .entry))) kind number) ⌝ }
+    ensures { λ _. ⌜ now (out .exit) ≡ sets (now (out .entry)) 0
+        (asked.childrenOf kinds first (columnsOf rcount (now (roffsets .entry)) (now (rdeltas .entry))) (columnsOf icount (now (ioffsets .entry)) (now (ideltas .entry))) kind number) ⌝ }
 {
     let n = write_list(first, rcount, roffsets, rdeltas, kind, number, out, 0);
     write_list(first, icount, ioffsets, ideltas, kind, number, out, n)
@@ -220,7 +225,8 @@ fn asked_rules(
     out: usize,
 ) -> Ruling
     requires { ⌜ kind < kinds ⌝ }
-    ensures { λ r. ⌜ r ≡ ruling (askedRules first rows end (columnsOf rcount (now (roffsets .entry)) (now (rdeltas .entry))) (columnsOf icount (now (ioffsets .entry)) (now (ideltas .entry))) kind number (room out)) ⌝ }
+    ensures { λ r. ⌜ r ≡ ruling (askedRules first rows end (columnsOf rcount (now (roffsets .entry)) (now (rdeltas .entry)))
+        (columnsOf icount (now (ioffsets .entry)) (now (ideltas .entry))) kind number (room out)) ⌝ }
 {
     let rules = children_rules(
         first,
@@ -270,8 +276,11 @@ pub fn children(
     number: u64,
     out: &mut [u64],
 ) -> Counted
-    ensures { λ r. ⌜ r ≡ countedOf (asked.children kinds first rows end (columnsOf rcount (now (roffsets .entry)) (now (rdeltas .entry))) (columnsOf icount (now (ioffsets .entry)) (now (ideltas .entry))) (kindOf kind) number (room (length (now (out .entry))))) ⌝ }
-    ensures { λ _. ⌜ now (out .exit) ≡ writtenOver (now (out .entry)) (asked.children kinds first rows end (columnsOf rcount (now (roffsets .entry)) (now (rdeltas .entry))) (columnsOf icount (now (ioffsets .entry)) (now (ideltas .entry))) (kindOf kind) number (room (length (now (out .entry))))) ⌝ }
+    ensures { λ r. ⌜ r ≡ countedOf (asked.children kinds first rows end (columnsOf rcount (now (roffsets .entry)) (now (rdeltas .entry)))
+        (columnsOf icount (now (ioffsets .entry)) (now (ideltas .entry))) (kindOf kind) number (room (length (now (out .entry))))) ⌝ }
+    ensures { λ _. ⌜ now (out .exit) ≡ writtenOver (now (out .entry))
+        (asked.children kinds first rows end (columnsOf rcount (now (roffsets .entry)) (now (rdeltas .entry)))
+        (columnsOf icount (now (ioffsets .entry)) (now (ideltas .entry))) (kindOf kind) number (room (length (now (out .entry))))) ⌝ }
 {
     let slot = kind::slot(kind);
     let rules = asked_rules(

@@ -80,23 +80,33 @@ module _ (first rows from n : ℕ) (offsets targets cs ps ks : List ℕ) {r : Ru
     unfolding spanRules
     inbound-fits = passed DeltaRange _ (each-none _ span-none .1 .1 .1 .0)
 
-    verdict-kept : lateVerdict first rows (cut offsets targets) (inboundOf cs ps ks) from n ≡ accepted (record { forward = setAt first from n (cut offsets targets); reverse = setAt first from n (reverseLists kinds first rows (cut offsets targets)); inbound = setAt first from n (inboundLists kinds first rows (inboundOf cs ps ks)) })
+    verdict-kept : lateVerdict first rows (cut offsets targets) (inboundOf cs ps ks) from n
+        ≡ accepted (record {
+          forward = setAt first from n (cut offsets targets);
+          reverse = setAt first from n
+              (reverseLists kinds first rows (cut offsets targets));
+          inbound = setAt first from n (inboundLists kinds first rows (inboundOf cs ps ks));
+        })
     unfolding lateVerdict unless
     verdict-kept = rw late-none
 
-    pub forward-offsets : (was out : List ℕ) → out ≡ sets was 0 (setAt first from n (cut offsets targets) .offsets) → out ≡ offsetsLaid 0 (lateVerdict first rows (cut offsets targets) (inboundOf cs ps ks) from n) was
+    pub forward-offsets : (was out : List ℕ) → out ≡ sets was 0 (setAt first from n (cut offsets targets) .offsets)
+        → out ≡ offsetsLaid 0 (lateVerdict first rows (cut offsets targets) (inboundOf cs ps ks) from n) was
     unfolding offsetsLaid
     forward-offsets was out h = rw verdict-kept h
 
-    pub forward-deltas : (was out : List ℤ) → out ≡ sets was 0 (setAt first from n (cut offsets targets) .deltas) → out ≡ deltasLaid 0 (lateVerdict first rows (cut offsets targets) (inboundOf cs ps ks) from n) was
+    pub forward-deltas : (was out : List ℤ) → out ≡ sets was 0 (setAt first from n (cut offsets targets) .deltas)
+        → out ≡ deltasLaid 0 (lateVerdict first rows (cut offsets targets) (inboundOf cs ps ks) from n) was
     unfolding deltasLaid
     forward-deltas was out h = rw verdict-kept h
 
-    pub reverse-offsets : (was out : List ℕ) → out ≡ sets was 0 (setAt first from n (reverseLists kinds first rows (cut offsets targets)) .offsets) → out ≡ offsetsLaid 1 (lateVerdict first rows (cut offsets targets) (inboundOf cs ps ks) from n) was
+    pub reverse-offsets : (was out : List ℕ) → out ≡ sets was 0 (setAt first from n (reverseLists kinds first rows (cut offsets targets)) .offsets)
+        → out ≡ offsetsLaid 1 (lateVerdict first rows (cut offsets targets) (inboundOf cs ps ks) from n) was
     unfolding offsetsLaid
     reverse-offsets was out h = rw verdict-kept h
 
-    pub reverse-deltas : (was out : List ℤ) → out ≡ sets was 0 (setAt first from n (reverseLists kinds first rows (cut offsets targets)) .deltas) → out ≡ deltasLaid 1 (lateVerdict first rows (cut offsets targets) (inboundOf cs ps ks) from n) was
+    pub reverse-deltas : (was out : List ℤ) → out ≡ sets was 0 (setAt first from n (reverseLists kinds first rows (cut offsets targets)) .deltas)
+        → out ≡ deltasLaid 1 (lateVerdict first rows (cut offsets targets) (inboundOf cs ps ks) from n) was
     unfolding deltasLaid
     reverse-deltas was out h = rw verdict-kept h
 
@@ -105,7 +115,8 @@ module _ (first rows from n : ℕ) (offsets targets cs ps ks : List ℕ) {r : Ru
       many-is =
           q ∙ sym (getD-take (2 * rows + 1) offs (2 * rows) 0 (omega arith)) ∙ ap (λ l. getD l (2 * rows) 0) (a f .offsets)
           ∙ getD-starts 0 (inboundLists kinds first rows (inboundOf cs ps ks)) (2 * rows) 0 (omega (arith, length-arrived first rows (inboundOf cs ps ks)))
-          ∙ rw (take-all (2 * rows) (inboundLists kinds first rows (inboundOf cs ps ks)) (omega (arith, length-arrived first rows (inboundOf cs ps ks)))) (omega (arith, length-joined (inboundLists kinds first rows (inboundOf cs ps ks))))
+          ∙ rw (take-all (2 * rows) (inboundLists kinds first rows (inboundOf cs ps ks)) (omega (arith, length-arrived first rows (inboundOf cs ps ks))))
+          (omega (arith, length-joined (inboundLists kinds first rows (inboundOf cs ps ks))))
 
       list-is : take m list ≡ joined (inboundLists kinds first rows (inboundOf cs ps ks))
       list-is = rw many-is (a f .targets)
@@ -137,14 +148,18 @@ module _ (first rows from n : ℕ) (offsets targets cs ps ks : List ℕ) {r : Ru
         short = omega (arith, many-is, a f .short);
       }
 
-      pub late-counted : (c : Counts) → c ≡ countsOf (setAt first from n (cut offsets targets)) (setAt first from n (reverseLists kinds first rows (cut offsets targets))) (setAt first from n (cut (take (2 * rows + 1) offs) (take m list))) → Edges c ≡ encodedOf (lateVerdict first rows (cut offsets targets) (inboundOf cs ps ks) from n)
+      pub late-counted : (c : Counts) → c ≡ countsOf (setAt first from n (cut offsets targets))
+          (setAt first from n (reverseLists kinds first rows (cut offsets targets))) (setAt first from n (cut (take (2 * rows + 1) offs) (take m list)))
+          → Edges c ≡ encodedOf (lateVerdict first rows (cut offsets targets) (inboundOf cs ps ks) from n)
       unfolding encodedOf
       late-counted c h = rw verdict-kept (ap Edges (rw back at h))
 
-      pub inbound-offsets : (was out : List ℕ) → out ≡ sets was 0 (setAt first from n (cut (take (2 * rows + 1) offs) (take m list)) .offsets) → out ≡ offsetsLaid 2 (lateVerdict first rows (cut offsets targets) (inboundOf cs ps ks) from n) was
+      pub inbound-offsets : (was out : List ℕ) → out ≡ sets was 0 (setAt first from n (cut (take (2 * rows + 1) offs) (take m list)) .offsets)
+          → out ≡ offsetsLaid 2 (lateVerdict first rows (cut offsets targets) (inboundOf cs ps ks) from n) was
       unfolding offsetsLaid
       inbound-offsets was out h = rw verdict-kept (rw back at h)
 
-      pub inbound-deltas : (was out : List ℤ) → out ≡ sets was 0 (setAt first from n (cut (take (2 * rows + 1) offs) (take m list)) .deltas) → out ≡ deltasLaid 2 (lateVerdict first rows (cut offsets targets) (inboundOf cs ps ks) from n) was
+      pub inbound-deltas : (was out : List ℤ) → out ≡ sets was 0 (setAt first from n (cut (take (2 * rows + 1) offs) (take m list)) .deltas)
+          → out ≡ deltasLaid 2 (lateVerdict first rows (cut offsets targets) (inboundOf cs ps ks) from n) was
       unfolding deltasLaid
       inbound-deltas was out h = rw verdict-kept (rw back at h)

@@ -43,10 +43,16 @@ module _ (first rows : ℕ) (lists inbound : List (List ℕ)) (from n : ℕ) {a 
 -- ── lists in order ───────────────────────────────────────────────────────────────────────────
 
 module _ (first rows : ℕ) (cs ps ks : List ℕ) (m : ℕ) (e : m ≡ length (joined (inboundLists kinds first rows (inboundOf cs ps ks))))
-    (offs was : List ℕ) (f : offs ≡ starts 0 (inboundLists kinds first rows (inboundOf cs ps ks)) ++ drop (2 * rows + 1) was) (list old : List ℕ) (g : list ≡ joined (inboundLists kinds first rows (inboundOf cs ps ks)) ++ drop m old) where
+    (offs was : List ℕ) (f : offs ≡ starts 0 (inboundLists kinds first rows (inboundOf cs ps ks)) ++ drop (2 * rows + 1) was) (list old : List ℕ)
+    (g : list ≡ joined (inboundLists kinds first rows (inboundOf cs ps ks)) ++ drop m old) where
   pub arrived-long : 2 * rows + 1 ≤ length offs
   arrived-long =
-      rw (f, length-append (starts 0 (inboundLists kinds first rows (inboundOf cs ps ks))) (drop (2 * rows + 1) was), length-starts 0 (inboundLists kinds first rows (inboundOf cs ps ks)), length-arrived first rows (inboundOf cs ps ks)) (omega arith)
+      rw (
+        f,
+        length-append (starts 0 (inboundLists kinds first rows (inboundOf cs ps ks))) (drop (2 * rows + 1) was),
+        length-starts 0 (inboundLists kinds first rows (inboundOf cs ps ks)),
+        length-arrived first rows (inboundOf cs ps ks),
+      ) (omega arith)
 
   pub arrived-many : m ≤ length list
   arrived-many = rw (g, length-append (joined (inboundLists kinds first rows (inboundOf cs ps ks))) (drop m old)) (omega arith)
@@ -61,7 +67,8 @@ module _ (first rows : ℕ) (cs ps ks : List ℕ) (m : ℕ) (e : m ≡ length (j
   arranged offsets targets given few = record {
     long = arrived-long;
     many = omega (arith, arrived-many);
-    offsets = rw f (take-at (starts 0 (inboundLists kinds first rows (inboundOf cs ps ks))) (drop (2 * rows + 1) was) (2 * rows + 1) (omega (arith, length-starts 0 (inboundLists kinds first rows (inboundOf cs ps ks)), length-arrived first rows (inboundOf cs ps ks))));
+    offsets = rw f (take-at (starts 0 (inboundLists kinds first rows (inboundOf cs ps ks))) (drop (2 * rows + 1) was) (2 * rows + 1)
+        (omega (arith, length-starts 0 (inboundLists kinds first rows (inboundOf cs ps ks)), length-arrived first rows (inboundOf cs ps ks))));
     targets = rw g (take-at (joined (inboundLists kinds first rows (inboundOf cs ps ks))) (drop m old) (length (joined (inboundLists kinds first rows (inboundOf cs ps ks)))) refl);
     short = omega (arith, given .edges);
   }
@@ -84,13 +91,17 @@ module _ (first rows : ℕ) (lists : List (List ℕ)) (cs ps ks : List ℕ) (fro
   late-are : lateRules first rows lists (inboundOf cs ps ks) from n
       ≡ firstOf (inboundFrom first (first + rows) cs ps ks 0 (recordCount cs ps ks) ∷ tableRules first rows lists (inboundLists kinds first rows (inboundOf cs ps ks)) from n ∷ [])
   unfolding lateRules edgeRules tableRules
-  late-are = regroup (inboundFrom first (first + rows) cs ps ks 0 (recordCount cs ps ks)) (refuse InboundTwice (not (all distinct (inboundLists kinds first rows (inboundOf cs ps ks))))) (spanRules first rows lists (inboundLists kinds first rows (inboundOf cs ps ks)) from n)
+  late-are = regroup (inboundFrom first (first + rows) cs ps ks 0 (recordCount cs ps ks))
+      (refuse InboundTwice (not (all distinct (inboundLists kinds first rows (inboundOf cs ps ks))))) (spanRules first rows lists (inboundLists kinds first rows (inboundOf cs ps ks)) from n)
 
   pub late-stops : (x : Refusal) → r ≡ Broken x → Broken x ≡ ruling (lateRules first rows lists (inboundOf cs ps ks) from n)
-  late-stops x f = rw late-are (stops-here (inboundFrom first (first + rows) cs ps ks 0 (recordCount cs ps ks)) (tableRules first rows lists (inboundLists kinds first rows (inboundOf cs ps ks)) from n) e x f)
+  late-stops x f = rw late-are (stops-here (inboundFrom first (first + rows) cs ps ks 0 (recordCount cs ps ks))
+      (tableRules first rows lists (inboundLists kinds first rows (inboundOf cs ps ks)) from n) e x f)
 
-  pub late-then : r ≡ Kept → {s : Ruling} → s ≡ ruling (tableRules first rows lists (inboundLists kinds first rows (inboundOf cs ps ks)) from n) → s ≡ ruling (lateRules first rows lists (inboundOf cs ps ks) from n)
-  late-then f k = rw late-are (goes-on (inboundFrom first (first + rows) cs ps ks 0 (recordCount cs ps ks)) (tableRules first rows lists (inboundLists kinds first rows (inboundOf cs ps ks)) from n) e f k)
+  pub late-then : r ≡ Kept → {s : Ruling} → s ≡ ruling (tableRules first rows lists (inboundLists kinds first rows (inboundOf cs ps ks)) from n)
+      → s ≡ ruling (lateRules first rows lists (inboundOf cs ps ks) from n)
+  late-then f k = rw late-are (goes-on (inboundFrom first (first + rows) cs ps ks 0 (recordCount cs ps ks))
+      (tableRules first rows lists (inboundLists kinds first rows (inboundOf cs ps ks)) from n) e f k)
 
 pub late-edges : (first rows : ℕ) (cs ps ks : List ℕ) {r : Ruling} → r ≡ ruling (inboundFrom first (first + rows) cs ps ks 0 (recordCount cs ps ks)) → r ≡ Kept → Edges first rows cs ps ks
 late-edges first rows cs ps ks e f = edges-given first rows cs ps ks (told-kept (inboundFrom first (first + rows) cs ps ks 0 (recordCount cs ps ks)) e f)

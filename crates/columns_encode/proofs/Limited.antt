@@ -125,10 +125,12 @@ module _ (subject : List ℕ) (first rows : ℕ) (offsets targets cs ks fs : Lis
     (over : Bool) (f : over ≡ any (ltb maxNumbers) (length offsets ∷ length targets ∷ c ∷ p ∷ k ∷ length chains ∷ length seqs ∷ []))
     (records : ℕ) (g : records ≡ recordCount cs ks fs) {r : Ruling} (e : r ≡ ruling (limitRules rows records over tight)) where
   limited : limitRules rows records over tight
-      ≡ limitRules rows (recordCount cs ks fs) (any (ltb maxNumbers) (idleLabels labelled chains seqs ++ (length offsets ∷ length targets ∷ c ∷ p ∷ k ∷ labelLengths (labelsGiven labelled chains seqs)))) tight
+      ≡ limitRules rows (recordCount cs ks fs) (any (ltb maxNumbers)
+      (idleLabels labelled chains seqs ++ (length offsets ∷ length targets ∷ c ∷ p ∷ k ∷ labelLengths (labelsGiven labelled chains seqs)))) tight
   limited = rw (counted (length offsets) (length targets) c p k labelled chains seqs, f, g)
 
-  pub limits-stop : (x : Refusal) → r ≡ Broken x → Broken x ≡ ruling (earlyRules (idleLabels labelled chains seqs) subject first rows offsets targets cs ks fs depth (labelsGiven labelled chains seqs) c p k tight)
+  pub limits-stop : (x : Refusal) → r ≡ Broken x → Broken x ≡ ruling
+      (earlyRules (idleLabels labelled chains seqs) subject first rows offsets targets cs ks fs depth (labelsGiven labelled chains seqs) c p k tight)
   unfolding earlyRules
   limits-stop x h = stops-here _ (inputRules subject first rows offsets targets cs ks fs depth (labelsGiven labelled chains seqs)) (e ∙ ap ruling limited) x h
 

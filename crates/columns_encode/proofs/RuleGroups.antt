@@ -12,7 +12,8 @@ use Rattle.columns_encode.specs.Grouped.{edgeRules, lateRules}
 use Rattle.columns.specs.declared.refusal.Refusal.{Refusal}
 
 groups : (a1 a2 a3 a4 b1 b2 b3 c1 c2 d1 d2 d3 d4 : Option Refusal)
-    → firstOf (a1 ∷ a2 ∷ a3 ∷ a4 ∷ b1 ∷ b2 ∷ b3 ∷ c1 ∷ c2 ∷ d1 ∷ d2 ∷ d3 ∷ d4 ∷ []) ≡ firstOf (firstOf (a1 ∷ a2 ∷ a3 ∷ a4 ∷ []) ∷ firstOf (b1 ∷ firstOf (b2 ∷ b3 ∷ []) ∷ []) ∷ firstOf (firstOf (c1 ∷ c2 ∷ []) ∷ firstOf (d1 ∷ d2 ∷ d3 ∷ d4 ∷ []) ∷ []) ∷ [])
+    → firstOf (a1 ∷ a2 ∷ a3 ∷ a4 ∷ b1 ∷ b2 ∷ b3 ∷ c1 ∷ c2 ∷ d1 ∷ d2 ∷ d3 ∷ d4 ∷ [])
+    ≡ firstOf (firstOf (a1 ∷ a2 ∷ a3 ∷ a4 ∷ []) ∷ firstOf (b1 ∷ firstOf (b2 ∷ b3 ∷ []) ∷ []) ∷ firstOf (firstOf (c1 ∷ c2 ∷ []) ∷ firstOf (d1 ∷ d2 ∷ d3 ∷ d4 ∷ []) ∷ []) ∷ [])
 unfolding firstOf
 groups (some x) a2 a3 a4 b1 b2 b3 c1 c2 d1 d2 d3 d4 = refl
 groups none (some x) a3 a4 b1 b2 b3 c1 c2 d1 d2 d3 d4 = refl

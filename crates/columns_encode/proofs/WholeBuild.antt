@@ -98,41 +98,61 @@ module _ (idle subject : List ℕ) (first rows : ℕ) (offsets targets cs ks fs 
 -- ── the two parts ────────────────────────────────────────────────────────────────────────────
 
 module _ (subject : List ℕ) (first rows : ℕ) (offsets targets cs ks fs : List ℕ) (depth : given.Depth) (labelled : Bool) (chains seqs ic ip ik : List ℕ) (from n : ℕ)
-    (fo fd ro rd io id : ℕ) (tight : Bool) (t : tight ≡ any short (rooms fo fd ++ (rooms ro rd ++ rooms io id))) {r : Ruling} (e : r ≡ ruling (earlyRules (idleLabels labelled chains seqs) subject first rows offsets targets cs ks fs (depthOf depth) (labelsGiven labelled chains seqs) (length ic) (length ip) (length ik) tight)) where
-  rules-are : firstOf (limits (graphRecords (graphOf subject first rows offsets targets cs ks fs depth labelled chains seqs ic ip ik from n)) (idleLabels labelled chains seqs ++ graphLengths (graphOf subject first rows offsets targets cs ks fs depth labelled chains seqs ic ip ik from n)) (slicesOf fo fd ro rd io id) ∷ buildRules kinds (graphOf subject first rows offsets targets cs ks fs depth labelled chains seqs ic ip ik from n) ∷ []) ≡ firstOf (earlyRules (idleLabels labelled chains seqs) subject first rows offsets targets cs ks fs (depthOf depth) (labelsGiven labelled chains seqs) (length ic) (length ip) (length ik) tight ∷ lateRules first rows (cut offsets targets) (inboundOf ic ip ik) from n ∷ [])
+    (fo fd ro rd io id : ℕ) (tight : Bool) (t : tight ≡ any short (rooms fo fd ++ (rooms ro rd ++ rooms io id))) {r : Ruling}
+    (e : r ≡ ruling (earlyRules (idleLabels labelled chains seqs) subject first rows offsets targets cs ks fs (depthOf depth) (labelsGiven labelled chains seqs)
+    (length ic) (length ip) (length ik) tight)) where
+  rules-are : firstOf (limits (graphRecords (graphOf subject first rows offsets targets cs ks fs depth labelled chains seqs ic ip ik from n))
+      (idleLabels labelled chains seqs ++ graphLengths (graphOf subject first rows offsets targets cs ks fs depth labelled chains seqs ic ip ik from n))
+      (slicesOf fo fd ro rd io id) ∷ buildRules kinds (graphOf subject first rows offsets targets cs ks fs depth labelled chains seqs ic ip ik from n) ∷ [])
+      ≡ firstOf (earlyRules (idleLabels labelled chains seqs) subject first rows offsets targets cs ks fs (depthOf depth) (labelsGiven labelled chains seqs) (length ic)
+      (length ip) (length ik) tight ∷ lateRules first rows (cut offsets targets) (inboundOf ic ip ik) from n ∷ [])
   unfolding graphRecords graphLengths limits earlyRules limitRules inputRules
   rules-are = rw (all-rules (graphOf subject first rows offsets targets cs ks fs depth labelled chains seqs ic ip ik from n), t) (regroup _ _ _ _)
 
   module _ (h : r ≡ Kept) where
-    early-none : earlyRules (idleLabels labelled chains seqs) subject first rows offsets targets cs ks fs (depthOf depth) (labelsGiven labelled chains seqs) (length ic) (length ip) (length ik) tight ≡ none
-    early-none = told-kept (earlyRules (idleLabels labelled chains seqs) subject first rows offsets targets cs ks fs (depthOf depth) (labelsGiven labelled chains seqs) (length ic) (length ip) (length ik) tight) e h
+    early-none : earlyRules (idleLabels labelled chains seqs) subject first rows offsets targets cs ks fs (depthOf depth) (labelsGiven labelled chains seqs) (length ic)
+        (length ip) (length ik) tight ≡ none
+    early-none = told-kept (earlyRules (idleLabels labelled chains seqs) subject first rows offsets targets cs ks fs (depthOf depth) (labelsGiven labelled chains seqs)
+        (length ic) (length ip) (length ik) tight) e h
 
-    build-kept : buildLent subject first rows offsets targets cs ks fs depth labelled chains seqs ic ip ik from n (slicesOf fo fd ro rd io id) ≡ lateVerdict first rows (cut offsets targets) (inboundOf ic ip ik) from n
+    build-kept : buildLent subject first rows offsets targets cs ks fs depth labelled chains seqs ic ip ik from n (slicesOf fo fd ro rd io id)
+        ≡ lateVerdict first rows (cut offsets targets) (inboundOf ic ip ik) from n
     unfolding buildBeside lateVerdict builtOf forwardPart reversePart inboundPart firstOf
-    build-kept = rw (rules-are, early-none) (ap (λ o. unless o (builtOf kinds (graphOf subject first rows offsets targets cs ks fs depth labelled chains seqs ic ip ik from n))) (last-rule (lateRules first rows (cut offsets targets) (inboundOf ic ip ik) from n)))
+    build-kept = rw (rules-are, early-none) (ap (λ o. unless o
+        (builtOf kinds (graphOf subject first rows offsets targets cs ks fs depth labelled chains seqs ic ip ik from n)))
+        (last-rule (lateRules first rows (cut offsets targets) (inboundOf ic ip ik) from n)))
 
-    pub whole-answer : (x : Encoded) → x ≡ encodedOf (lateVerdict first rows (cut offsets targets) (inboundOf ic ip ik) from n) → x ≡ encodedOf (buildLent subject first rows offsets targets cs ks fs depth labelled chains seqs ic ip ik from n (slicesOf fo fd ro rd io id))
+    pub whole-answer : (x : Encoded) → x ≡ encodedOf (lateVerdict first rows (cut offsets targets) (inboundOf ic ip ik) from n)
+        → x ≡ encodedOf (buildLent subject first rows offsets targets cs ks fs depth labelled chains seqs ic ip ik from n (slicesOf fo fd ro rd io id))
     whole-answer x f = rw build-kept f
 
-    pub whole-offsets : (set : ℕ) (was out : List ℕ) → out ≡ offsetsLaid set (lateVerdict first rows (cut offsets targets) (inboundOf ic ip ik) from n) was → out ≡ offsetsLaid set (buildLent subject first rows offsets targets cs ks fs depth labelled chains seqs ic ip ik from n (slicesOf fo fd ro rd io id)) was
+    pub whole-offsets : (set : ℕ) (was out : List ℕ) → out ≡ offsetsLaid set (lateVerdict first rows (cut offsets targets) (inboundOf ic ip ik) from n) was
+        → out ≡ offsetsLaid set (buildLent subject first rows offsets targets cs ks fs depth labelled chains seqs ic ip ik from n (slicesOf fo fd ro rd io id)) was
     whole-offsets set was out f = rw build-kept f
 
-    pub whole-deltas : (set : ℕ) (was out : List ℤ) → out ≡ deltasLaid set (lateVerdict first rows (cut offsets targets) (inboundOf ic ip ik) from n) was → out ≡ deltasLaid set (buildLent subject first rows offsets targets cs ks fs depth labelled chains seqs ic ip ik from n (slicesOf fo fd ro rd io id)) was
+    pub whole-deltas : (set : ℕ) (was out : List ℤ) → out ≡ deltasLaid set (lateVerdict first rows (cut offsets targets) (inboundOf ic ip ik) from n) was
+        → out ≡ deltasLaid set (buildLent subject first rows offsets targets cs ks fs depth labelled chains seqs ic ip ik from n (slicesOf fo fd ro rd io id)) was
     whole-deltas set was out f = rw build-kept f
 
   module _ (x : Refusal) (h : r ≡ Broken x) where
     build-broken : buildLent subject first rows offsets targets cs ks fs depth labelled chains seqs ic ip ik from n (slicesOf fo fd ro rd io id) ≡ refused x
     unfolding buildBeside unless firstOf
-    build-broken = rw (rules-are, told (earlyRules (idleLabels labelled chains seqs) subject first rows offsets targets cs ks fs (depthOf depth) (labelsGiven labelled chains seqs) (length ic) (length ip) (length ik) tight) e h)
+    build-broken = rw (
+      rules-are,
+      told (earlyRules (idleLabels labelled chains seqs) subject first rows offsets targets cs ks fs (depthOf depth)
+          (labelsGiven labelled chains seqs) (length ic) (length ip) (length ik) tight) e h,
+    )
 
     pub whole-refused : Refused x ≡ encodedOf (buildLent subject first rows offsets targets cs ks fs depth labelled chains seqs ic ip ik from n (slicesOf fo fd ro rd io id))
     unfolding encodedOf
     whole-refused = rw build-broken
 
-    pub whole-offsets-as-were : (set : ℕ) (was : List ℕ) → was ≡ offsetsLaid set (buildLent subject first rows offsets targets cs ks fs depth labelled chains seqs ic ip ik from n (slicesOf fo fd ro rd io id)) was
+    pub whole-offsets-as-were : (set : ℕ) (was : List ℕ) → was
+        ≡ offsetsLaid set (buildLent subject first rows offsets targets cs ks fs depth labelled chains seqs ic ip ik from n (slicesOf fo fd ro rd io id)) was
     unfolding offsetsLaid
     whole-offsets-as-were set was = rw build-broken
 
-    pub whole-deltas-as-were : (set : ℕ) (was : List ℤ) → was ≡ deltasLaid set (buildLent subject first rows offsets targets cs ks fs depth labelled chains seqs ic ip ik from n (slicesOf fo fd ro rd io id)) was
+    pub whole-deltas-as-were : (set : ℕ) (was : List ℤ) → was
+        ≡ deltasLaid set (buildLent subject first rows offsets targets cs ks fs depth labelled chains seqs ic ip ik from n (slicesOf fo fd ro rd io id)) was
     unfolding deltasLaid
     whole-deltas-as-were set was = rw build-broken

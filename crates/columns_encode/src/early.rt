@@ -98,7 +98,8 @@ fn input_rules(
     seqs: &[u32],
 ) -> Ruling
     requires { ⌜ rows ≤ 1024 ⌝ }
-    ensures { λ r. ⌜ r ≡ ruling (inputRules (now (subject .entry)) first rows (now (offsets .entry)) (now (targets .entry)) (now (children .entry)) (now (kinds .entry)) (now (flags .entry)) (depthOf depth)
+    ensures { λ r. ⌜ r ≡ ruling (inputRules (now (subject .entry)) first rows (now (offsets .entry)) (now (targets .entry)) (now (children .entry)) (now (kinds .entry))
+        (now (flags .entry)) (depthOf depth)
         (labelsGiven labelled (now (chains .entry)) (now (seqs .entry)))) ⌝ }
 {
     let r = file_rules(subject, first, rows, offsets, targets);
@@ -137,7 +138,8 @@ pub fn early_rules(
     ikinds: usize,
     tight: bool,
 ) -> Ruling
-    ensures { λ r. ⌜ r ≡ ruling (earlyRules (idleLabels labelled (now (chains .entry)) (now (seqs .entry))) (now (subject .entry)) first rows (now (offsets .entry)) (now (targets .entry)) (now (children .entry)) (now (kinds .entry)) (now (flags .entry)) (depthOf depth)
+    ensures { λ r. ⌜ r ≡ ruling (earlyRules (idleLabels labelled (now (chains .entry)) (now (seqs .entry))) (now (subject .entry)) first rows (now (offsets .entry))
+        (now (targets .entry)) (now (children .entry)) (now (kinds .entry)) (now (flags .entry)) (depthOf depth)
         (labelsGiven labelled (now (chains .entry)) (now (seqs .entry))) inbound parents ikinds tight) ⌝ }
 {
     let over = are_columns_over(

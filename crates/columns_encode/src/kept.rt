@@ -43,13 +43,20 @@ pub fn encode_kept(
     requires { ⌜ Early first rows (now offsets) (now targets) (length (now children)) ⌝ }
     requires { ⌜ Rooms (length (now fo)) (length (now fd)) (length (now ro)) (length (now rd)) (length (now io)) (length (now id)) ⌝ }
     requires { ⌜ (2049 ≤ length (now offs)) × ((4096 ≤ length (now list)) × (4096 ≤ length (now w))) ⌝ }
-    ensures { λ r. ⌜ r ≡ encodedOf (lateVerdict first rows (cut (now (offsets .entry)) (now (targets .entry))) (inboundOf (now (children .entry)) (now (parents .entry)) (now (kinds .entry))) from n) ⌝ }
-    ensures { λ _. ⌜ now (fo .exit) ≡ offsetsLaid 0 (lateVerdict first rows (cut (now (offsets .entry)) (now (targets .entry))) (inboundOf (now (children .entry)) (now (parents .entry)) (now (kinds .entry))) from n) (now (fo .entry)) ⌝ }
-    ensures { λ _. ⌜ now (fd .exit) ≡ deltasLaid 0 (lateVerdict first rows (cut (now (offsets .entry)) (now (targets .entry))) (inboundOf (now (children .entry)) (now (parents .entry)) (now (kinds .entry))) from n) (now (fd .entry)) ⌝ }
-    ensures { λ _. ⌜ now (ro .exit) ≡ offsetsLaid 1 (lateVerdict first rows (cut (now (offsets .entry)) (now (targets .entry))) (inboundOf (now (children .entry)) (now (parents .entry)) (now (kinds .entry))) from n) (now (ro .entry)) ⌝ }
-    ensures { λ _. ⌜ now (rd .exit) ≡ deltasLaid 1 (lateVerdict first rows (cut (now (offsets .entry)) (now (targets .entry))) (inboundOf (now (children .entry)) (now (parents .entry)) (now (kinds .entry))) from n) (now (rd .entry)) ⌝ }
-    ensures { λ _. ⌜ now (io .exit) ≡ offsetsLaid 2 (lateVerdict first rows (cut (now (offsets .entry)) (now (targets .entry))) (inboundOf (now (children .entry)) (now (parents .entry)) (now (kinds .entry))) from n) (now (io .entry)) ⌝ }
-    ensures { λ _. ⌜ now (id .exit) ≡ deltasLaid 2 (lateVerdict first rows (cut (now (offsets .entry)) (now (targets .entry))) (inboundOf (now (children .entry)) (now (parents .entry)) (now (kinds .entry))) from n) (now (id .entry)) ⌝ }
+    ensures { λ r. ⌜ r ≡ encodedOf (lateVerdict first rows (cut (now (offsets .entry)) (now (targets .entry)))
+        (inboundOf (now (children .entry)) (now (parents .entry)) (now (kinds .entry))) from n) ⌝ }
+    ensures { λ _. ⌜ now (fo .exit) ≡ offsetsLaid 0 (lateVerdict first rows (cut (now (offsets .entry)) (now (targets .entry)))
+        (inboundOf (now (children .entry)) (now (parents .entry)) (now (kinds .entry))) from n) (now (fo .entry)) ⌝ }
+    ensures { λ _. ⌜ now (fd .exit) ≡ deltasLaid 0 (lateVerdict first rows (cut (now (offsets .entry)) (now (targets .entry)))
+        (inboundOf (now (children .entry)) (now (parents .entry)) (now (kinds .entry))) from n) (now (fd .entry)) ⌝ }
+    ensures { λ _. ⌜ now (ro .exit) ≡ offsetsLaid 1 (lateVerdict first rows (cut (now (offsets .entry)) (now (targets .entry)))
+        (inboundOf (now (children .entry)) (now (parents .entry)) (now (kinds .entry))) from n) (now (ro .entry)) ⌝ }
+    ensures { λ _. ⌜ now (rd .exit) ≡ deltasLaid 1 (lateVerdict first rows (cut (now (offsets .entry)) (now (targets .entry)))
+        (inboundOf (now (children .entry)) (now (parents .entry)) (now (kinds .entry))) from n) (now (rd .entry)) ⌝ }
+    ensures { λ _. ⌜ now (io .exit) ≡ offsetsLaid 2 (lateVerdict first rows (cut (now (offsets .entry)) (now (targets .entry)))
+        (inboundOf (now (children .entry)) (now (parents .entry)) (now (kinds .entry))) from n) (now (io .entry)) ⌝ }
+    ensures { λ _. ⌜ now (id .exit) ≡ deltasLaid 2 (lateVerdict first rows (cut (now (offsets .entry)) (now (targets .entry)))
+        (inboundOf (now (children .entry)) (now (parents .entry)) (now (kinds .entry))) from n) (now (id .entry)) ⌝ }
 {
     let r = late_rules(
         first,

@@ -75,7 +75,8 @@ fn arranged_rules(
     requires { ⌜ Early first rows (now offsets) (now targets) (length (now children)) ⌝ }
     requires { ⌜ Edges first rows (now children) (now parents) (now kinds) ⌝ }
     requires { ⌜ (2049 ≤ length (now offs)) × ((4096 ≤ length (now list)) × (4096 ≤ length (now w))) ⌝ }
-    ensures { λ r. ⌜ r ≡ ruling (tableRules first rows (cut (now (offsets .entry)) (now (targets .entry))) (inboundLists runKinds first rows (inboundOf (now (children .entry)) (now (parents .entry)) (now (kinds .entry)))) from n) ⌝ }
+    ensures { λ r. ⌜ r ≡ ruling (tableRules first rows (cut (now (offsets .entry)) (now (targets .entry)))
+        (inboundLists runKinds first rows (inboundOf (now (children .entry)) (now (parents .entry)) (now (kinds .entry)))) from n) ⌝ }
     ensures { λ _. ⌜ Arranged rows (inboundLists runKinds first rows (inboundOf (now (children .entry)) (now (parents .entry)) (now (kinds .entry)))) (now (offs .exit)) (now (list .exit)) ⌝ }
 {
     let m = arrange(first, rows, children, parents, kinds, offs, list, w);
@@ -100,7 +101,8 @@ pub(crate) fn late_rules(
     requires { ⌜ Early first rows (now offsets) (now targets) (length (now children)) ⌝ }
     requires { ⌜ (2049 ≤ length (now offs)) × ((4096 ≤ length (now list)) × (4096 ≤ length (now w))) ⌝ }
     ensures { λ r. ⌜ r ≡ ruling (lateRules first rows (cut (now (offsets .entry)) (now (targets .entry))) (inboundOf (now (children .entry)) (now (parents .entry)) (now (kinds .entry))) from n) ⌝ }
-    ensures { λ r. ⌜ (r ≡ Kept → Arranged rows (inboundLists runKinds first rows (inboundOf (now (children .entry)) (now (parents .entry)) (now (kinds .entry)))) (now (offs .exit)) (now (list .exit))) ⌝ }
+    ensures { λ r. ⌜ (r ≡ Kept → Arranged rows (inboundLists runKinds first rows (inboundOf (now (children .entry)) (now (parents .entry)) (now (kinds .entry))))
+        (now (offs .exit)) (now (list .exit))) ⌝ }
 {
     let r = inbound_rules(first, rows, children, parents, kinds);
     match r {

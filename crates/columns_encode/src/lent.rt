@@ -42,7 +42,11 @@ pub fn encode_lent(
     w: &mut [u64],
 ) -> Encoded
     requires { ⌜ (2049 ≤ length (now offs)) × ((4096 ≤ length (now list)) × (4096 ≤ length (now w))) ⌝ }
-    ensures { λ r. ⌜ Answers (buildLent (now (subject .entry)) first rows (now (offsets .entry)) (now (targets .entry)) (now (children .entry)) (now (kinds .entry)) (now (flags .entry)) depth labelled (now (chains .entry)) (now (seqs .entry)) (now (ichildren .entry)) (now (iparents .entry)) (now (ikinds .entry)) from n (slicesOf (length (now (fo .entry))) (length (now (fd .entry))) (length (now (ro .entry))) (length (now (rd .entry))) (length (now (io .entry))) (length (now (id .entry))))) r (now (fo .entry)) (now (fd .entry)) (now (ro .entry)) (now (rd .entry)) (now (io .entry)) (now (id .entry)) (now (fo .exit)) (now (fd .exit)) (now (ro .exit)) (now (rd .exit)) (now (io .exit)) (now (id .exit)) ⌝ }
+    ensures { λ r. ⌜ Answers (buildLent (now (subject .entry)) first rows (now (offsets .entry)) (now (targets .entry)) (now (children .entry)) (now (kinds .entry))
+        (now (flags .entry)) depth labelled (now (chains .entry)) (now (seqs .entry)) (now (ichildren .entry)) (now (iparents .entry)) (now (ikinds .entry)) from n
+        (slicesOf (length (now (fo .entry))) (length (now (fd .entry))) (length (now (ro .entry))) (length (now (rd .entry))) (length (now (io .entry)))
+        (length (now (id .entry))))) r (now (fo .entry)) (now (fd .entry)) (now (ro .entry)) (now (rd .entry)) (now (io .entry)) (now (id .entry)) (now (fo .exit))
+        (now (fd .exit)) (now (ro .exit)) (now (rd .exit)) (now (io .exit)) (now (id .exit)) ⌝ }
 {
     let tight = are_sets_short(fo.len(), fd.len(), ro.len(), rd.len(), io.len(), id.len());
     let r = early_rules(

@@ -41,7 +41,8 @@ pub(crate) fn write_sets(
     requires { ⌜ Ready first rows from n (now offsets) (now targets) (now offs) (now list) m ⌝ }
     requires { ⌜ (2049 ≤ length (now offs)) × (4096 ≤ length (now list)) ⌝ }
     requires { ⌜ Rooms (length (now fo)) (length (now fd)) (length (now ro)) (length (now rd)) (length (now io)) (length (now id)) ⌝ }
-    ensures { λ r. ⌜ r ≡ countsOf (setAt first from n (cut (now (offsets .entry)) (now (targets .entry)))) (setAt first from n (reverseLists kinds first rows (cut (now (offsets .entry)) (now (targets .entry)))))
+    ensures { λ r. ⌜ r ≡ countsOf (setAt first from n (cut (now (offsets .entry)) (now (targets .entry))))
+        (setAt first from n (reverseLists kinds first rows (cut (now (offsets .entry)) (now (targets .entry)))))
         (setAt first from n (cut (take (2 * rows + 1) (now (offs .entry))) (take m (now (list .entry))))) ⌝ }
     ensures { λ _. ⌜ now (fo .exit) ≡ sets (now (fo .entry)) 0 (setAt first from n (cut (now (offsets .entry)) (now (targets .entry))) .offsets) ⌝ }
     ensures { λ _. ⌜ now (fd .exit) ≡ sets (now (fd .entry)) 0 (setAt first from n (cut (now (offsets .entry)) (now (targets .entry))) .deltas) ⌝ }

@@ -168,7 +168,8 @@ pub fn advance(
     requires { ⌜ Table (now keys) (now links) (now heads) n ⌝ }
     requires { ⌜ Seen left n (take m (now buf)) (now keys) (now targets) ⌝ }
     ensures { λ r. ⌜ ((r .end) ≤ (r .n)) × ((r .end) ≤ m + left) ⌝ }
-    ensures { λ r. ⌜ Laid m (now (buf .entry)) (now (buf .exit)) (r .end) (level (parentsIn first kind (now (offsets .entry)) (now (targets .entry))) left (take m (now (buf .entry))) (slice lo m (now (buf .entry)))) ⌝ }
+    ensures { λ r. ⌜ Laid m (now (buf .entry)) (now (buf .exit)) (r .end)
+        (level (parentsIn first kind (now (offsets .entry)) (now (targets .entry))) left (take m (now (buf .entry))) (slice lo m (now (buf .entry)))) ⌝ }
     ensures { λ r. ⌜ Table (now (keys .exit)) (now (links .exit)) (now (heads .exit)) (r .n) ⌝ }
     ensures { λ r. ⌜ Seen (left - ((r .end) - m)) (r .n) (take (r .end) (now (buf .exit))) (now (keys .exit)) (now (targets .entry)) ⌝ }
 {

@@ -40,7 +40,8 @@ pub fn run(
     requires { ⌜ (length (now keys) ≤ length (now buf)) × ((length (now keys) ≤ length (now w)) × (length (now keys) ≤ length (now ends) + 1)) ⌝ }
     requires { ⌜ Table (now keys) (now links) (now heads) have ⌝ }
     requires { ⌜ Seen limit have (take 1 (now buf)) (now keys) (now targets) ⌝ }
-    ensures { λ r. ⌜ Ran (levelsFrom (parentsIn first kind (now (offsets .entry)) (now (targets .entry))) limit limit (take 1 (now (buf .entry))) (take 1 (now (buf .entry)))) (now (ends .entry)) (now (buf .exit)) (now (ends .exit)) (r .end) (r .levels) ⌝ }
+    ensures { λ r. ⌜ Ran (levelsFrom (parentsIn first kind (now (offsets .entry)) (now (targets .entry))) limit limit (take 1 (now (buf .entry)))
+        (take 1 (now (buf .entry)))) (now (ends .entry)) (now (buf .exit)) (now (ends .exit)) (r .end) (r .levels) ⌝ }
 {
     let mut lo = 0;
     let mut m = 1;

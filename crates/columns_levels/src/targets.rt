@@ -22,7 +22,8 @@ pub fn read(
 ) -> Counted
     requires { ⌜ n ≤ length (now targets) ⌝ }
     ensures { λ r. ⌜ r ≡ countedOf (inOne (decodeSet kinds 0 first rows end (columnsOf count (now (offsets .entry)) (now (deltas .entry))) (room n))) ⌝ }
-    ensures { λ _. ⌜ now (targets .exit) ≡ writtenOver (take n (now (targets .entry))) (inOne (decodeSet kinds 0 first rows end (columnsOf count (now (offsets .entry)) (now (deltas .entry))) (room n))) ++ drop n (now (targets .entry)) ⌝ }
+    ensures { λ _. ⌜ now (targets .exit) ≡ writtenOver (take n (now (targets .entry)))
+        (inOne (decodeSet kinds 0 first rows end (columnsOf count (now (offsets .entry)) (now (deltas .entry))) (room n))) ++ drop n (now (targets .entry)) ⌝ }
 {
     columns_read::sets::decode_csr(
         Set::Forward,

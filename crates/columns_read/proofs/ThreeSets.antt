@@ -145,7 +145,8 @@ module _ (h : Head) (fo : List ℕ) (fd : List ℤ) (ro : List ℕ) (rd : List �
             let r = setLengths (columnsOf (h .reverse) ro rd) in
             let i = setLengths (columnsOf (h .inbound) io id) in
             let l = labelLengths (coverOf (h .cover) chains seqs) in
-            let o = or-is-false (any m (idleLabels (h .cover) chains seqs)) _ (sym (any-append m (idleLabels (h .cover) chains seqs) (f ++ (r ++ (i ++ l)))) ∙ over-none (h .rows) _ tight (parts .0)) in
+            let o = or-is-false (any m (idleLabels (h .cover) chains seqs)) _ (sym (any-append m (idleLabels (h .cover) chains seqs) (f ++ (r ++ (i ++ l))))
+            ∙ over-none (h .rows) _ tight (parts .0)) in
             let p = or-is-false _ _ (sym (any-append m f (r ++ (i ++ l))) ∙ o .1) in
             let q = or-is-false _ _ (sym (any-append m r (i ++ l)) ∙ p .1) in
             let s = or-is-false _ _ (sym (any-append m i l) ∙ q .1) in
@@ -181,7 +182,8 @@ module _ (h : Head) (fo : List ℕ) (fd : List ℤ) (ro : List ℕ) (rd : List �
           read-kept = lent-are ∙ rw (told-kept (lentGranuleRules h fo fd ro rd io id chains seqs tight) e g)
 
           pub granule-counted : (n : Counts)
-              → n ≡ countsOf (slotsOf kinds (h .first) (columnsOf (h .forward) fo fd)) (slotsOf kinds (h .first) (columnsOf (h .reverse) ro rd)) (slotsOf kinds (h .first) (columnsOf (h .inbound) io id))
+              → n ≡ countsOf (slotsOf kinds (h .first) (columnsOf (h .forward) fo fd)) (slotsOf kinds (h .first) (columnsOf (h .reverse) ro rd))
+              (slotsOf kinds (h .first) (columnsOf (h .inbound) io id))
               → Edges n ≡ decodedOf (readLent h fo fd ro rd io id chains seqs (rooms f r i))
           unfolding decodedOf granuleOf
           granule-counted n p = rw (read-kept, p)
@@ -197,17 +199,20 @@ module _ (h : Head) (fo : List ℕ) (fd : List ℤ) (ro : List ℕ) (rd : List �
             pub forward-written : length old ≡ f → out ≡ sets old 0 (joined (slotsOf kinds (h .first) (columnsOf (h .forward) fo fd)))
                 → out ≡ writtenOver old (setIn 0 (readLent h fo fd ro rd io id chains seqs (rooms f r i)))
             unfolding setIn writtenOver granuleOf
-            forward-written q p = rw read-kept (p ∙ sets-front old (joined (slotsOf kinds (h .first) (columnsOf (h .forward) fo fd))) (omega (arith, long .0, readable-few kinds (h .first) (columnsOf (h .forward) fo fd) (forward-readable g))))
+            forward-written q p = rw read-kept (p ∙ sets-front old (joined (slotsOf kinds (h .first) (columnsOf (h .forward) fo fd)))
+                (omega (arith, long .0, readable-few kinds (h .first) (columnsOf (h .forward) fo fd) (forward-readable g))))
 
             pub reverse-written : length old ≡ r → out ≡ sets old 0 (joined (slotsOf kinds (h .first) (columnsOf (h .reverse) ro rd)))
                 → out ≡ writtenOver old (setIn 1 (readLent h fo fd ro rd io id chains seqs (rooms f r i)))
             unfolding setIn writtenOver granuleOf
-            reverse-written q p = rw read-kept (p ∙ sets-front old (joined (slotsOf kinds (h .first) (columnsOf (h .reverse) ro rd))) (omega (arith, long .1, readable-few kinds (h .first) (columnsOf (h .reverse) ro rd) (reverse-readable g))))
+            reverse-written q p = rw read-kept (p ∙ sets-front old (joined (slotsOf kinds (h .first) (columnsOf (h .reverse) ro rd)))
+                (omega (arith, long .1, readable-few kinds (h .first) (columnsOf (h .reverse) ro rd) (reverse-readable g))))
 
             pub inbound-written : length old ≡ i → out ≡ sets old 0 (joined (slotsOf kinds (h .first) (columnsOf (h .inbound) io id)))
                 → out ≡ writtenOver old (setIn 2 (readLent h fo fd ro rd io id chains seqs (rooms f r i)))
             unfolding setIn writtenOver granuleOf
-            inbound-written q p = rw read-kept (p ∙ sets-front old (joined (slotsOf kinds (h .first) (columnsOf (h .inbound) io id))) (omega (arith, long .2, readable-few kinds (h .first) (columnsOf (h .inbound) io id) (inbound-readable g))))
+            inbound-written q p = rw read-kept (p ∙ sets-front old (joined (slotsOf kinds (h .first) (columnsOf (h .inbound) io id)))
+                (omega (arith, long .2, readable-few kinds (h .first) (columnsOf (h .inbound) io id) (inbound-readable g))))
 
         module _ (why : Refusal) (g : k ≡ Broken why) where
           read-broken : readLent h fo fd ro rd io id chains seqs (rooms f r i) ≡ refused why

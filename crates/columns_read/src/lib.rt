@@ -141,7 +141,8 @@ fn edge_rules(
     chains: &[u64],
     seqs: &[u64],
 ) -> Ruling
-    ensures { λ r. ⌜ r ≡ ruling (granuleRules kinds (head .first) (head .rows) (head .end) (lentGranule head (now (fo .entry)) (now (fd .entry)) (now (ro .entry)) (now (rd .entry)) (now (io .entry)) (now (id .entry)) (now (chains .entry)) (now (seqs .entry)))) ⌝ }
+    ensures { λ r. ⌜ r ≡ ruling (granuleRules kinds (head .first) (head .rows) (head .end)
+        (lentGranule head (now (fo .entry)) (now (fd .entry)) (now (ro .entry)) (now (rd .entry)) (now (io .entry)) (now (id .entry)) (now (chains .entry)) (now (seqs .entry)))) ⌝ }
 {
     let rules = sets_rules(head, fo, fd, ro, rd, io, id);
     match rules {
@@ -163,7 +164,8 @@ fn granule_rules(
     seqs: &[u64],
     tight: bool,
 ) -> Ruling
-    ensures { λ r. ⌜ r ≡ ruling (lentGranuleRules head (now (fo .entry)) (now (fd .entry)) (now (ro .entry)) (now (rd .entry)) (now (io .entry)) (now (id .entry)) (now (chains .entry)) (now (seqs .entry)) tight) ⌝ }
+    ensures { λ r. ⌜ r ≡ ruling (lentGranuleRules head (now (fo .entry)) (now (fd .entry)) (now (ro .entry)) (now (rd .entry)) (now (io .entry)) (now (id .entry))
+        (now (chains .entry)) (now (seqs .entry)) tight) ⌝ }
 {
     let over = is_granule_over(
         fo.len(),
@@ -200,7 +202,8 @@ fn write_granule(
     requires { ⌜ Readable kinds (head .first) (columnsOf (head .forward) (now fo) (now fd)) ⌝ }
     requires { ⌜ Readable kinds (head .first) (columnsOf (head .reverse) (now ro) (now rd)) ⌝ }
     requires { ⌜ Readable kinds (head .first) (columnsOf (head .inbound) (now io) (now id)) ⌝ }
-    ensures { λ r. ⌜ r ≡ countsOf (slotsOf kinds (head .first) (columnsOf (head .forward) (now (fo .entry)) (now (fd .entry)))) (slotsOf kinds (head .first) (columnsOf (head .reverse) (now (ro .entry)) (now (rd .entry)))) (slotsOf kinds (head .first) (columnsOf (head .inbound) (now (io .entry)) (now (id .entry)))) ⌝ }
+    ensures { λ r. ⌜ r ≡ countsOf (slotsOf kinds (head .first) (columnsOf (head .forward) (now (fo .entry)) (now (fd .entry))))
+        (slotsOf kinds (head .first) (columnsOf (head .reverse) (now (ro .entry)) (now (rd .entry)))) (slotsOf kinds (head .first) (columnsOf (head .inbound) (now (io .entry)) (now (id .entry)))) ⌝ }
     ensures { λ _. ⌜ now (forward .exit) ≡ sets (now (forward .entry)) 0 (joined (slotsOf kinds (head .first) (columnsOf (head .forward) (now (fo .entry)) (now (fd .entry))))) ⌝ }
     ensures { λ _. ⌜ now (reverse .exit) ≡ sets (now (reverse .entry)) 0 (joined (slotsOf kinds (head .first) (columnsOf (head .reverse) (now (ro .entry)) (now (rd .entry))))) ⌝ }
     ensures { λ _. ⌜ now (inbound .exit) ≡ sets (now (inbound .entry)) 0 (joined (slotsOf kinds (head .first) (columnsOf (head .inbound) (now (io .entry)) (now (id .entry))))) ⌝ }
@@ -231,10 +234,17 @@ pub fn decode_granule_edges(
     reverse: &mut [u64],
     inbound: &mut [u64],
 ) -> Decoded
-    ensures { λ r. ⌜ r ≡ decodedOf (readLent head (now (fo .entry)) (now (fd .entry)) (now (ro .entry)) (now (rd .entry)) (now (io .entry)) (now (id .entry)) (now (chains .entry)) (now (seqs .entry)) (rooms (length (now (forward .entry))) (length (now (reverse .entry))) (length (now (inbound .entry))))) ⌝ }
-    ensures { λ _. ⌜ now (forward .exit) ≡ writtenOver (now (forward .entry)) (setIn 0 (readLent head (now (fo .entry)) (now (fd .entry)) (now (ro .entry)) (now (rd .entry)) (now (io .entry)) (now (id .entry)) (now (chains .entry)) (now (seqs .entry)) (rooms (length (now (forward .entry))) (length (now (reverse .entry))) (length (now (inbound .entry)))))) ⌝ }
-    ensures { λ _. ⌜ now (reverse .exit) ≡ writtenOver (now (reverse .entry)) (setIn 1 (readLent head (now (fo .entry)) (now (fd .entry)) (now (ro .entry)) (now (rd .entry)) (now (io .entry)) (now (id .entry)) (now (chains .entry)) (now (seqs .entry)) (rooms (length (now (forward .entry))) (length (now (reverse .entry))) (length (now (inbound .entry)))))) ⌝ }
-    ensures { λ _. ⌜ now (inbound .exit) ≡ writtenOver (now (inbound .entry)) (setIn 2 (readLent head (now (fo .entry)) (now (fd .entry)) (now (ro .entry)) (now (rd .entry)) (now (io .entry)) (now (id .entry)) (now (chains .entry)) (now (seqs .entry)) (rooms (length (now (forward .entry))) (length (now (reverse .entry))) (length (now (inbound .entry)))))) ⌝ }
+    ensures { λ r. ⌜ r ≡ decodedOf (readLent head (now (fo .entry)) (now (fd .entry)) (now (ro .entry)) (now (rd .entry)) (now (io .entry)) (now (id .entry))
+        (now (chains .entry)) (now (seqs .entry)) (rooms (length (now (forward .entry))) (length (now (reverse .entry))) (length (now (inbound .entry))))) ⌝ }
+    ensures { λ _. ⌜ now (forward .exit) ≡ writtenOver (now (forward .entry))
+        (setIn 0 (readLent head (now (fo .entry)) (now (fd .entry)) (now (ro .entry)) (now (rd .entry)) (now (io .entry)) (now (id .entry)) (now (chains .entry))
+        (now (seqs .entry)) (rooms (length (now (forward .entry))) (length (now (reverse .entry))) (length (now (inbound .entry)))))) ⌝ }
+    ensures { λ _. ⌜ now (reverse .exit) ≡ writtenOver (now (reverse .entry))
+        (setIn 1 (readLent head (now (fo .entry)) (now (fd .entry)) (now (ro .entry)) (now (rd .entry)) (now (io .entry)) (now (id .entry)) (now (chains .entry))
+        (now (seqs .entry)) (rooms (length (now (forward .entry))) (length (now (reverse .entry))) (length (now (inbound .entry)))))) ⌝ }
+    ensures { λ _. ⌜ now (inbound .exit) ≡ writtenOver (now (inbound .entry))
+        (setIn 2 (readLent head (now (fo .entry)) (now (fd .entry)) (now (ro .entry)) (now (rd .entry)) (now (io .entry)) (now (id .entry)) (now (chains .entry))
+        (now (seqs .entry)) (rooms (length (now (forward .entry))) (length (now (reverse .entry))) (length (now (inbound .entry)))))) ⌝ }
 {
     let tight = is_any_short(forward.len(), reverse.len(), inbound.len());
     let rules = granule_rules(head, fo, fd, ro, rd, io, id, chains, seqs, tight);

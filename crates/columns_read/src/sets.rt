@@ -21,7 +21,8 @@ pub fn decode_csr(
     targets: &mut [u64],
 ) -> Counted
     ensures { λ r. ⌜ r ≡ countedOf (inOne (decodeSet kinds (setNumber set) first rows end (columnsOf count (now (offsets .entry)) (now (deltas .entry))) (room (length (now (targets .entry)))))) ⌝ }
-    ensures { λ _. ⌜ now (targets .exit) ≡ writtenOver (now (targets .entry)) (inOne (decodeSet kinds (setNumber set) first rows end (columnsOf count (now (offsets .entry)) (now (deltas .entry))) (room (length (now (targets .entry)))))) ⌝ }
+    ensures { λ _. ⌜ now (targets .exit) ≡ writtenOver (now (targets .entry))
+        (inOne (decodeSet kinds (setNumber set) first rows end (columnsOf count (now (offsets .entry)) (now (deltas .entry))) (room (length (now (targets .entry)))))) ⌝ }
 {
     let rules = sets::csr_rules(set, first, rows, end, count, offsets, deltas, targets.len());
     match rules {

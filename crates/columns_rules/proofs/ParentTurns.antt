@@ -55,7 +55,8 @@ module _ {t : Ruling} (event from to j : ℕ) (l : List ℕ) (e : t ≡ ruling (
       unfolding parentRules firstOf
       parents-on i q =
           let z : parentRules event (getD l j 0 ∷ slice from j l) (slice (suc j) to l) ≡ parentRules event (slice from (suc j) l) (slice (suc j) to l)
-          = parents-seen event (getD l j 0 ∷ slice from j l) (slice from (suc j) l) (slice (suc j) to l) (λ x. sym (ap (mem x) (slice-snoc from j l 0 i (omega arith)) ∙ mem-snoc x (slice from j l) (getD l j 0))) in
+          = parents-seen event (getD l j 0 ∷ slice from j l) (slice from (suc j) l) (slice (suc j) to l)
+          (λ x. sym (ap (mem x) (slice-snoc from j l 0 i (omega arith)) ∙ mem-snoc x (slice from j l) (getD l j 0))) in
           rw (e, slice-cons j to l 0, lt-leb event (getD l j 0) f, ← g, q, add-one, ← z) (ap ruling (last-rule (parentRules event (getD l j 0 ∷ slice from j l) (slice (suc j) to l))))
 
 pub none-yet : (event from to : ℕ) (l : List ℕ) → ruling (parentRules event [] (slice from to l)) ≡ ruling (parentRules event (slice from from l) (slice from to l))

@@ -118,7 +118,8 @@ fn is_row_sound(
     slot: usize,
 ) -> bool
     requires { ⌜ (slot + 2 < length (now offsets)) × (fromTo 0 (length (now deltas)) (now offsets) ≡ true) ⌝ }
-    ensures { λ r. ⌜ r ≡ (ltb (eventOf kinds first slot) end64 && all (sound set end (eventOf kinds first slot)) (getD (cut (now (offsets .entry)) (now (deltas .entry))) slot [] ++ getD (cut (now (offsets .entry)) (now (deltas .entry))) (slot + 1) [])) ⌝ }
+    ensures { λ r. ⌜ r ≡ (ltb (eventOf kinds first slot) end64 && all (sound set end (eventOf kinds first slot))
+        (getD (cut (now (offsets .entry)) (now (deltas .entry))) slot [] ++ getD (cut (now (offsets .entry)) (now (deltas .entry))) (slot + 1) [])) ⌝ }
 {
     if !has_event(first, slot) {
         return false;
@@ -399,8 +400,11 @@ fn write_row(
 ) -> usize
     requires { ⌜ (slot % 2 ≡ 0) × ((slot + 2 < length (now offsets)) × (at ≤ maxNumbers)) ⌝ }
     requires { ⌜ Edged kinds first (now offsets) (now deltas) ⌝ }
-    ensures { λ r. ⌜ r ≡ at + length (getD (targetsFrom kinds first 0 (cut (now (offsets .entry)) (now (deltas .entry)))) slot [] ++ getD (targetsFrom kinds first 0 (cut (now (offsets .entry)) (now (deltas .entry)))) (slot + 1) []) ⌝ }
-    ensures { λ _. ⌜ now (out .exit) ≡ sets (now (out .entry)) at (getD (targetsFrom kinds first 0 (cut (now (offsets .entry)) (now (deltas .entry)))) slot [] ++ getD (targetsFrom kinds first 0 (cut (now (offsets .entry)) (now (deltas .entry)))) (slot + 1) []) ⌝ }
+    ensures { λ r. ⌜ r ≡ at + length (getD (targetsFrom kinds first 0 (cut (now (offsets .entry)) (now (deltas .entry)))) slot []
+        ++ getD (targetsFrom kinds first 0 (cut (now (offsets .entry)) (now (deltas .entry)))) (slot + 1) []) ⌝ }
+    ensures { λ _. ⌜ now (out .exit) ≡ sets (now (out .entry)) at
+        (getD (targetsFrom kinds first 0 (cut (now (offsets .entry)) (now (deltas .entry)))) slot []
+        ++ getD (targetsFrom kinds first 0 (cut (now (offsets .entry)) (now (deltas .entry)))) (slot + 1) []) ⌝ }
 {
     let from = index(offsets[slot]);
     let to = index(offsets[slot + 2]);

@@ -29,7 +29,8 @@ one-key start n c keys keys′ links heads t e k h =
     let z : length (take n keys′) ≡ 1 = ap length (only-key start n keys keys′ e (omega arith)) in
     omega (arith, length-take n keys′, z)
 
-pub seen-first : (limit start n c d : ℕ) (targets buf keys keys′ : List ℕ) → take n keys′ ≡ addCap (length keys) (take 0 keys) start → take 1 buf ≡ start ∷ [] → length keys ≡ c → length keys′ ≡ d → d ≡ c → length targets < c
+pub seen-first : (limit start n c d : ℕ) (targets buf keys keys′ : List ℕ) → take n keys′ ≡ addCap (length keys) (take 0 keys) start → take 1 buf ≡ start ∷ []
+    → length keys ≡ c → length keys′ ≡ d → d ≡ c → length targets < c
     → Seen limit n (take 1 buf) keys′ targets
 seen-first limit start n c d targets buf keys keys′ e f k j i h =
     let o : take n keys′ ≡ start ∷ [] = only-key start n keys keys′ e (omega arith) in

@@ -52,7 +52,8 @@ same-rules n a b first rows end s e = rw (same-short n a b e)
 
 -- ── the walk ─────────────────────────────────────────────────────────────────────────────────
 
-module _ (n a b first rows end : ℕ) (s : EdgeSet) (kind limit start : ℕ) (r : Counted) (e : r ≡ countedOf (inOne (decodeSet kinds 0 first rows end s (room n)))) (q : ℕ) (mq : q ≡ min a b) (mm : n ≡ min q 4096) where
+module _ (n a b first rows end : ℕ) (s : EdgeSet) (kind limit start : ℕ) (r : Counted) (e : r ≡ countedOf (inOne (decodeSet kinds 0 first rows end s (room n)))) (q : ℕ)
+    (mq : q ≡ min a b) (mm : n ≡ min q 4096) where
   m : n ≡ min (min a b) 4096
   m = mm ∙ ap (λ (j : ℕ). min j 4096) mq
 
@@ -84,7 +85,8 @@ module _ (n a b first rows end : ℕ) (s : EdgeSet) (kind limit start : ℕ) (r 
 
     module _ (l t : List ℕ) (g : t ≡ writtenOver (take n l) (inOne (decodeSet kinds 0 first rows end s (room n))) ++ drop n l) (slot : ℕ) (ks : slot ≡ kind) where
       same-parents : levels (parentsIn first slot (s .offsets) t) limit start ≡ levels (listOf kinds first (slotsOf kinds first s) kind) limit start
-      same-parents = ap (λ (i : ℕ). levels (parentsIn first i (s .offsets) t) limit start) ks ∙ ap (λ (p : ℕ → List ℕ). levels p limit start) (parents-fun first kind (s .offsets) t (slotsOf kinds first s) (parents-are n first rows end s all-kept l t g))
+      same-parents = ap (λ (i : ℕ). levels (parentsIn first i (s .offsets) t) limit start) ks
+          ∙ ap (λ (p : ℕ → List ℕ). levels p limit start) (parents-fun first kind (s .offsets) t (slotsOf kinds first s) (parents-are n first rows end s all-kept l t g))
 
       accepted-walk : definition.walk kinds first rows end s kind limit start (rooms a b) ≡ accepted (walked (levels (parentsIn first slot (s .offsets) t) limit start))
       unfolding definition.walk lentRules unless
@@ -112,14 +114,16 @@ module _ (first rows end : ℕ) (s : EdgeSet) (kind a b : ℕ) (r : Counted) (e 
   ancestor-refused why f = sym (same-alone first rows end s) ∙ was-refused 4096 first rows end s r e why f
 
   pub ancestor-found : (k : ℕ) → r ≡ counted.Entries k → (l t : List ℕ) → t ≡ writtenOver (take 4096 l) (inOne (decodeSet kinds 0 first rows end s (room 4096))) ++ drop 4096 l
-      → (slot : ℕ) → slot ≡ kind → (o : Found) → Answer o (parentsIn first slot (s .offsets) t) a b → (q : Shared) → q ≡ sharedOf o → Promised q (lentRules kinds 0 first rows end s []) (listOf kinds first (slotsOf kinds first s) kind) a b
+      → (slot : ℕ) → slot ≡ kind → (o : Found) → Answer o (parentsIn first slot (s .offsets) t) a b → (q : Shared) → q ≡ sharedOf o
+      → Promised q (lentRules kinds 0 first rows end s []) (listOf kinds first (slotsOf kinds first s) kind) a b
   ancestor-found k f l t g slot ks o x q z =
       let c = was-read 4096 first rows end s r e k f in
       let d : lentRules kinds 0 first rows end s [] ≡ none = sym (same-alone first rows end s) ∙ c in
       let i : cut (s .offsets) t ≡ slotsOf kinds first s = parents-are 4096 first rows end s c l t g in
       rw z (go o d (subst (λ (p : ℕ → List ℕ). Answer o p a b) (ap (λ (u : ℕ). parentsIn first u (s .offsets) t) ks ∙ parents-fun first kind (s .offsets) t (slotsOf kinds first s) i) x))
     where
-      go : (o : Found) → lentRules kinds 0 first rows end s [] ≡ none → Answer o (listOf kinds first (slotsOf kinds first s) kind) a b → Promised (sharedOf o) (lentRules kinds 0 first rows end s []) (listOf kinds first (slotsOf kinds first s) kind) a b
+      go : (o : Found) → lentRules kinds 0 first rows end s [] ≡ none → Answer o (listOf kinds first (slotsOf kinds first s) kind) a b
+          → Promised (sharedOf o) (lentRules kinds 0 first rows end s []) (listOf kinds first (slotsOf kinds first s) kind) a b
       go (Number x) d y = (d, y)
       go Nothing d y = (d, y)
 

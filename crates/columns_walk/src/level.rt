@@ -93,7 +93,8 @@ fn hand(
 ) -> usize
     requires { ⌜ (kind < 2) × ((4096 ≤ length (now out)) × ((length (now visited) ≤ 4096) × (length (now targets) ≤ 4096))) ⌝ }
     ensures { λ e. ⌜ e ≡ length (level (parentsIn first kind (now (offsets .entry)) (now (targets .entry))) limit (now (visited .entry)) (now (frontier .entry))) ⌝ }
-    ensures { λ _. ⌜ now (out .exit) ≡ writtenIn (now (out .entry)) (level (parentsIn first kind (now (offsets .entry)) (now (targets .entry))) limit (now (visited .entry)) (now (frontier .entry))) ⌝ }
+    ensures { λ _. ⌜ now (out .exit) ≡ writtenIn (now (out .entry))
+        (level (parentsIn first kind (now (offsets .entry)) (now (targets .entry))) limit (now (visited .entry)) (now (frontier .entry))) ⌝ }
 {
     let mut keys = [0u64; 8192];
     let part = find(&mut keys, visited, frontier, first, kind, offsets, targets);
@@ -117,8 +118,11 @@ fn step_from(
     out: &mut [u64],
 ) -> Counted
     requires { ⌜ any (ltb maxNumbers) (length (now visited) ∷ length (now frontier) ∷ []) ≡ false ⌝ }
-    ensures { λ r. ⌜ r ≡ countedOf (step.next first rows end (columnsOf count (now (offsets .entry)) (now (deltas .entry))) (kindOf kind) limit (now (visited .entry)) (now (frontier .entry)) (room (length (now (out .entry))))) ⌝ }
-    ensures { λ _. ⌜ now (out .exit) ≡ writtenOver (now (out .entry)) (step.next first rows end (columnsOf count (now (offsets .entry)) (now (deltas .entry))) (kindOf kind) limit (now (visited .entry)) (now (frontier .entry)) (room (length (now (out .entry))))) ⌝ }
+    ensures { λ r. ⌜ r ≡ countedOf (step.next first rows end (columnsOf count (now (offsets .entry)) (now (deltas .entry))) (kindOf kind) limit (now (visited .entry))
+        (now (frontier .entry)) (room (length (now (out .entry))))) ⌝ }
+    ensures { λ _. ⌜ now (out .exit) ≡ writtenOver (now (out .entry))
+        (step.next first rows end (columnsOf count (now (offsets .entry)) (now (deltas .entry))) (kindOf kind) limit (now (visited .entry)) (now (frontier .entry))
+        (room (length (now (out .entry))))) ⌝ }
 {
     let mut decoded = [0u64; 4096];
     let n = least(out.len(), 4096);
@@ -172,8 +176,11 @@ pub fn next(
     frontier: &[u64],
     out: &mut [u64],
 ) -> Counted
-    ensures { λ r. ⌜ r ≡ countedOf (step.next first rows end (columnsOf count (now (offsets .entry)) (now (deltas .entry))) (kindOf kind) limit (now (visited .entry)) (now (frontier .entry)) (room (length (now (out .entry))))) ⌝ }
-    ensures { λ _. ⌜ now (out .exit) ≡ writtenOver (now (out .entry)) (step.next first rows end (columnsOf count (now (offsets .entry)) (now (deltas .entry))) (kindOf kind) limit (now (visited .entry)) (now (frontier .entry)) (room (length (now (out .entry))))) ⌝ }
+    ensures { λ r. ⌜ r ≡ countedOf (step.next first rows end (columnsOf count (now (offsets .entry)) (now (deltas .entry))) (kindOf kind) limit (now (visited .entry))
+        (now (frontier .entry)) (room (length (now (out .entry))))) ⌝ }
+    ensures { λ _. ⌜ now (out .exit) ≡ writtenOver (now (out .entry))
+        (step.next first rows end (columnsOf count (now (offsets .entry)) (now (deltas .entry))) (kindOf kind) limit (now (visited .entry)) (now (frontier .entry))
+        (room (length (now (out .entry))))) ⌝ }
 {
     if sets::is_over(visited.len(), frontier.len()) {
         return Counted::Refused(too_long(rows));

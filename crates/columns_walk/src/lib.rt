@@ -90,7 +90,8 @@ fn hand(
     targets: &[u64],
 ) -> Handed
     requires { ⌜ (kind < 2) × ((4096 ≤ length (now out)) × ((4096 ≤ length (now ends)) × (length (now targets) < 4097))) ⌝ }
-    ensures { λ r. ⌜ r ≡ Levels (length (levels (parentsIn first kind (now (offsets .entry)) (now (targets .entry))) limit start)) (sum length (levels (parentsIn first kind (now (offsets .entry)) (now (targets .entry))) limit start)) ⌝ }
+    ensures { λ r. ⌜ r ≡ Levels (length (levels (parentsIn first kind (now (offsets .entry)) (now (targets .entry))) limit start))
+        (sum length (levels (parentsIn first kind (now (offsets .entry)) (now (targets .entry))) limit start)) ⌝ }
     ensures { λ _. ⌜ now (out .exit) ≡ writtenIn (now (out .entry)) (joined (levels (parentsIn first kind (now (offsets .entry)) (now (targets .entry))) limit start)) ⌝ }
     ensures { λ _. ⌜ now (ends .exit) ≡ writtenIn (now (ends .entry)) (endsFrom 0 (levels (parentsIn first kind (now (offsets .entry)) (now (targets .entry))) limit start)) ⌝ }
 {
@@ -116,9 +117,14 @@ pub fn walk(
     out: &mut [u64],
     ends: &mut [u64],
 ) -> Handed
-    ensures { λ r. ⌜ r ≡ handedOf (definition.walk kinds first rows end (columnsOf count (now (offsets .entry)) (now (deltas .entry))) (kindOf kind) limit start (rooms (length (now (out .entry))) (length (now (ends .entry))))) ⌝ }
-    ensures { λ _. ⌜ now (out .exit) ≡ writtenOver (now (out .entry)) (numbersOf (definition.walk kinds first rows end (columnsOf count (now (offsets .entry)) (now (deltas .entry))) (kindOf kind) limit start (rooms (length (now (out .entry))) (length (now (ends .entry)))))) ⌝ }
-    ensures { λ _. ⌜ now (ends .exit) ≡ writtenOver (now (ends .entry)) (endsOf (definition.walk kinds first rows end (columnsOf count (now (offsets .entry)) (now (deltas .entry))) (kindOf kind) limit start (rooms (length (now (out .entry))) (length (now (ends .entry)))))) ⌝ }
+    ensures { λ r. ⌜ r ≡ handedOf (definition.walk kinds first rows end (columnsOf count (now (offsets .entry)) (now (deltas .entry))) (kindOf kind) limit start
+        (rooms (length (now (out .entry))) (length (now (ends .entry))))) ⌝ }
+    ensures { λ _. ⌜ now (out .exit) ≡ writtenOver (now (out .entry))
+        (numbersOf (definition.walk kinds first rows end (columnsOf count (now (offsets .entry)) (now (deltas .entry))) (kindOf kind) limit start
+        (rooms (length (now (out .entry))) (length (now (ends .entry)))))) ⌝ }
+    ensures { λ _. ⌜ now (ends .exit) ≡ writtenOver (now (ends .entry))
+        (endsOf (definition.walk kinds first rows end (columnsOf count (now (offsets .entry)) (now (deltas .entry))) (kindOf kind) limit start
+        (rooms (length (now (out .entry))) (length (now (ends .entry)))))) ⌝ }
 {
     let mut targets = [0u64; 4096];
     let n = least(least(out.len(), ends.len()), 4096);
@@ -161,7 +167,8 @@ pub fn ancestor(
     a: u64,
     b: u64,
 ) -> Shared
-    ensures { λ r. ⌜ Promised r (lentRules kinds 0 first rows end (columnsOf count (now (offsets .entry)) (now (deltas .entry))) []) (listOf kinds first (slotsOf kinds first (columnsOf count (now (offsets .entry)) (now (deltas .entry)))) (kindOf kind)) a b ⌝ }
+    ensures { λ r. ⌜ Promised r (lentRules kinds 0 first rows end (columnsOf count (now (offsets .entry)) (now (deltas .entry))) [])
+        (listOf kinds first (slotsOf kinds first (columnsOf count (now (offsets .entry)) (now (deltas .entry)))) (kindOf kind)) a b ⌝ }
 {
     let mut targets = [0u64; 4096];
     let answer = columns_levels::targets::read(

@@ -81,7 +81,8 @@ module _ (chains seqs s b c d : List ℕ) (lent : List Lent) where
 
 -- ── the lent slices ──────────────────────────────────────────────────────────────────────────
 
-module _ (chains seqs s b c d : List ℕ) (i m x p q r o : ℕ) (k : Ruling) (e : k ≡ ruling (buildRules (labelColumns chains seqs) (linkColumns s b c d) (forRecords (i ∷ m ∷ x ∷ p ∷ q ∷ r ∷ o ∷ [])))) (h : k ≡ Kept) where
+module _ (chains seqs s b c d : List ℕ) (i m x p q r o : ℕ) (k : Ruling)
+    (e : k ≡ ruling (buildRules (labelColumns chains seqs) (linkColumns s b c d) (forRecords (i ∷ m ∷ x ∷ p ∷ q ∷ r ∷ o ∷ [])))) (h : k ≡ Kept) where
   ranges-lent : (1024 ≤ i) × ((1024 ≤ m) × ((1024 ≤ x) × (any short (forRecords (p ∷ q ∷ r ∷ o ∷ [])) ≡ false)))
   ranges-lent =
       let f = long-first i _ (no-limit chains seqs s b c d _ k e h .1) in

@@ -58,7 +58,9 @@ fn write_stored(
 )
     requires { ⌜ evenColumns (linkColumns (now chains) (now fs) (now tc) (now ts)) ≡ true ⌝ }
     requires { ⌜ (length (now chains) ≤ length (now a)) × ((length (now chains) ≤ length (now b)) × ((length (now chains) ≤ length (now c)) × (length (now chains) ≤ length (now d)))) ⌝ }
-    ensures { λ _. ⌜ linkColumns (now (a .exit)) (now (b .exit)) (now (c .exit)) (now (d .exit)) ≡ columnsOver (linkColumns (differences 0 (now (chains .entry))) (now (fs .entry)) (now (tc .entry)) (now (ts .entry))) (linkColumns (now (a .entry)) (now (b .entry)) (now (c .entry)) (now (d .entry))) ⌝ }
+    ensures { λ _. ⌜ linkColumns (now (a .exit)) (now (b .exit)) (now (c .exit)) (now (d .exit))
+        ≡ columnsOver (linkColumns (differences 0 (now (chains .entry))) (now (fs .entry)) (now (tc .entry)) (now (ts .entry)))
+        (linkColumns (now (a .entry)) (now (b .entry)) (now (c .entry)) (now (d .entry))) ⌝ }
 {
     write_differences(chains, a);
     cover_rows::copy_column(fs, b);
@@ -77,8 +79,12 @@ pub fn encode_links(
     c: &mut [u32],
     d: &mut [u32],
 ) -> Answer
-    ensures { λ r. ⌜ r ≡ counted (λ x. x .fromChains) (encode (linkColumns (now (chains .entry)) (now (fs .entry)) (now (tc .entry)) (now (ts .entry))) (forRecords (length (now (a .entry)) ∷ length (now (b .entry)) ∷ length (now (c .entry)) ∷ length (now (d .entry)) ∷ []))) ⌝ }
-    ensures { λ _. ⌜ linkColumns (now (a .exit)) (now (b .exit)) (now (c .exit)) (now (d .exit)) ≡ columnsAfter (encode (linkColumns (now (chains .entry)) (now (fs .entry)) (now (tc .entry)) (now (ts .entry))) (forRecords (length (now (a .entry)) ∷ length (now (b .entry)) ∷ length (now (c .entry)) ∷ length (now (d .entry)) ∷ []))) (linkColumns (now (a .entry)) (now (b .entry)) (now (c .entry)) (now (d .entry))) ⌝ }
+    ensures { λ r. ⌜ r ≡ counted (λ x. x .fromChains) (encode (linkColumns (now (chains .entry)) (now (fs .entry)) (now (tc .entry)) (now (ts .entry)))
+        (forRecords (length (now (a .entry)) ∷ length (now (b .entry)) ∷ length (now (c .entry)) ∷ length (now (d .entry)) ∷ []))) ⌝ }
+    ensures { λ _. ⌜ linkColumns (now (a .exit)) (now (b .exit)) (now (c .exit)) (now (d .exit))
+        ≡ columnsAfter (encode (linkColumns (now (chains .entry)) (now (fs .entry)) (now (tc .entry)) (now (ts .entry)))
+        (forRecords (length (now (a .entry)) ∷ length (now (b .entry)) ∷ length (now (c .entry)) ∷ length (now (d .entry)) ∷ [])))
+        (linkColumns (now (a .entry)) (now (b .entry)) (now (c .entry)) (now (d .entry))) ⌝ }
 {
     if cover_rows::limits::four_over(chains.len(), fs.len(), tc.len(), ts.len()) {
         return Answer::Refused(Refusal::OverRecords);

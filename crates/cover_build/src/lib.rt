@@ -84,7 +84,8 @@ fn build_rules(
     c: usize,
     d: usize,
 ) -> Ruling
-    ensures { λ r. ⌜ r ≡ ruling (buildRules (labelColumns (now (chains .entry)) (now (seqs .entry))) (linkColumns (now (fc .entry)) (now (fs .entry)) (now (tc .entry)) (now (ts .entry))) (forRecords (ids ∷ minima ∷ maxima ∷ a ∷ b ∷ c ∷ d ∷ []))) ⌝ }
+    ensures { λ r. ⌜ r ≡ ruling (buildRules (labelColumns (now (chains .entry)) (now (seqs .entry)))
+        (linkColumns (now (fc .entry)) (now (fs .entry)) (now (tc .entry)) (now (ts .entry))) (forRecords (ids ∷ minima ∷ maxima ∷ a ∷ b ∷ c ∷ d ∷ []))) ⌝ }
 {
     if six_over(
         chains.len(),
@@ -126,7 +127,8 @@ fn write_ranges(
     requires { ⌜ length (now chains) ≤ 1024 ⌝ }
     requires { ⌜ (1024 ≤ length (now ids)) × ((1024 ≤ length (now minima)) × (1024 ≤ length (now maxima))) ⌝ }
     ensures { λ r. ⌜ r ≡ length (rangesOf (labelsOf (now (chains .entry)) (now (seqs .entry)))) ⌝ }
-    ensures { λ _. ⌜ rangeColumns (now (ids .exit)) (now (minima .exit)) (now (maxima .exit)) ≡ rangesOver (rangesOf (labelsOf (now (chains .entry)) (now (seqs .entry)))) (rangeColumns (now (ids .entry)) (now (minima .entry)) (now (maxima .entry))) ⌝ }
+    ensures { λ _. ⌜ rangeColumns (now (ids .exit)) (now (minima .exit)) (now (maxima .exit))
+        ≡ rangesOver (rangesOf (labelsOf (now (chains .entry)) (now (seqs .entry)))) (rangeColumns (now (ids .entry)) (now (minima .entry)) (now (maxima .entry))) ⌝ }
 {
     let n = labels_count(chains, seqs);
     cover_sort::labels::ranges_of(&chains[..n], &seqs[..n], ids, minima, maxima)
@@ -149,9 +151,20 @@ pub fn build(
     c: &mut [u32],
     d: &mut [u32],
 ) -> Built
-    ensures { λ r. ⌜ r ≡ builtOf (buildCover (labelColumns (now (chains .entry)) (now (seqs .entry))) (linkColumns (now (fc .entry)) (now (fs .entry)) (now (tc .entry)) (now (ts .entry))) (forRecords (length (now (ids .entry)) ∷ length (now (minima .entry)) ∷ length (now (maxima .entry)) ∷ length (now (a .entry)) ∷ length (now (b .entry)) ∷ length (now (c .entry)) ∷ length (now (d .entry)) ∷ []))) ⌝ }
-    ensures { λ _. ⌜ rangeColumns (now (ids .exit)) (now (minima .exit)) (now (maxima .exit)) ≡ rangesAfter (buildCover (labelColumns (now (chains .entry)) (now (seqs .entry))) (linkColumns (now (fc .entry)) (now (fs .entry)) (now (tc .entry)) (now (ts .entry))) (forRecords (length (now (ids .entry)) ∷ length (now (minima .entry)) ∷ length (now (maxima .entry)) ∷ length (now (a .entry)) ∷ length (now (b .entry)) ∷ length (now (c .entry)) ∷ length (now (d .entry)) ∷ []))) (rangeColumns (now (ids .entry)) (now (minima .entry)) (now (maxima .entry))) ⌝ }
-    ensures { λ _. ⌜ linkColumns (now (a .exit)) (now (b .exit)) (now (c .exit)) (now (d .exit)) ≡ linksAfter (λ x. x .links) (buildCover (labelColumns (now (chains .entry)) (now (seqs .entry))) (linkColumns (now (fc .entry)) (now (fs .entry)) (now (tc .entry)) (now (ts .entry))) (forRecords (length (now (ids .entry)) ∷ length (now (minima .entry)) ∷ length (now (maxima .entry)) ∷ length (now (a .entry)) ∷ length (now (b .entry)) ∷ length (now (c .entry)) ∷ length (now (d .entry)) ∷ []))) (linkColumns (now (a .entry)) (now (b .entry)) (now (c .entry)) (now (d .entry))) ⌝ }
+    ensures { λ r. ⌜ r ≡ builtOf (buildCover (labelColumns (now (chains .entry)) (now (seqs .entry)))
+        (linkColumns (now (fc .entry)) (now (fs .entry)) (now (tc .entry)) (now (ts .entry)))
+        (forRecords (length (now (ids .entry)) ∷ length (now (minima .entry)) ∷ length (now (maxima .entry)) ∷ length (now (a .entry)) ∷ length (now (b .entry)) ∷ length
+        (now (c .entry)) ∷ length (now (d .entry)) ∷ []))) ⌝ }
+    ensures { λ _. ⌜ rangeColumns (now (ids .exit)) (now (minima .exit)) (now (maxima .exit))
+        ≡ rangesAfter (buildCover (labelColumns (now (chains .entry)) (now (seqs .entry)))
+        (linkColumns (now (fc .entry)) (now (fs .entry)) (now (tc .entry)) (now (ts .entry)))
+        (forRecords (length (now (ids .entry)) ∷ length (now (minima .entry)) ∷ length (now (maxima .entry)) ∷ length (now (a .entry)) ∷ length (now (b .entry)) ∷ length
+        (now (c .entry)) ∷ length (now (d .entry)) ∷ []))) (rangeColumns (now (ids .entry)) (now (minima .entry)) (now (maxima .entry))) ⌝ }
+    ensures { λ _. ⌜ linkColumns (now (a .exit)) (now (b .exit)) (now (c .exit)) (now (d .exit))
+        ≡ linksAfter (λ x. x .links) (buildCover (labelColumns (now (chains .entry)) (now (seqs .entry)))
+        (linkColumns (now (fc .entry)) (now (fs .entry)) (now (tc .entry)) (now (ts .entry)))
+        (forRecords (length (now (ids .entry)) ∷ length (now (minima .entry)) ∷ length (now (maxima .entry)) ∷ length (now (a .entry)) ∷ length (now (b .entry)) ∷ length
+        (now (c .entry)) ∷ length (now (d .entry)) ∷ []))) (linkColumns (now (a .entry)) (now (b .entry)) (now (c .entry)) (now (d .entry))) ⌝ }
 {
     let rules = build_rules(
         chains,

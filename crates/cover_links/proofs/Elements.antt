@@ -1,6 +1,7 @@
 -- Steps for a walk of code over a lent slice: one element is read or written, with the borrow opened before and closed after.
 --     Lent             where a slice reference points, its ghost name, its lifetime, and the share of that lifetime's token
---     Had              what a `&mut [R]` at a list is, without its fact: obs, the borrow, the token.        Seen      what a `&[R]` at a list is, without its fact and its `res`: the token, the fractured borrow
+--     Had              what a `&mut [R]` at a list is, without its fact: obs, the borrow, the token
+--     Seen             what a `&[R]` at a list is, without its fact and its `res`: the token, the fractured borrow
 --     Opened, Looked   the same while the borrow is open at element i
 --     put-number, put-link     `*p = x`, where p points at element i of a `&mut [u32]`, of a `&mut [Link]`: the list l is l′ after it, by an equation
 --     get-number, get-link     `d = *p`, where p points at element i of a `&[u32]`, of a `&[Link]`

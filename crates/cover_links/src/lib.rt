@@ -40,7 +40,13 @@ pub extern "C" fn ridgeoven_links_apart(
     c: &mut [u32],
     d: &mut [u32],
 ) -> usize
-    ensures { λ r. ⌜ (r ≡ carried (now (links .entry)) (now (a .entry)) (now (b .entry)) (now (c .entry)) (now (d .entry))) × ((now (a .exit) ≡ over (map fromChain (take (carried (now (links .entry)) (now (a .entry)) (now (b .entry)) (now (c .entry)) (now (d .entry))) (now (links .entry)))) (now (a .entry))) × ((now (b .exit) ≡ over (map fromSeq (take (carried (now (links .entry)) (now (a .entry)) (now (b .entry)) (now (c .entry)) (now (d .entry))) (now (links .entry)))) (now (b .entry))) × ((now (c .exit) ≡ over (map toChain (take (carried (now (links .entry)) (now (a .entry)) (now (b .entry)) (now (c .entry)) (now (d .entry))) (now (links .entry)))) (now (c .entry))) × (now (d .exit) ≡ over (map toSeq (take (carried (now (links .entry)) (now (a .entry)) (now (b .entry)) (now (c .entry)) (now (d .entry))) (now (links .entry)))) (now (d .entry)))))) ⌝ }
+    ensures { λ r. ⌜ (r ≡ carried (now (links .entry)) (now (a .entry)) (now (b .entry)) (now (c .entry)) (now (d .entry)))
+        × ((now (a .exit) ≡ over (map fromChain (take (carried (now (links .entry)) (now (a .entry)) (now (b .entry)) (now (c .entry)) (now (d .entry)))
+        (now (links .entry)))) (now (a .entry))) × ((now (b .exit)
+        ≡ over (map fromSeq (take (carried (now (links .entry)) (now (a .entry)) (now (b .entry)) (now (c .entry)) (now (d .entry))) (now (links .entry))))
+        (now (b .entry))) × ((now (c .exit) ≡ over (map toChain
+        (take (carried (now (links .entry)) (now (a .entry)) (now (b .entry)) (now (c .entry)) (now (d .entry))) (now (links .entry)))) (now (c .entry)))
+        × (now (d .exit) ≡ over (map toSeq (take (carried (now (links .entry)) (now (a .entry)) (now (b .entry)) (now (c .entry)) (now (d .entry))) (now (links .entry)))) (now (d .entry)))))) ⌝ }
 {
     let n = least_of(links.len(), a.len(), b.len(), c.len(), d.len());
     let mut i = 0;
@@ -64,7 +70,9 @@ pub extern "C" fn ridgeoven_links_together(
     d: &[u32],
     links: &mut [Link],
 ) -> usize
-    ensures { λ r. ⌜ (r ≡ carried (now (links .entry)) (now (a .entry)) (now (b .entry)) (now (c .entry)) (now (d .entry))) × (now (links .exit) ≡ over (map (linkIn (now (a .entry)) (now (b .entry)) (now (c .entry)) (now (d .entry))) (places (carried (now (links .entry)) (now (a .entry)) (now (b .entry)) (now (c .entry)) (now (d .entry))))) (now (links .entry))) ⌝ }
+    ensures { λ r. ⌜ (r ≡ carried (now (links .entry)) (now (a .entry)) (now (b .entry)) (now (c .entry)) (now (d .entry)))
+        × (now (links .exit) ≡ over (map (linkIn (now (a .entry)) (now (b .entry)) (now (c .entry)) (now (d .entry)))
+        (places (carried (now (links .entry)) (now (a .entry)) (now (b .entry)) (now (c .entry)) (now (d .entry))))) (now (links .entry))) ⌝ }
 {
     let n = least_of(links.len(), a.len(), b.len(), c.len(), d.len());
     let mut i = 0;

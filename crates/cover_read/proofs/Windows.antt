@@ -37,8 +37,10 @@ module _ (a b c : List ℕ) (chain low high : ℕ) {t : Bool} (e : t ≡ any (lt
     unfolding windowAnswer mayHoldLent columnRules
     window-told q r g =
         rw (
-          next-rule (any (meets chain low high) (rangesIn a b c)) (accepted (any (meets chain low high) (rangesIn a b c))) _ _ (limits-none (rangeLengths (rangeColumns a b c)) [] [] (sym e ∙ h) (any-nil _) (any-nil _))
-              (next-rule (any (meets chain low high) (rangesIn a b c)) (accepted (any (meets chain low high) (rangesIn a b c))) _ [] (passes CoverForm (rangesFit (rangeColumns a b c)) (sym f ∙ not-false s q))
+          next-rule (any (meets chain low high) (rangesIn a b c)) (accepted (any (meets chain low high) (rangesIn a b c))) _ _
+              (limits-none (rangeLengths (rangeColumns a b c)) [] [] (sym e ∙ h) (any-nil _) (any-nil _))
+              (next-rule (any (meets chain low high) (rangesIn a b c)) (accepted (any (meets chain low high) (rangesIn a b c))) _ []
+              (passes CoverForm (rangesFit (rangeColumns a b c)) (sym f ∙ not-false s q))
               (no-rule (any (meets chain low high) (rangesIn a b c)))),
           g,
         )

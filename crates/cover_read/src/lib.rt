@@ -26,8 +26,11 @@ fn write_links(
     d: &mut [u32],
 )
     requires { ⌜ linksOk (linkColumns (now differences) (now fs) (now tc) (now ts)) ≡ true ⌝ }
-    requires { ⌜ (length (now differences) ≤ length (now a)) × ((length (now differences) ≤ length (now b)) × ((length (now differences) ≤ length (now c)) × (length (now differences) ≤ length (now d)))) ⌝ }
-    ensures { λ _. ⌜ linkColumns (now (a .exit)) (now (b .exit)) (now (c .exit)) (now (d .exit)) ≡ linksOver (storedLinks (linkColumns (now (differences .entry)) (now (fs .entry)) (now (tc .entry)) (now (ts .entry)))) (linkColumns (now (a .entry)) (now (b .entry)) (now (c .entry)) (now (d .entry))) ⌝ }
+    requires { ⌜ (length (now differences) ≤ length (now a)) × ((length (now differences) ≤ length (now b))
+        × ((length (now differences) ≤ length (now c)) × (length (now differences) ≤ length (now d)))) ⌝ }
+    ensures { λ _. ⌜ linkColumns (now (a .exit)) (now (b .exit)) (now (c .exit)) (now (d .exit))
+        ≡ linksOver (storedLinks (linkColumns (now (differences .entry)) (now (fs .entry)) (now (tc .entry)) (now (ts .entry))))
+        (linkColumns (now (a .entry)) (now (b .entry)) (now (c .entry)) (now (d .entry))) ⌝ }
 {
     cover_rows::write_sums(differences, a);
     cover_rows::copy_column(fs, b);
@@ -49,8 +52,14 @@ pub fn read(
     c: &mut [u32],
     d: &mut [u32],
 ) -> Answer
-    ensures { λ r. ⌜ r ≡ counted (λ x. x .links) (readLent (rangeColumns (now (ids .entry)) (now (minima .entry)) (now (maxima .entry))) (linkColumns (now (differences .entry)) (now (fs .entry)) (now (tc .entry)) (now (ts .entry))) (forRecords (length (now (a .entry)) ∷ length (now (b .entry)) ∷ length (now (c .entry)) ∷ length (now (d .entry)) ∷ []))) ⌝ }
-    ensures { λ _. ⌜ linkColumns (now (a .exit)) (now (b .exit)) (now (c .exit)) (now (d .exit)) ≡ linksAfter (λ x. x .links) (readLent (rangeColumns (now (ids .entry)) (now (minima .entry)) (now (maxima .entry))) (linkColumns (now (differences .entry)) (now (fs .entry)) (now (tc .entry)) (now (ts .entry))) (forRecords (length (now (a .entry)) ∷ length (now (b .entry)) ∷ length (now (c .entry)) ∷ length (now (d .entry)) ∷ []))) (linkColumns (now (a .entry)) (now (b .entry)) (now (c .entry)) (now (d .entry))) ⌝ }
+    ensures { λ r. ⌜ r ≡ counted (λ x. x .links) (readLent (rangeColumns (now (ids .entry)) (now (minima .entry)) (now (maxima .entry)))
+        (linkColumns (now (differences .entry)) (now (fs .entry)) (now (tc .entry)) (now (ts .entry)))
+        (forRecords (length (now (a .entry)) ∷ length (now (b .entry)) ∷ length (now (c .entry)) ∷ length (now (d .entry)) ∷ []))) ⌝ }
+    ensures { λ _. ⌜ linkColumns (now (a .exit)) (now (b .exit)) (now (c .exit)) (now (d .exit))
+        ≡ linksAfter (λ x. x .links) (readLent (rangeColumns (now (ids .entry)) (now (minima .entry)) (now (maxima .entry)))
+        (linkColumns (now (differences .entry)) (now (fs .entry)) (now (tc .entry)) (now (ts .entry)))
+        (forRecords (length (now (a .entry)) ∷ length (now (b .entry)) ∷ length (now (c .entry)) ∷ length (now (d .entry)) ∷ [])))
+        (linkColumns (now (a .entry)) (now (b .entry)) (now (c .entry)) (now (d .entry))) ⌝ }
 {
     if cover_rows::limits::seven_over(
         ids.len(),

@@ -28,7 +28,9 @@ fn pick_chosen(
     requires { ⌜ (notFalling (now from) ≡ true) × ((length (now from) ≤ 1024) × (length (now chains) ≤ 4096)) ⌝ }
     requires { ⌜ (length (now from) ≤ length (now a)) × ((length (now from) ≤ length (now b)) × ((length (now from) ≤ length (now c)) × (length (now from) ≤ length (now d)))) ⌝ }
     ensures { λ r. ⌜ r ≡ length (linksFrom (now (chains .entry)) (linksOf (now (from .entry)) (now (fs .entry)) (now (tc .entry)) (now (ts .entry)))) ⌝ }
-    ensures { λ _. ⌜ linkColumns (now (a .exit)) (now (b .exit)) (now (c .exit)) (now (d .exit)) ≡ linksOver (linksFrom (now (chains .entry)) (linksOf (now (from .entry)) (now (fs .entry)) (now (tc .entry)) (now (ts .entry)))) (linkColumns (now (a .entry)) (now (b .entry)) (now (c .entry)) (now (d .entry))) ⌝ }
+    ensures { λ _. ⌜ linkColumns (now (a .exit)) (now (b .exit)) (now (c .exit)) (now (d .exit))
+        ≡ linksOver (linksFrom (now (chains .entry)) (linksOf (now (from .entry)) (now (fs .entry)) (now (tc .entry)) (now (ts .entry))))
+        (linkColumns (now (a .entry)) (now (b .entry)) (now (c .entry)) (now (d .entry))) ⌝ }
 {
     let mut rows = [0usize; 1024];
     let k = crate::chosen::choose_rows(from, chains, &mut rows);
@@ -49,9 +51,12 @@ fn write_chosen(
     d: &mut [u32],
 ) -> usize
     requires { ⌜ (linksOk (linkColumns (now differences) (now fs) (now tc) (now ts)) ≡ true) × ((length (now differences) ≤ 1024) × (length (now chains) ≤ 4096)) ⌝ }
-    requires { ⌜ (length (now differences) ≤ length (now a)) × ((length (now differences) ≤ length (now b)) × ((length (now differences) ≤ length (now c)) × (length (now differences) ≤ length (now d)))) ⌝ }
+    requires { ⌜ (length (now differences) ≤ length (now a)) × ((length (now differences) ≤ length (now b))
+        × ((length (now differences) ≤ length (now c)) × (length (now differences) ≤ length (now d)))) ⌝ }
     ensures { λ r. ⌜ r ≡ length (linksFrom (now (chains .entry)) (storedLinks (linkColumns (now (differences .entry)) (now (fs .entry)) (now (tc .entry)) (now (ts .entry))))) ⌝ }
-    ensures { λ _. ⌜ linkColumns (now (a .exit)) (now (b .exit)) (now (c .exit)) (now (d .exit)) ≡ linksOver (linksFrom (now (chains .entry)) (storedLinks (linkColumns (now (differences .entry)) (now (fs .entry)) (now (tc .entry)) (now (ts .entry))))) (linkColumns (now (a .entry)) (now (b .entry)) (now (c .entry)) (now (d .entry))) ⌝ }
+    ensures { λ _. ⌜ linkColumns (now (a .exit)) (now (b .exit)) (now (c .exit)) (now (d .exit))
+        ≡ linksOver (linksFrom (now (chains .entry)) (storedLinks (linkColumns (now (differences .entry)) (now (fs .entry)) (now (tc .entry)) (now (ts .entry)))))
+        (linkColumns (now (a .entry)) (now (b .entry)) (now (c .entry)) (now (d .entry))) ⌝ }
 {
     let n = differences.len();
     let mut from = [0u32; 1024];
@@ -71,8 +76,12 @@ pub fn chain_links(
     c: &mut [u32],
     d: &mut [u32],
 ) -> Answer
-    ensures { λ r. ⌜ r ≡ counted (λ x. x) (chainLinks (linkColumns (now (differences .entry)) (now (fs .entry)) (now (tc .entry)) (now (ts .entry))) (now (chains .entry)) (forRecords (length (now (a .entry)) ∷ length (now (b .entry)) ∷ length (now (c .entry)) ∷ length (now (d .entry)) ∷ []))) ⌝ }
-    ensures { λ _. ⌜ linkColumns (now (a .exit)) (now (b .exit)) (now (c .exit)) (now (d .exit)) ≡ linksAfter (λ x. x) (chainLinks (linkColumns (now (differences .entry)) (now (fs .entry)) (now (tc .entry)) (now (ts .entry))) (now (chains .entry)) (forRecords (length (now (a .entry)) ∷ length (now (b .entry)) ∷ length (now (c .entry)) ∷ length (now (d .entry)) ∷ []))) (linkColumns (now (a .entry)) (now (b .entry)) (now (c .entry)) (now (d .entry))) ⌝ }
+    ensures { λ r. ⌜ r ≡ counted (λ x. x) (chainLinks (linkColumns (now (differences .entry)) (now (fs .entry)) (now (tc .entry)) (now (ts .entry)))
+        (now (chains .entry)) (forRecords (length (now (a .entry)) ∷ length (now (b .entry)) ∷ length (now (c .entry)) ∷ length (now (d .entry)) ∷ []))) ⌝ }
+    ensures { λ _. ⌜ linkColumns (now (a .exit)) (now (b .exit)) (now (c .exit)) (now (d .exit))
+        ≡ linksAfter (λ x. x) (chainLinks (linkColumns (now (differences .entry)) (now (fs .entry)) (now (tc .entry)) (now (ts .entry))) (now (chains .entry))
+        (forRecords (length (now (a .entry)) ∷ length (now (b .entry)) ∷ length (now (c .entry)) ∷ length (now (d .entry)) ∷ [])))
+        (linkColumns (now (a .entry)) (now (b .entry)) (now (c .entry)) (now (d .entry))) ⌝ }
 {
     if cover_rows::limits::four_over(differences.len(), fs.len(), tc.len(), ts.len()) {
         return Answer::Refused(Refusal::OverRecords);

@@ -38,7 +38,9 @@ pub fn pick_links(
     requires { ⌜ (length (now b) ≡ length (now a)) × ((length (now c) ≡ length (now a)) × (length (now d) ≡ length (now a))) ⌝ }
     requires { ⌜ (n ≤ length (now rows)) × (within (length (now a)) (take n (now rows)) ≡ true) ⌝ }
     requires { ⌜ (n ≤ length (now x)) × ((n ≤ length (now y)) × ((n ≤ length (now z)) × (n ≤ length (now w)))) ⌝ }
-    ensures { λ _. ⌜ linkColumns (now (x .exit)) (now (y .exit)) (now (z .exit)) (now (w .exit)) ≡ linksOver (map (rowAt (now (a .entry)) (now (b .entry)) (now (c .entry)) (now (d .entry))) (take n (now (rows .entry)))) (linkColumns (now (x .entry)) (now (y .entry)) (now (z .entry)) (now (w .entry))) ⌝ }
+    ensures { λ _. ⌜ linkColumns (now (x .exit)) (now (y .exit)) (now (z .exit)) (now (w .exit))
+        ≡ linksOver (map (rowAt (now (a .entry)) (now (b .entry)) (now (c .entry)) (now (d .entry))) (take n (now (rows .entry))))
+        (linkColumns (now (x .entry)) (now (y .entry)) (now (z .entry)) (now (w .entry))) ⌝ }
 {
     pick(a, rows, n, x);
     pick(b, rows, n, y);

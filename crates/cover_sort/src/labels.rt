@@ -17,7 +17,8 @@ fn put_range(
     last: u64,
 )
     requires { ⌜ (at < length (now ids)) × ((at < length (now minima)) × (at < length (now maxima))) ⌝ }
-    ensures { λ _. ⌜ rangeColumns (now (ids .exit)) (now (minima .exit)) (now (maxima .exit)) ≡ putRange at (runRange first last) (rangeColumns (now (ids .entry)) (now (minima .entry)) (now (maxima .entry))) ⌝ }
+    ensures { λ _. ⌜ rangeColumns (now (ids .exit)) (now (minima .exit)) (now (maxima .exit))
+        ≡ putRange at (runRange first last) (rangeColumns (now (ids .entry)) (now (minima .entry)) (now (maxima .entry))) ⌝ }
 {
     ids[at] = crate::packing::high(first);
     minima[at] = crate::packing::low(first);
@@ -34,7 +35,8 @@ fn join_from(
 ) -> usize
     requires { ⌜ (1 ≤ length (now keys)) × ((length (now keys) ≤ length (now ids)) × ((length (now keys) ≤ length (now minima)) × (length (now keys) ≤ length (now maxima)))) ⌝ }
     ensures { λ r. ⌜ r ≡ length (runs start start (drop 1 (now (keys .entry)))) ⌝ }
-    ensures { λ _. ⌜ rangeColumns (now (ids .exit)) (now (minima .exit)) (now (maxima .exit)) ≡ putRanges 0 (runs start start (drop 1 (now (keys .entry)))) (rangeColumns (now (ids .entry)) (now (minima .entry)) (now (maxima .entry))) ⌝ }
+    ensures { λ _. ⌜ rangeColumns (now (ids .exit)) (now (minima .exit)) (now (maxima .exit))
+        ≡ putRanges 0 (runs start start (drop 1 (now (keys .entry)))) (rangeColumns (now (ids .entry)) (now (minima .entry)) (now (maxima .entry))) ⌝ }
 {
     let mut first = start;
     let mut last = start;
@@ -61,7 +63,8 @@ fn join_from(
 fn join_runs(keys: &[u64], ids: &mut [u32], minima: &mut [u32], maxima: &mut [u32]) -> usize
     requires { ⌜ (length (now keys) ≤ length (now ids)) × ((length (now keys) ≤ length (now minima)) × (length (now keys) ≤ length (now maxima))) ⌝ }
     ensures { λ r. ⌜ r ≡ length (runsOf (now (keys .entry))) ⌝ }
-    ensures { λ _. ⌜ rangeColumns (now (ids .exit)) (now (minima .exit)) (now (maxima .exit)) ≡ putRanges 0 (runsOf (now (keys .entry))) (rangeColumns (now (ids .entry)) (now (minima .entry)) (now (maxima .entry))) ⌝ }
+    ensures { λ _. ⌜ rangeColumns (now (ids .exit)) (now (minima .exit)) (now (maxima .exit))
+        ≡ putRanges 0 (runsOf (now (keys .entry))) (rangeColumns (now (ids .entry)) (now (minima .entry)) (now (maxima .entry))) ⌝ }
 {
     if keys.len() == 0 {
         return 0;
@@ -82,7 +85,8 @@ fn ranges_by(
     requires { ⌜ (length (now seqs) ≡ length (now chains)) × ((length (now keys) ≡ length (now chains)) × (length (now chains) ≤ length (now w))) ⌝ }
     requires { ⌜ (length (now chains) ≤ length (now ids)) × ((length (now chains) ≤ length (now minima)) × (length (now chains) ≤ length (now maxima))) ⌝ }
     ensures { λ r. ⌜ r ≡ length (rangesOf (labelsOf (now (chains .entry)) (now (seqs .entry)))) ⌝ }
-    ensures { λ _. ⌜ rangeColumns (now (ids .exit)) (now (minima .exit)) (now (maxima .exit)) ≡ rangesOver (rangesOf (labelsOf (now (chains .entry)) (now (seqs .entry)))) (rangeColumns (now (ids .entry)) (now (minima .entry)) (now (maxima .entry))) ⌝ }
+    ensures { λ _. ⌜ rangeColumns (now (ids .exit)) (now (minima .exit)) (now (maxima .exit))
+        ≡ rangesOver (rangesOf (labelsOf (now (chains .entry)) (now (seqs .entry)))) (rangeColumns (now (ids .entry)) (now (minima .entry)) (now (maxima .entry))) ⌝ }
 {
     crate::packing::put_sorted_keys(chains, seqs, keys, w);
     join_runs(keys, ids, minima, maxima)
@@ -99,7 +103,8 @@ fn ranges_few(
     requires { ⌜ (length (now seqs) ≡ length (now chains)) × (length (now chains) ≤ 256) ⌝ }
     requires { ⌜ (length (now chains) ≤ length (now ids)) × ((length (now chains) ≤ length (now minima)) × (length (now chains) ≤ length (now maxima))) ⌝ }
     ensures { λ r. ⌜ r ≡ length (rangesOf (labelsOf (now (chains .entry)) (now (seqs .entry)))) ⌝ }
-    ensures { λ _. ⌜ rangeColumns (now (ids .exit)) (now (minima .exit)) (now (maxima .exit)) ≡ rangesOver (rangesOf (labelsOf (now (chains .entry)) (now (seqs .entry)))) (rangeColumns (now (ids .entry)) (now (minima .entry)) (now (maxima .entry))) ⌝ }
+    ensures { λ _. ⌜ rangeColumns (now (ids .exit)) (now (minima .exit)) (now (maxima .exit))
+        ≡ rangesOver (rangesOf (labelsOf (now (chains .entry)) (now (seqs .entry)))) (rangeColumns (now (ids .entry)) (now (minima .entry)) (now (maxima .entry))) ⌝ }
 {
     let n = chains.len();
     let mut keys = [0u64; 256];
@@ -118,7 +123,8 @@ fn ranges_many(
     requires { ⌜ (length (now seqs) ≡ length (now chains)) × (length (now chains) ≤ 1024) ⌝ }
     requires { ⌜ (length (now chains) ≤ length (now ids)) × ((length (now chains) ≤ length (now minima)) × (length (now chains) ≤ length (now maxima))) ⌝ }
     ensures { λ r. ⌜ r ≡ length (rangesOf (labelsOf (now (chains .entry)) (now (seqs .entry)))) ⌝ }
-    ensures { λ _. ⌜ rangeColumns (now (ids .exit)) (now (minima .exit)) (now (maxima .exit)) ≡ rangesOver (rangesOf (labelsOf (now (chains .entry)) (now (seqs .entry)))) (rangeColumns (now (ids .entry)) (now (minima .entry)) (now (maxima .entry))) ⌝ }
+    ensures { λ _. ⌜ rangeColumns (now (ids .exit)) (now (minima .exit)) (now (maxima .exit))
+        ≡ rangesOver (rangesOf (labelsOf (now (chains .entry)) (now (seqs .entry)))) (rangeColumns (now (ids .entry)) (now (minima .entry)) (now (maxima .entry))) ⌝ }
 {
     let n = chains.len();
     let mut keys = [0u64; 1024];
@@ -137,7 +143,8 @@ pub fn ranges_of(
     requires { ⌜ (length (now seqs) ≡ length (now chains)) × (length (now chains) ≤ 1024) ⌝ }
     requires { ⌜ (length (now chains) ≤ length (now ids)) × ((length (now chains) ≤ length (now minima)) × (length (now chains) ≤ length (now maxima))) ⌝ }
     ensures { λ r. ⌜ r ≡ length (rangesOf (labelsOf (now (chains .entry)) (now (seqs .entry)))) ⌝ }
-    ensures { λ _. ⌜ rangeColumns (now (ids .exit)) (now (minima .exit)) (now (maxima .exit)) ≡ rangesOver (rangesOf (labelsOf (now (chains .entry)) (now (seqs .entry)))) (rangeColumns (now (ids .entry)) (now (minima .entry)) (now (maxima .entry))) ⌝ }
+    ensures { λ _. ⌜ rangeColumns (now (ids .exit)) (now (minima .exit)) (now (maxima .exit))
+        ≡ rangesOver (rangesOf (labelsOf (now (chains .entry)) (now (seqs .entry)))) (rangeColumns (now (ids .entry)) (now (minima .entry)) (now (maxima .entry))) ⌝ }
 {
     if chains.len() <= 256 {
         return ranges_few(chains, seqs, ids, minima, maxima);

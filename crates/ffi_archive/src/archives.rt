@@ -97,8 +97,13 @@ pub extern "C" fn ridgeoven_write_edges(
     io: &[u64],
     id: &[i64],
 ) -> Answer
-    ensures { λ r. ⌜ r ≡ wroteOf (wrote (edgesRules (length (now (fo .entry))) (length (now (fd .entry))) (length (now (ro .entry))) (length (now (rd .entry))) (length (now (io .entry))) (length (now (id .entry))) (length (now (out .entry))) at) (at + length (recordBytes 2 (setsBytes (setFrom (now (fo .entry)) (now (fd .entry))) (setFrom (now (ro .entry)) (now (rd .entry))) (setFrom (now (io .entry)) (now (id .entry))))))) ⌝ }
-    ensures { λ _. ⌜ now (out .exit) ≡ left (edgesRules (length (now (fo .entry))) (length (now (fd .entry))) (length (now (ro .entry))) (length (now (rd .entry))) (length (now (io .entry))) (length (now (id .entry))) (length (now (out .entry))) at) (now (out .entry)) (sets (now (out .entry)) at (recordBytes 2 (setsBytes (setFrom (now (fo .entry)) (now (fd .entry))) (setFrom (now (ro .entry)) (now (rd .entry))) (setFrom (now (io .entry)) (now (id .entry)))))) ⌝ }
+    ensures { λ r. ⌜ r ≡ wroteOf (wrote (edgesRules (length (now (fo .entry))) (length (now (fd .entry))) (length (now (ro .entry))) (length (now (rd .entry)))
+        (length (now (io .entry))) (length (now (id .entry))) (length (now (out .entry))) at)
+        (at + length (recordBytes 2 (setsBytes (setFrom (now (fo .entry)) (now (fd .entry))) (setFrom (now (ro .entry)) (now (rd .entry))) (setFrom (now (io .entry)) (now (id .entry))))))) ⌝ }
+    ensures { λ _. ⌜ now (out .exit) ≡ left (edgesRules (length (now (fo .entry))) (length (now (fd .entry))) (length (now (ro .entry))) (length (now (rd .entry)))
+        (length (now (io .entry))) (length (now (id .entry))) (length (now (out .entry))) at) (now (out .entry))
+        (sets (now (out .entry)) at (recordBytes 2 (setsBytes (setFrom (now (fo .entry)) (now (fd .entry))) (setFrom (now (ro .entry)) (now (rd .entry)))
+        (setFrom (now (io .entry)) (now (id .entry)))))) ⌝ }
 {
     wrote_of(writer::write_edges(out, at, fo, fd, ro, rd, io, id))
 }
@@ -111,8 +116,10 @@ pub extern "C" fn ridgeoven_write_rows(
     flags: &[u8],
     tags: &[u64],
 ) -> Answer
-    ensures { λ r. ⌜ r ≡ wroteOf (wrote (rowsRules (length (now (flags .entry))) (length (now (tags .entry))) (length (now (out .entry))) at) (at + length (recordBytes 3 (flat rowBytes (zip2 rowFrom (now (flags .entry)) (now (tags .entry))))))) ⌝ }
-    ensures { λ _. ⌜ now (out .exit) ≡ left (rowsRules (length (now (flags .entry))) (length (now (tags .entry))) (length (now (out .entry))) at) (now (out .entry)) (sets (now (out .entry)) at (recordBytes 3 (flat rowBytes (zip2 rowFrom (now (flags .entry)) (now (tags .entry)))))) ⌝ }
+    ensures { λ r. ⌜ r ≡ wroteOf (wrote (rowsRules (length (now (flags .entry))) (length (now (tags .entry))) (length (now (out .entry))) at)
+        (at + length (recordBytes 3 (flat rowBytes (zip2 rowFrom (now (flags .entry)) (now (tags .entry))))))) ⌝ }
+    ensures { λ _. ⌜ now (out .exit) ≡ left (rowsRules (length (now (flags .entry))) (length (now (tags .entry))) (length (now (out .entry))) at) (now (out .entry))
+        (sets (now (out .entry)) at (recordBytes 3 (flat rowBytes (zip2 rowFrom (now (flags .entry)) (now (tags .entry)))))) ⌝ }
 {
     wrote_of(writer::write_rows(out, at, flags, tags))
 }

@@ -61,13 +61,34 @@ pub extern "C" fn ridgeoven_build(
     io: &mut [u64],
     id: &mut [i64],
 ) -> Granule
-    ensures { λ r. ⌜ r ≡ builtOf (encodedOf (buildLent (now (subject .entry)) first rows (now (offsets .entry)) (now (targets .entry)) (now (children .entry)) (now (kinds .entry)) (now (flags .entry)) (depthAt deep low high) (flagAt labelled) (now (chains .entry)) (now (seqs .entry)) (now (ichildren .entry)) (now (iparents .entry)) (now (ikinds .entry)) from n (slicesOf (length (now (fo .entry))) (length (now (fd .entry))) (length (now (ro .entry))) (length (now (rd .entry))) (length (now (io .entry))) (length (now (id .entry)))))) ⌝ }
-    ensures { λ _. ⌜ now (fo .exit) ≡ offsetsLaid 0 (buildLent (now (subject .entry)) first rows (now (offsets .entry)) (now (targets .entry)) (now (children .entry)) (now (kinds .entry)) (now (flags .entry)) (depthAt deep low high) (flagAt labelled) (now (chains .entry)) (now (seqs .entry)) (now (ichildren .entry)) (now (iparents .entry)) (now (ikinds .entry)) from n (slicesOf (length (now (fo .entry))) (length (now (fd .entry))) (length (now (ro .entry))) (length (now (rd .entry))) (length (now (io .entry))) (length (now (id .entry))))) (now (fo .entry)) ⌝ }
-    ensures { λ _. ⌜ now (fd .exit) ≡ deltasLaid 0 (buildLent (now (subject .entry)) first rows (now (offsets .entry)) (now (targets .entry)) (now (children .entry)) (now (kinds .entry)) (now (flags .entry)) (depthAt deep low high) (flagAt labelled) (now (chains .entry)) (now (seqs .entry)) (now (ichildren .entry)) (now (iparents .entry)) (now (ikinds .entry)) from n (slicesOf (length (now (fo .entry))) (length (now (fd .entry))) (length (now (ro .entry))) (length (now (rd .entry))) (length (now (io .entry))) (length (now (id .entry))))) (now (fd .entry)) ⌝ }
-    ensures { λ _. ⌜ now (ro .exit) ≡ offsetsLaid 1 (buildLent (now (subject .entry)) first rows (now (offsets .entry)) (now (targets .entry)) (now (children .entry)) (now (kinds .entry)) (now (flags .entry)) (depthAt deep low high) (flagAt labelled) (now (chains .entry)) (now (seqs .entry)) (now (ichildren .entry)) (now (iparents .entry)) (now (ikinds .entry)) from n (slicesOf (length (now (fo .entry))) (length (now (fd .entry))) (length (now (ro .entry))) (length (now (rd .entry))) (length (now (io .entry))) (length (now (id .entry))))) (now (ro .entry)) ⌝ }
-    ensures { λ _. ⌜ now (rd .exit) ≡ deltasLaid 1 (buildLent (now (subject .entry)) first rows (now (offsets .entry)) (now (targets .entry)) (now (children .entry)) (now (kinds .entry)) (now (flags .entry)) (depthAt deep low high) (flagAt labelled) (now (chains .entry)) (now (seqs .entry)) (now (ichildren .entry)) (now (iparents .entry)) (now (ikinds .entry)) from n (slicesOf (length (now (fo .entry))) (length (now (fd .entry))) (length (now (ro .entry))) (length (now (rd .entry))) (length (now (io .entry))) (length (now (id .entry))))) (now (rd .entry)) ⌝ }
-    ensures { λ _. ⌜ now (io .exit) ≡ offsetsLaid 2 (buildLent (now (subject .entry)) first rows (now (offsets .entry)) (now (targets .entry)) (now (children .entry)) (now (kinds .entry)) (now (flags .entry)) (depthAt deep low high) (flagAt labelled) (now (chains .entry)) (now (seqs .entry)) (now (ichildren .entry)) (now (iparents .entry)) (now (ikinds .entry)) from n (slicesOf (length (now (fo .entry))) (length (now (fd .entry))) (length (now (ro .entry))) (length (now (rd .entry))) (length (now (io .entry))) (length (now (id .entry))))) (now (io .entry)) ⌝ }
-    ensures { λ _. ⌜ now (id .exit) ≡ deltasLaid 2 (buildLent (now (subject .entry)) first rows (now (offsets .entry)) (now (targets .entry)) (now (children .entry)) (now (kinds .entry)) (now (flags .entry)) (depthAt deep low high) (flagAt labelled) (now (chains .entry)) (now (seqs .entry)) (now (ichildren .entry)) (now (iparents .entry)) (now (ikinds .entry)) from n (slicesOf (length (now (fo .entry))) (length (now (fd .entry))) (length (now (ro .entry))) (length (now (rd .entry))) (length (now (io .entry))) (length (now (id .entry))))) (now (id .entry)) ⌝ }
+    ensures { λ r. ⌜ r ≡ builtOf (encodedOf (buildLent (now (subject .entry)) first rows (now (offsets .entry)) (now (targets .entry)) (now (children .entry))
+        (now (kinds .entry)) (now (flags .entry)) (depthAt deep low high) (flagAt labelled) (now (chains .entry)) (now (seqs .entry)) (now (ichildren .entry))
+        (now (iparents .entry)) (now (ikinds .entry)) from n (slicesOf (length (now (fo .entry))) (length (now (fd .entry))) (length (now (ro .entry)))
+        (length (now (rd .entry))) (length (now (io .entry))) (length (now (id .entry)))))) ⌝ }
+    ensures { λ _. ⌜ now (fo .exit) ≡ offsetsLaid 0 (buildLent (now (subject .entry)) first rows (now (offsets .entry)) (now (targets .entry)) (now (children .entry))
+        (now (kinds .entry)) (now (flags .entry)) (depthAt deep low high) (flagAt labelled) (now (chains .entry)) (now (seqs .entry)) (now (ichildren .entry))
+        (now (iparents .entry)) (now (ikinds .entry)) from n (slicesOf (length (now (fo .entry))) (length (now (fd .entry))) (length (now (ro .entry)))
+        (length (now (rd .entry))) (length (now (io .entry))) (length (now (id .entry))))) (now (fo .entry)) ⌝ }
+    ensures { λ _. ⌜ now (fd .exit) ≡ deltasLaid 0 (buildLent (now (subject .entry)) first rows (now (offsets .entry)) (now (targets .entry)) (now (children .entry))
+        (now (kinds .entry)) (now (flags .entry)) (depthAt deep low high) (flagAt labelled) (now (chains .entry)) (now (seqs .entry)) (now (ichildren .entry))
+        (now (iparents .entry)) (now (ikinds .entry)) from n (slicesOf (length (now (fo .entry))) (length (now (fd .entry))) (length (now (ro .entry)))
+        (length (now (rd .entry))) (length (now (io .entry))) (length (now (id .entry))))) (now (fd .entry)) ⌝ }
+    ensures { λ _. ⌜ now (ro .exit) ≡ offsetsLaid 1 (buildLent (now (subject .entry)) first rows (now (offsets .entry)) (now (targets .entry)) (now (children .entry))
+        (now (kinds .entry)) (now (flags .entry)) (depthAt deep low high) (flagAt labelled) (now (chains .entry)) (now (seqs .entry)) (now (ichildren .entry))
+        (now (iparents .entry)) (now (ikinds .entry)) from n (slicesOf (length (now (fo .entry))) (length (now (fd .entry))) (length (now (ro .entry)))
+        (length (now (rd .entry))) (length (now (io .entry))) (length (now (id .entry))))) (now (ro .entry)) ⌝ }
+    ensures { λ _. ⌜ now (rd .exit) ≡ deltasLaid 1 (buildLent (now (subject .entry)) first rows (now (offsets .entry)) (now (targets .entry)) (now (children .entry))
+        (now (kinds .entry)) (now (flags .entry)) (depthAt deep low high) (flagAt labelled) (now (chains .entry)) (now (seqs .entry)) (now (ichildren .entry))
+        (now (iparents .entry)) (now (ikinds .entry)) from n (slicesOf (length (now (fo .entry))) (length (now (fd .entry))) (length (now (ro .entry)))
+        (length (now (rd .entry))) (length (now (io .entry))) (length (now (id .entry))))) (now (rd .entry)) ⌝ }
+    ensures { λ _. ⌜ now (io .exit) ≡ offsetsLaid 2 (buildLent (now (subject .entry)) first rows (now (offsets .entry)) (now (targets .entry)) (now (children .entry))
+        (now (kinds .entry)) (now (flags .entry)) (depthAt deep low high) (flagAt labelled) (now (chains .entry)) (now (seqs .entry)) (now (ichildren .entry))
+        (now (iparents .entry)) (now (ikinds .entry)) from n (slicesOf (length (now (fo .entry))) (length (now (fd .entry))) (length (now (ro .entry)))
+        (length (now (rd .entry))) (length (now (io .entry))) (length (now (id .entry))))) (now (io .entry)) ⌝ }
+    ensures { λ _. ⌜ now (id .exit) ≡ deltasLaid 2 (buildLent (now (subject .entry)) first rows (now (offsets .entry)) (now (targets .entry)) (now (children .entry))
+        (now (kinds .entry)) (now (flags .entry)) (depthAt deep low high) (flagAt labelled) (now (chains .entry)) (now (seqs .entry)) (now (ichildren .entry))
+        (now (iparents .entry)) (now (ikinds .entry)) from n (slicesOf (length (now (fo .entry))) (length (now (fd .entry))) (length (now (ro .entry)))
+        (length (now (rd .entry))) (length (now (io .entry))) (length (now (id .entry))))) (now (id .entry)) ⌝ }
 {
     built_of(encode_graph_blocks(
         subject,

@@ -11,7 +11,10 @@ use Rattle.columns.specs.Limits.{kinds}
 use Rattle.columns.specs.Refusal as verdict
 use Rattle.columns.specs.Refusal.{Verdict, numberOf}
 use Rattle.columns.specs.declared.refusal.Refusal.{Refusal}
-use Rattle.columns.specs.declared.refusal.Refusal.the-variants.{SubjectLength, EdgeEntries, NumberRange, ParentNotEarlier, ParentTwice, UnresolvedChild, UnresolvedKind, DepthOrder, LabelCount, SeqNotRising, InboundChild, InboundParent, InboundTwice, GranuleRows, DeltaRange, RootOutside, OffsetsForm, DeltaCount, TargetSide, LabelColumns, LabelRange, CoverForm, RecordBroken, GroupOrder, SourceOrder, CoverInSome, NoSurvivor, OutOfTurn, SliceShort, OverRecords, OverNumbers}
+use Rattle.columns.specs.declared.refusal.Refusal.the-variants.{SubjectLength, EdgeEntries, NumberRange, ParentNotEarlier, ParentTwice, UnresolvedChild, UnresolvedKind}
+use Rattle.columns.specs.declared.refusal.Refusal.the-variants.{DepthOrder, LabelCount, SeqNotRising, InboundChild, InboundParent, InboundTwice, GranuleRows, DeltaRange}
+use Rattle.columns.specs.declared.refusal.Refusal.the-variants.{RootOutside, OffsetsForm, DeltaCount, TargetSide, LabelColumns, LabelRange, CoverForm, RecordBroken}
+use Rattle.columns.specs.declared.refusal.Refusal.the-variants.{GroupOrder, SourceOrder, CoverInSome, NoSurvivor, OutOfTurn, SliceShort, OverRecords, OverNumbers}
 use Rattle.archive.specs.Parse.{parse}
 use Rattle.cleaning.specs.Step.{Call, takes, resolves, writes, maps, counts, Bytes, allOf, Answer, refused, done, wrote, told, counted, printed, writeInto}
 use Rattle.cleaning.specs.Sheet.{Sheet, summaryOf}

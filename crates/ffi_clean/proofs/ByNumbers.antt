@@ -53,4 +53,9 @@ module _ (n : ℕ) (was : List ℕ) where
       → GivesBy (wordsFrom n) was is r
   told-by {m = m} h w e =
       gives-by (Length m)
-      (record { answers = ap₂ (λ k l. step.wrote (record { length = k; bytes = l })) (all-of w h) (front w h) ∙ by-room false (le-ltb (length was) 120 h); rest = behind w h; within = omega (arith, w .next, w .short) }) e
+      (record {
+        answers = ap₂ (λ k l. step.wrote (record { length = k; bytes = l })) (all-of w h) (front w h)
+            ∙ by-room false (le-ltb (length was) 120 h);
+        rest = behind w h;
+        within = omega (arith, w .next, w .short);
+      }) e

@@ -83,47 +83,58 @@ module _ (last n m : ℕ) (h : n ≤ last) (e : m ≡ n) where
 
 -- one set
 module _ (first rows end : ℕ) (s : EdgeSet) (lent : List Lent) (n m : ℕ) (h : n ≤ 2) (e : m ≡ n) where
-  pub set-told : (x : Counted) {r : Answer} → x ≡ countedOf (inOne (decodeSet kinds m first rows end s lent)) → r ≡ countOf x → r ≡ countOf (countedOf (after (unnamed edgeSets n) (inOne (decodeSet kinds n first rows end s lent))))
+  pub set-told : (x : Counted) {r : Answer} → x ≡ countedOf (inOne (decodeSet kinds m first rows end s lent)) → r ≡ countOf x
+      → r ≡ countOf (countedOf (after (unnamed edgeSets n) (inOne (decodeSet kinds n first rows end s lent))))
   set-told = named-counted 2 n m h e (λ k. inOne (decodeSet kinds k first rows end s lent))
 
-  pub set-written : (old out : List ℕ) → out ≡ writtenOver old (inOne (decodeSet kinds m first rows end s lent)) → out ≡ writtenOver old (after (unnamed edgeSets n) (inOne (decodeSet kinds n first rows end s lent)))
+  pub set-written : (old out : List ℕ) → out ≡ writtenOver old (inOne (decodeSet kinds m first rows end s lent))
+      → out ≡ writtenOver old (after (unnamed edgeSets n) (inOne (decodeSet kinds n first rows end s lent)))
   set-written = named-written 2 n m h e (λ k. inOne (decodeSet kinds k first rows end s lent))
 
 -- questions of a kind
 module _ (first rows end : ℕ) (s : EdgeSet) (lent : List Lent) (n m : ℕ) (h : n ≤ 1) (e : m ≡ n) where
   module _ (number : ℕ) where
-    pub parents-told : (x : Counted) {r : Answer} → x ≡ countedOf (parents kinds first rows end s m number lent) → r ≡ countOf x → r ≡ countOf (countedOf (after (unnamed kinds n) (parents kinds first rows end s n number lent)))
+    pub parents-told : (x : Counted) {r : Answer} → x ≡ countedOf (parents kinds first rows end s m number lent) → r ≡ countOf x
+        → r ≡ countOf (countedOf (after (unnamed kinds n) (parents kinds first rows end s n number lent)))
     parents-told = named-counted 1 n m h e (λ k. parents kinds first rows end s k number lent)
 
-    pub parents-written : (old out : List ℕ) → out ≡ writtenOver old (parents kinds first rows end s m number lent) → out ≡ writtenOver old (after (unnamed kinds n) (parents kinds first rows end s n number lent))
+    pub parents-written : (old out : List ℕ) → out ≡ writtenOver old (parents kinds first rows end s m number lent)
+        → out ≡ writtenOver old (after (unnamed kinds n) (parents kinds first rows end s n number lent))
     parents-written = named-written 1 n m h e (λ k. parents kinds first rows end s k number lent)
 
     module _ (i : EdgeSet) where
-      pub children-told : (x : Counted) {r : Answer} → x ≡ countedOf (children kinds first rows end s i m number lent) → r ≡ countOf x → r ≡ countOf (countedOf (after (unnamed kinds n) (children kinds first rows end s i n number lent)))
+      pub children-told : (x : Counted) {r : Answer} → x ≡ countedOf (children kinds first rows end s i m number lent) → r ≡ countOf x
+          → r ≡ countOf (countedOf (after (unnamed kinds n) (children kinds first rows end s i n number lent)))
       children-told = named-counted 1 n m h e (λ k. children kinds first rows end s i k number lent)
 
-      pub children-written : (old out : List ℕ) → out ≡ writtenOver old (children kinds first rows end s i m number lent) → out ≡ writtenOver old (after (unnamed kinds n) (children kinds first rows end s i n number lent))
+      pub children-written : (old out : List ℕ) → out ≡ writtenOver old (children kinds first rows end s i m number lent)
+          → out ≡ writtenOver old (after (unnamed kinds n) (children kinds first rows end s i n number lent))
       children-written = named-written 1 n m h e (λ k. children kinds first rows end s i k number lent)
 
   module _ (limit : ℕ) where
     module _ (visited frontier : List ℕ) where
-      pub next-told : (x : Counted) {r : Answer} → x ≡ countedOf (next first rows end s m limit visited frontier lent) → r ≡ countOf x → r ≡ countOf (countedOf (after (unnamed kinds n) (next first rows end s n limit visited frontier lent)))
+      pub next-told : (x : Counted) {r : Answer} → x ≡ countedOf (next first rows end s m limit visited frontier lent) → r ≡ countOf x
+          → r ≡ countOf (countedOf (after (unnamed kinds n) (next first rows end s n limit visited frontier lent)))
       next-told = named-counted 1 n m h e (λ k. next first rows end s k limit visited frontier lent)
 
-      pub next-written : (old out : List ℕ) → out ≡ writtenOver old (next first rows end s m limit visited frontier lent) → out ≡ writtenOver old (after (unnamed kinds n) (next first rows end s n limit visited frontier lent))
+      pub next-written : (old out : List ℕ) → out ≡ writtenOver old (next first rows end s m limit visited frontier lent)
+          → out ≡ writtenOver old (after (unnamed kinds n) (next first rows end s n limit visited frontier lent))
       next-written = named-written 1 n m h e (λ k. next first rows end s k limit visited frontier lent)
 
     module _ (start : ℕ) where
       named-walk : after (unnamed kinds n) (walk kinds first rows end s n limit start lent) ≡ walk kinds first rows end s m limit start lent
       named-walk = of-named 1 n h (walk kinds first rows end s n limit start lent) ∙ rw e
 
-      pub walk-told : (x : Handed) {r : walks.Walked} → x ≡ handedOf (walk kinds first rows end s m limit start lent) → r ≡ walkedOf x → r ≡ walkedOf (handedOf (after (unnamed kinds n) (walk kinds first rows end s n limit start lent)))
+      pub walk-told : (x : Handed) {r : walks.Walked} → x ≡ handedOf (walk kinds first rows end s m limit start lent) → r ≡ walkedOf x
+          → r ≡ walkedOf (handedOf (after (unnamed kinds n) (walk kinds first rows end s n limit start lent)))
       walk-told x p q = rw named-walk (q ∙ ap walkedOf p)
 
-      pub numbers-written : (old out : List ℕ) → out ≡ writtenOver old (numbersOf (walk kinds first rows end s m limit start lent)) → out ≡ writtenOver old (numbersOf (after (unnamed kinds n) (walk kinds first rows end s n limit start lent)))
+      pub numbers-written : (old out : List ℕ) → out ≡ writtenOver old (numbersOf (walk kinds first rows end s m limit start lent))
+          → out ≡ writtenOver old (numbersOf (after (unnamed kinds n) (walk kinds first rows end s n limit start lent)))
       numbers-written old out p = rw named-walk p
 
-      pub ends-written : (old out : List ℕ) → out ≡ writtenOver old (endsOf (walk kinds first rows end s m limit start lent)) → out ≡ writtenOver old (endsOf (after (unnamed kinds n) (walk kinds first rows end s n limit start lent)))
+      pub ends-written : (old out : List ℕ) → out ≡ writtenOver old (endsOf (walk kinds first rows end s m limit start lent))
+          → out ≡ writtenOver old (endsOf (after (unnamed kinds n) (walk kinds first rows end s n limit start lent)))
       ends-written old out p = rw named-walk p
 
 -- ── a granule, by whether it has a cover ─────────────────────────────────────────────────────

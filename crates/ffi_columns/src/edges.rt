@@ -41,8 +41,10 @@ pub extern "C" fn ridgeoven_read_set(
     deltas: &[i64],
     targets: &mut [u64],
 ) -> Answer
-    ensures { λ r. ⌜ r ≡ countOf (countedOf (after (unnamed edgeSets set) (inOne (decodeSet kinds set first rows end (columnsOf count (now (offsets .entry)) (now (deltas .entry))) (room (length (now (targets .entry)))))))) ⌝ }
-    ensures { λ _. ⌜ now (targets .exit) ≡ writtenOver (now (targets .entry)) (after (unnamed edgeSets set) (inOne (decodeSet kinds set first rows end (columnsOf count (now (offsets .entry)) (now (deltas .entry))) (room (length (now (targets .entry))))))) ⌝ }
+    ensures { λ r. ⌜ r ≡ countOf (countedOf (after (unnamed edgeSets set)
+        (inOne (decodeSet kinds set first rows end (columnsOf count (now (offsets .entry)) (now (deltas .entry))) (room (length (now (targets .entry)))))))) ⌝ }
+    ensures { λ _. ⌜ now (targets .exit) ≡ writtenOver (now (targets .entry))
+        (after (unnamed edgeSets set) (inOne (decodeSet kinds set first rows end (columnsOf count (now (offsets .entry)) (now (deltas .entry))) (room (length (now (targets .entry))))))) ⌝ }
 {
     if 2 < set {
         return count_of(Counted::Refused(Refusal::InboundParent));
@@ -90,10 +92,18 @@ pub extern "C" fn ridgeoven_read_granule(
     reverse: &mut [u64],
     inbound: &mut [u64],
 ) -> Granule
-    ensures { λ r. ⌜ r ≡ granuleOf (decodedOf (readLent (headAt first rows end fcount rcount icount cover) (now (fo .entry)) (now (fd .entry)) (now (ro .entry)) (now (rd .entry)) (now (io .entry)) (now (id .entry)) (now (chains .entry)) (now (seqs .entry)) (rooms (length (now (forward .entry))) (length (now (reverse .entry))) (length (now (inbound .entry)))))) ⌝ }
-    ensures { λ _. ⌜ now (forward .exit) ≡ writtenOver (now (forward .entry)) (setIn 0 (readLent (headAt first rows end fcount rcount icount cover) (now (fo .entry)) (now (fd .entry)) (now (ro .entry)) (now (rd .entry)) (now (io .entry)) (now (id .entry)) (now (chains .entry)) (now (seqs .entry)) (rooms (length (now (forward .entry))) (length (now (reverse .entry))) (length (now (inbound .entry)))))) ⌝ }
-    ensures { λ _. ⌜ now (reverse .exit) ≡ writtenOver (now (reverse .entry)) (setIn 1 (readLent (headAt first rows end fcount rcount icount cover) (now (fo .entry)) (now (fd .entry)) (now (ro .entry)) (now (rd .entry)) (now (io .entry)) (now (id .entry)) (now (chains .entry)) (now (seqs .entry)) (rooms (length (now (forward .entry))) (length (now (reverse .entry))) (length (now (inbound .entry)))))) ⌝ }
-    ensures { λ _. ⌜ now (inbound .exit) ≡ writtenOver (now (inbound .entry)) (setIn 2 (readLent (headAt first rows end fcount rcount icount cover) (now (fo .entry)) (now (fd .entry)) (now (ro .entry)) (now (rd .entry)) (now (io .entry)) (now (id .entry)) (now (chains .entry)) (now (seqs .entry)) (rooms (length (now (forward .entry))) (length (now (reverse .entry))) (length (now (inbound .entry)))))) ⌝ }
+    ensures { λ r. ⌜ r ≡ granuleOf (decodedOf (readLent (headAt first rows end fcount rcount icount cover) (now (fo .entry)) (now (fd .entry)) (now (ro .entry))
+        (now (rd .entry)) (now (io .entry)) (now (id .entry)) (now (chains .entry)) (now (seqs .entry))
+        (rooms (length (now (forward .entry))) (length (now (reverse .entry))) (length (now (inbound .entry)))))) ⌝ }
+    ensures { λ _. ⌜ now (forward .exit) ≡ writtenOver (now (forward .entry))
+        (setIn 0 (readLent (headAt first rows end fcount rcount icount cover) (now (fo .entry)) (now (fd .entry)) (now (ro .entry)) (now (rd .entry)) (now (io .entry))
+        (now (id .entry)) (now (chains .entry)) (now (seqs .entry)) (rooms (length (now (forward .entry))) (length (now (reverse .entry))) (length (now (inbound .entry)))))) ⌝ }
+    ensures { λ _. ⌜ now (reverse .exit) ≡ writtenOver (now (reverse .entry))
+        (setIn 1 (readLent (headAt first rows end fcount rcount icount cover) (now (fo .entry)) (now (fd .entry)) (now (ro .entry)) (now (rd .entry)) (now (io .entry))
+        (now (id .entry)) (now (chains .entry)) (now (seqs .entry)) (rooms (length (now (forward .entry))) (length (now (reverse .entry))) (length (now (inbound .entry)))))) ⌝ }
+    ensures { λ _. ⌜ now (inbound .exit) ≡ writtenOver (now (inbound .entry))
+        (setIn 2 (readLent (headAt first rows end fcount rcount icount cover) (now (fo .entry)) (now (fd .entry)) (now (ro .entry)) (now (rd .entry)) (now (io .entry))
+        (now (id .entry)) (now (chains .entry)) (now (seqs .entry)) (rooms (length (now (forward .entry))) (length (now (reverse .entry))) (length (now (inbound .entry)))))) ⌝ }
 {
     let head = Head {
         first: first,
@@ -133,8 +143,10 @@ pub extern "C" fn ridgeoven_parents(
     number: u64,
     list: &mut [u64],
 ) -> Answer
-    ensures { λ r. ⌜ r ≡ countOf (countedOf (after (unnamed kinds kind) (asked.parents kinds first rows end (columnsOf count (now (offsets .entry)) (now (deltas .entry))) kind number (room (length (now (list .entry))))))) ⌝ }
-    ensures { λ _. ⌜ now (list .exit) ≡ writtenOver (now (list .entry)) (after (unnamed kinds kind) (asked.parents kinds first rows end (columnsOf count (now (offsets .entry)) (now (deltas .entry))) kind number (room (length (now (list .entry)))))) ⌝ }
+    ensures { λ r. ⌜ r ≡ countOf (countedOf (after (unnamed kinds kind)
+        (asked.parents kinds first rows end (columnsOf count (now (offsets .entry)) (now (deltas .entry))) kind number (room (length (now (list .entry))))))) ⌝ }
+    ensures { λ _. ⌜ now (list .exit) ≡ writtenOver (now (list .entry))
+        (after (unnamed kinds kind) (asked.parents kinds first rows end (columnsOf count (now (offsets .entry)) (now (deltas .entry))) kind number (room (length (now (list .entry)))))) ⌝ }
 {
     if 1 < kind {
         return count_of(Counted::Refused(Refusal::InboundParent));
@@ -167,8 +179,12 @@ pub extern "C" fn ridgeoven_children(
     number: u64,
     list: &mut [u64],
 ) -> Answer
-    ensures { λ r. ⌜ r ≡ countOf (countedOf (after (unnamed kinds kind) (asked.children kinds first rows end (columnsOf rcount (now (ro .entry)) (now (rd .entry))) (columnsOf icount (now (io .entry)) (now (id .entry))) kind number (room (length (now (list .entry))))))) ⌝ }
-    ensures { λ _. ⌜ now (list .exit) ≡ writtenOver (now (list .entry)) (after (unnamed kinds kind) (asked.children kinds first rows end (columnsOf rcount (now (ro .entry)) (now (rd .entry))) (columnsOf icount (now (io .entry)) (now (id .entry))) kind number (room (length (now (list .entry)))))) ⌝ }
+    ensures { λ r. ⌜ r ≡ countOf (countedOf (after (unnamed kinds kind)
+        (asked.children kinds first rows end (columnsOf rcount (now (ro .entry)) (now (rd .entry))) (columnsOf icount (now (io .entry)) (now (id .entry))) kind number
+        (room (length (now (list .entry))))))) ⌝ }
+    ensures { λ _. ⌜ now (list .exit) ≡ writtenOver (now (list .entry))
+        (after (unnamed kinds kind) (asked.children kinds first rows end (columnsOf rcount (now (ro .entry)) (now (rd .entry)))
+        (columnsOf icount (now (io .entry)) (now (id .entry))) kind number (room (length (now (list .entry)))))) ⌝ }
 {
     if 1 < kind {
         return count_of(Counted::Refused(Refusal::InboundParent));

@@ -60,9 +60,15 @@ pub extern "C" fn ridgeoven_walk(
     numbers: &mut [u64],
     ends: &mut [u64],
 ) -> Walked
-    ensures { λ r. ⌜ r ≡ walkedOf (handedOf (after (unnamed kinds kind) (definition.walk kinds first rows end (columnsOf count (now (offsets .entry)) (now (deltas .entry))) kind limit start (rooms (length (now (numbers .entry))) (length (now (ends .entry))))))) ⌝ }
-    ensures { λ _. ⌜ now (numbers .exit) ≡ writtenOver (now (numbers .entry)) (numbersOf (after (unnamed kinds kind) (definition.walk kinds first rows end (columnsOf count (now (offsets .entry)) (now (deltas .entry))) kind limit start (rooms (length (now (numbers .entry))) (length (now (ends .entry))))))) ⌝ }
-    ensures { λ _. ⌜ now (ends .exit) ≡ writtenOver (now (ends .entry)) (endsOf (after (unnamed kinds kind) (definition.walk kinds first rows end (columnsOf count (now (offsets .entry)) (now (deltas .entry))) kind limit start (rooms (length (now (numbers .entry))) (length (now (ends .entry))))))) ⌝ }
+    ensures { λ r. ⌜ r ≡ walkedOf (handedOf (after (unnamed kinds kind)
+        (definition.walk kinds first rows end (columnsOf count (now (offsets .entry)) (now (deltas .entry))) kind limit start
+        (rooms (length (now (numbers .entry))) (length (now (ends .entry))))))) ⌝ }
+    ensures { λ _. ⌜ now (numbers .exit) ≡ writtenOver (now (numbers .entry))
+        (numbersOf (after (unnamed kinds kind) (definition.walk kinds first rows end (columnsOf count (now (offsets .entry)) (now (deltas .entry))) kind limit start
+        (rooms (length (now (numbers .entry))) (length (now (ends .entry))))))) ⌝ }
+    ensures { λ _. ⌜ now (ends .exit) ≡ writtenOver (now (ends .entry))
+        (endsOf (after (unnamed kinds kind) (definition.walk kinds first rows end (columnsOf count (now (offsets .entry)) (now (deltas .entry))) kind limit start
+        (rooms (length (now (numbers .entry))) (length (now (ends .entry))))))) ⌝ }
 {
     if 1 < kind {
         return walked_of(Handed::Refused(Refusal::InboundParent));
@@ -97,8 +103,11 @@ pub extern "C" fn ridgeoven_next(
     frontier: &[u64],
     level: &mut [u64],
 ) -> Answer
-    ensures { λ r. ⌜ r ≡ countOf (countedOf (after (unnamed kinds kind) (step.next first rows end (columnsOf count (now (offsets .entry)) (now (deltas .entry))) kind limit (now (visited .entry)) (now (frontier .entry)) (room (length (now (level .entry))))))) ⌝ }
-    ensures { λ _. ⌜ now (level .exit) ≡ writtenOver (now (level .entry)) (after (unnamed kinds kind) (step.next first rows end (columnsOf count (now (offsets .entry)) (now (deltas .entry))) kind limit (now (visited .entry)) (now (frontier .entry)) (room (length (now (level .entry)))))) ⌝ }
+    ensures { λ r. ⌜ r ≡ countOf (countedOf (after (unnamed kinds kind)
+        (step.next first rows end (columnsOf count (now (offsets .entry)) (now (deltas .entry))) kind limit (now (visited .entry)) (now (frontier .entry)) (room (length (now (level .entry))))))) ⌝ }
+    ensures { λ _. ⌜ now (level .exit) ≡ writtenOver (now (level .entry))
+        (after (unnamed kinds kind) (step.next first rows end (columnsOf count (now (offsets .entry)) (now (deltas .entry))) kind limit (now (visited .entry))
+        (now (frontier .entry)) (room (length (now (level .entry)))))) ⌝ }
 {
     if 1 < kind {
         return count_of(Counted::Refused(Refusal::InboundParent));
@@ -160,7 +169,8 @@ pub extern "C" fn ridgeoven_ancestor(
     a: u64,
     b: u64,
 ) -> Ancestor
-    ensures { λ r. ⌜ PromisedBy r (firstOf (unnamed kinds kind ∷ lentRules kinds 0 first rows end (columnsOf count (now (offsets .entry)) (now (deltas .entry))) [] ∷ [])) (listOf kinds first (slotsOf kinds first (columnsOf count (now (offsets .entry)) (now (deltas .entry)))) kind) a b ⌝ }
+    ensures { λ r. ⌜ PromisedBy r (firstOf (unnamed kinds kind ∷ lentRules kinds 0 first rows end
+        (columnsOf count (now (offsets .entry)) (now (deltas .entry))) [] ∷ [])) (listOf kinds first (slotsOf kinds first (columnsOf count (now (offsets .entry)) (now (deltas .entry)))) kind) a b ⌝ }
 {
     if 1 < kind {
         return ancestor_of(Shared::Refused(Refusal::InboundParent));

@@ -37,8 +37,13 @@ pub extern "C" fn ridgeoven_cover_store(
     c: &mut [u32],
     d: &mut [u32],
 ) -> Answer
-    ensures { λ r. ⌜ r ≡ recordsOf (counted (λ x. x .fromChains) (encode (linkColumns (now (fc .entry)) (now (fs .entry)) (now (tc .entry)) (now (ts .entry))) (forRecords (length (now (a .entry)) ∷ length (now (b .entry)) ∷ length (now (c .entry)) ∷ length (now (d .entry)) ∷ [])))) ⌝ }
-    ensures { λ _. ⌜ linkColumns (now (a .exit)) (now (b .exit)) (now (c .exit)) (now (d .exit)) ≡ columnsAfter (encode (linkColumns (now (fc .entry)) (now (fs .entry)) (now (tc .entry)) (now (ts .entry))) (forRecords (length (now (a .entry)) ∷ length (now (b .entry)) ∷ length (now (c .entry)) ∷ length (now (d .entry)) ∷ []))) (linkColumns (now (a .entry)) (now (b .entry)) (now (c .entry)) (now (d .entry))) ⌝ }
+    ensures { λ r. ⌜ r ≡ recordsOf (counted (λ x. x .fromChains)
+        (encode (linkColumns (now (fc .entry)) (now (fs .entry)) (now (tc .entry)) (now (ts .entry)))
+        (forRecords (length (now (a .entry)) ∷ length (now (b .entry)) ∷ length (now (c .entry)) ∷ length (now (d .entry)) ∷ [])))) ⌝ }
+    ensures { λ _. ⌜ linkColumns (now (a .exit)) (now (b .exit)) (now (c .exit)) (now (d .exit))
+        ≡ columnsAfter (encode (linkColumns (now (fc .entry)) (now (fs .entry)) (now (tc .entry)) (now (ts .entry)))
+        (forRecords (length (now (a .entry)) ∷ length (now (b .entry)) ∷ length (now (c .entry)) ∷ length (now (d .entry)) ∷ [])))
+        (linkColumns (now (a .entry)) (now (b .entry)) (now (c .entry)) (now (d .entry))) ⌝ }
 {
     records_of(cover_build::encode::encode_links(fc, fs, tc, ts, a, b, c, d))
 }
@@ -58,8 +63,14 @@ pub extern "C" fn ridgeoven_cover_read(
     c: &mut [u32],
     d: &mut [u32],
 ) -> Answer
-    ensures { λ r. ⌜ r ≡ recordsOf (counted (λ x. x .links) (readLent (rangeColumns (now (ids .entry)) (now (minima .entry)) (now (maxima .entry))) (linkColumns (now (differences .entry)) (now (fs .entry)) (now (tc .entry)) (now (ts .entry))) (forRecords (length (now (a .entry)) ∷ length (now (b .entry)) ∷ length (now (c .entry)) ∷ length (now (d .entry)) ∷ [])))) ⌝ }
-    ensures { λ _. ⌜ linkColumns (now (a .exit)) (now (b .exit)) (now (c .exit)) (now (d .exit)) ≡ linksAfter (λ x. x .links) (readLent (rangeColumns (now (ids .entry)) (now (minima .entry)) (now (maxima .entry))) (linkColumns (now (differences .entry)) (now (fs .entry)) (now (tc .entry)) (now (ts .entry))) (forRecords (length (now (a .entry)) ∷ length (now (b .entry)) ∷ length (now (c .entry)) ∷ length (now (d .entry)) ∷ []))) (linkColumns (now (a .entry)) (now (b .entry)) (now (c .entry)) (now (d .entry))) ⌝ }
+    ensures { λ r. ⌜ r ≡ recordsOf (counted (λ x. x .links) (readLent (rangeColumns (now (ids .entry)) (now (minima .entry)) (now (maxima .entry)))
+        (linkColumns (now (differences .entry)) (now (fs .entry)) (now (tc .entry)) (now (ts .entry)))
+        (forRecords (length (now (a .entry)) ∷ length (now (b .entry)) ∷ length (now (c .entry)) ∷ length (now (d .entry)) ∷ [])))) ⌝ }
+    ensures { λ _. ⌜ linkColumns (now (a .exit)) (now (b .exit)) (now (c .exit)) (now (d .exit))
+        ≡ linksAfter (λ x. x .links) (readLent (rangeColumns (now (ids .entry)) (now (minima .entry)) (now (maxima .entry)))
+        (linkColumns (now (differences .entry)) (now (fs .entry)) (now (tc .entry)) (now (ts .entry)))
+        (forRecords (length (now (a .entry)) ∷ length (now (b .entry)) ∷ length (now (c .entry)) ∷ length (now (d .entry)) ∷ [])))
+        (linkColumns (now (a .entry)) (now (b .entry)) (now (c .entry)) (now (d .entry))) ⌝ }
 {
     records_of(cover_read::read(ids, minima, maxima, differences, fs, tc, ts, a, b, c, d))
 }
@@ -121,8 +132,12 @@ pub extern "C" fn ridgeoven_chain_links(
     c: &mut [u32],
     d: &mut [u32],
 ) -> Answer
-    ensures { λ r. ⌜ r ≡ recordsOf (counted (λ x. x) (chainLinks (linkColumns (now (differences .entry)) (now (fs .entry)) (now (tc .entry)) (now (ts .entry))) (now (chains .entry)) (forRecords (length (now (a .entry)) ∷ length (now (b .entry)) ∷ length (now (c .entry)) ∷ length (now (d .entry)) ∷ [])))) ⌝ }
-    ensures { λ _. ⌜ linkColumns (now (a .exit)) (now (b .exit)) (now (c .exit)) (now (d .exit)) ≡ linksAfter (λ x. x) (chainLinks (linkColumns (now (differences .entry)) (now (fs .entry)) (now (tc .entry)) (now (ts .entry))) (now (chains .entry)) (forRecords (length (now (a .entry)) ∷ length (now (b .entry)) ∷ length (now (c .entry)) ∷ length (now (d .entry)) ∷ []))) (linkColumns (now (a .entry)) (now (b .entry)) (now (c .entry)) (now (d .entry))) ⌝ }
+    ensures { λ r. ⌜ r ≡ recordsOf (counted (λ x. x) (chainLinks (linkColumns (now (differences .entry)) (now (fs .entry)) (now (tc .entry)) (now (ts .entry)))
+        (now (chains .entry)) (forRecords (length (now (a .entry)) ∷ length (now (b .entry)) ∷ length (now (c .entry)) ∷ length (now (d .entry)) ∷ [])))) ⌝ }
+    ensures { λ _. ⌜ linkColumns (now (a .exit)) (now (b .exit)) (now (c .exit)) (now (d .exit))
+        ≡ linksAfter (λ x. x) (chainLinks (linkColumns (now (differences .entry)) (now (fs .entry)) (now (tc .entry)) (now (ts .entry))) (now (chains .entry))
+        (forRecords (length (now (a .entry)) ∷ length (now (b .entry)) ∷ length (now (c .entry)) ∷ length (now (d .entry)) ∷ [])))
+        (linkColumns (now (a .entry)) (now (b .entry)) (now (c .entry)) (now (d .entry))) ⌝ }
 {
     records_of(cover_read::links::chain_links(differences, fs, tc, ts, chains, a, b, c, d))
 }
@@ -169,9 +184,20 @@ pub extern "C" fn ridgeoven_cover_build(
     c: &mut [u32],
     d: &mut [u32],
 ) -> Covered
-    ensures { λ r. ⌜ r ≡ coveredOf (building.builtOf (buildCover (labelColumns (now (chains .entry)) (now (seqs .entry))) (linkColumns (now (fc .entry)) (now (fs .entry)) (now (tc .entry)) (now (ts .entry))) (forRecords (length (now (ids .entry)) ∷ length (now (minima .entry)) ∷ length (now (maxima .entry)) ∷ length (now (a .entry)) ∷ length (now (b .entry)) ∷ length (now (c .entry)) ∷ length (now (d .entry)) ∷ [])))) ⌝ }
-    ensures { λ _. ⌜ rangeColumns (now (ids .exit)) (now (minima .exit)) (now (maxima .exit)) ≡ building.rangesAfter (buildCover (labelColumns (now (chains .entry)) (now (seqs .entry))) (linkColumns (now (fc .entry)) (now (fs .entry)) (now (tc .entry)) (now (ts .entry))) (forRecords (length (now (ids .entry)) ∷ length (now (minima .entry)) ∷ length (now (maxima .entry)) ∷ length (now (a .entry)) ∷ length (now (b .entry)) ∷ length (now (c .entry)) ∷ length (now (d .entry)) ∷ []))) (rangeColumns (now (ids .entry)) (now (minima .entry)) (now (maxima .entry))) ⌝ }
-    ensures { λ _. ⌜ linkColumns (now (a .exit)) (now (b .exit)) (now (c .exit)) (now (d .exit)) ≡ linksAfter (λ x. x .links) (buildCover (labelColumns (now (chains .entry)) (now (seqs .entry))) (linkColumns (now (fc .entry)) (now (fs .entry)) (now (tc .entry)) (now (ts .entry))) (forRecords (length (now (ids .entry)) ∷ length (now (minima .entry)) ∷ length (now (maxima .entry)) ∷ length (now (a .entry)) ∷ length (now (b .entry)) ∷ length (now (c .entry)) ∷ length (now (d .entry)) ∷ []))) (linkColumns (now (a .entry)) (now (b .entry)) (now (c .entry)) (now (d .entry))) ⌝ }
+    ensures { λ r. ⌜ r ≡ coveredOf (building.builtOf (buildCover (labelColumns (now (chains .entry)) (now (seqs .entry)))
+        (linkColumns (now (fc .entry)) (now (fs .entry)) (now (tc .entry)) (now (ts .entry)))
+        (forRecords (length (now (ids .entry)) ∷ length (now (minima .entry)) ∷ length (now (maxima .entry)) ∷ length (now (a .entry)) ∷ length (now (b .entry)) ∷ length
+        (now (c .entry)) ∷ length (now (d .entry)) ∷ [])))) ⌝ }
+    ensures { λ _. ⌜ rangeColumns (now (ids .exit)) (now (minima .exit)) (now (maxima .exit))
+        ≡ building.rangesAfter (buildCover (labelColumns (now (chains .entry)) (now (seqs .entry)))
+        (linkColumns (now (fc .entry)) (now (fs .entry)) (now (tc .entry)) (now (ts .entry)))
+        (forRecords (length (now (ids .entry)) ∷ length (now (minima .entry)) ∷ length (now (maxima .entry)) ∷ length (now (a .entry)) ∷ length (now (b .entry)) ∷ length
+        (now (c .entry)) ∷ length (now (d .entry)) ∷ []))) (rangeColumns (now (ids .entry)) (now (minima .entry)) (now (maxima .entry))) ⌝ }
+    ensures { λ _. ⌜ linkColumns (now (a .exit)) (now (b .exit)) (now (c .exit)) (now (d .exit))
+        ≡ linksAfter (λ x. x .links) (buildCover (labelColumns (now (chains .entry)) (now (seqs .entry)))
+        (linkColumns (now (fc .entry)) (now (fs .entry)) (now (tc .entry)) (now (ts .entry)))
+        (forRecords (length (now (ids .entry)) ∷ length (now (minima .entry)) ∷ length (now (maxima .entry)) ∷ length (now (a .entry)) ∷ length (now (b .entry)) ∷ length
+        (now (c .entry)) ∷ length (now (d .entry)) ∷ []))) (linkColumns (now (a .entry)) (now (b .entry)) (now (c .entry)) (now (d .entry))) ⌝ }
 {
     covered_of(cover_build::build(
         chains,

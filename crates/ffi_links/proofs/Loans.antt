@@ -20,7 +20,8 @@ use base.Logic.{ent, via, guardI}
 use base.Fml.{Lft, GName, Share, Fml, fsep, feq, fat, froom, flft, fobs, fauth, fobor, flent}
 use prog.Wp.{Heap, Env}
 use ghost.Atoms.{Atoms, sem}
-use types.Kit.{Given, Item, ‵, _⊛_, some, later, Goal, Soaks, Seq, Step, step, _$_, _∵_, !, qed, by as hence, move, drop, use0, use1, use2, use3, split, join, pick, rewrite, fsplit, fjoin, feqL, feqI, await, done}
+use types.Kit.{Given, Item, ‵, _⊛_, some, later, Goal, Soaks, Seq, Step, step, _$_, _∵_, !, qed, by as hence, move, drop, use0, use1, use2, use3, split, join, pick}
+use types.Kit.{rewrite, fsplit, fjoin, feqL, feqI, await, done}
 use types.Run.{Opd}
 use types.Tokens.{lft-new, lft-end, lent-back}
 use types.SemTy.{cells, Arr}
@@ -61,7 +62,8 @@ module _ {M : Type 1} {𝓤 : URA M} {H : Heap 𝓤} {A : Atoms 𝓤} {K : Type 
       → ((z : Loan) → Seq K W (‵ (flft (life z) fullShare) ∷ ‵ (MutSlice ℓ (life z) R .own (ref (by z b o) xs) (sliceVal (b, o) n ∷ [])) ∷ ‵ (flent (life z) (Held R n b o (z .name))) ∷ Γ) G)
       → Seq K W (‵ (row R fullShare xs b o) ∷ Γ) G
   lend-mut t so ℓ R xs {n} e room b o k = lft-new t so (λ ν. move t (1 ∷ []) $ use1 W (‵ (cells (mem R) xs b o)) (whole-in 𝓤 H A W R xs b o) $
-      use1 W (later (some (λ (γ : GName). ‵ (MutSlice ℓ (ν ∷ []) R .own (record { ptr = (b, o); name = γ; now = xs }) (sliceVal (b, o) (length xs) ∷ [])) ⊛ ‵ (flent (ν ∷ []) (Held R (length xs) b o γ)))))
+      use1 W (later (some (λ (γ : GName). ‵ (MutSlice ℓ (ν ∷ []) R .own (record { ptr = (b, o); name = γ; now = xs }) (sliceVal (b, o) (length xs) ∷ [])) ⊛ ‵
+      (flent (ν ∷ []) (Held R (length xs) b o γ)))))
       (lends-slice 𝓤 H A W R ℓ (ν ∷ []) xs b o (subst (Room R) (sym e) room)) $ await t so $ pick t (λ γ. split t $
       rewrite t 0 (λ (m : ℕ). ‵ (MutSlice ℓ (ν ∷ []) R .own (record { ptr = (b, o); name = γ; now = xs }) (sliceVal (b, o) m ∷ []))) e refl $
       rewrite t 1 (λ (m : ℕ). ‵ (flent (ν ∷ []) (Held R m b o γ))) e refl $ move t (2 ∷ []) $ k (record { life = ν; name = γ })))

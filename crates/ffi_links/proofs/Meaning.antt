@@ -140,7 +140,8 @@ carried-all k w ys long few room = omega (arith, length-take-le k (w .a) (omega 
 pub put-means : (v : Verdict (List Link)) (y w : Quad (List ℕ)) (ys zs : List records.Link) (r : ℕ) → columns w ≡ linksAfter (λ x. x) v (columns y) → Long 1024 w
     → recordsOf (counted (λ x. x) v) .length ≤ length ys → Put (recordsOf (counted (λ x. x) v) .length) w ys r zs → map meant zs ≡ recordsAfter v (map meant ys)
 unfolding recordsOf counted linksAfter recordsAfter
-put-means (refused why) y w ys zs r e long room put = ap (map meant) (put .1 ∙ ap (λ n. over (map (linkIn (take 0 (w .a)) (w .b) (w .c) (w .d)) (places n)) ys) (carried-all 0 w ys long zero-le zero-le) ∙ over-none (linkIn (take 0 (w .a)) (w .b) (w .c) (w .d)) ys)
+put-means (refused why) y w ys zs r e long room put = ap (map meant) (put .1
+    ∙ ap (λ n. over (map (linkIn (take 0 (w .a)) (w .b) (w .c) (w .d)) (places n)) ys) (carried-all 0 w ys long zero-le zero-le) ∙ over-none (linkIn (take 0 (w .a)) (w .b) (w .c) (w .d)) ys)
 put-means (accepted ls) y w ys zs r e long room put =
     ap (map meant) (put .1 ∙ ap (λ n. over (map (linkIn (take (length ls) (w .a)) (w .b) (w .c) (w .d)) (places n)) ys) (carried-all (length ls) w ys long (answer-few (accepted ls) y w e long) room))
     ∙ rows-over ls y w e ys

@@ -32,7 +32,8 @@ use Rattle.cover_links.proofs.Link as T
 use Rattle.cover_links.proofs.ridgeoven_links_apart as apart
 use Rattle.cover_links.proofs.ridgeoven_links_together as together
 use Rattle.ffi_links.proofs.Loans.{Loan, life, by}
-use Rattle.ffi_links.proofs.Four.{Quad, quad, Four, Long, Loaned, Fronted, Tokens, TokensOf, Writers, Readers, open-tokens, join-tokens, open-lasts, join-four, lend-four, back-four, lend-fronts, back-fronts}
+use Rattle.ffi_links.proofs.Four.{Quad, quad, Four, Long, Loaned, Fronted, Tokens, TokensOf, Writers, Readers, open-tokens, join-tokens, open-lasts, join-four}
+use Rattle.ffi_links.proofs.Four.{lend-four, back-four, lend-fronts, back-fronts}
 
 -- the columns that links were taken apart into, from the columns x
 abbrev pub Taken : List Link → Quad (List ℕ) → ℕ → Quad (List ℕ) → Type 0
@@ -111,9 +112,11 @@ module _ {M : Type 1} (𝓤 : URA M) (H : Heap 𝓤) (A : Atoms 𝓤) (mem : Mem
           → ((r : ℕ) (y : Quad (List ℕ)) → Taken ys x r y → Long n y → Seq K W (‵ (usize .own r (v ∷ [])) ∷ ‵ (Four l y) ∷ ‵ (flft (s .lft) (s .share)) ∷ Γ) G)
           → Seq K W (raw (Apart .post (to-apart z) v) ∷ ‵ (Loaned n z l) ∷ Γ) G
       back-apart t so z v k =
-          use1 W (later (some (λ (r : ℕ). ((‵ (flft (s .lft) (s .share)) ⊛ TokensOf z (‵ ftrue)) ⊛ ‵ (usize .own r (v ∷ []))) ⊛ raw (ensured 𝓤 H A apart.ended (apart.clauses 𝓤 H A mem run) (to-apart z .0 .0) (to-apart z .0 .3) tt r))))
+          use1 W (later (some (λ (r : ℕ). ((‵ (flft (s .lft) (s .share)) ⊛ TokensOf z (‵ ftrue)) ⊛ ‵ (usize .own r (v ∷ []))) ⊛ raw
+          (ensured 𝓤 H A apart.ended (apart.clauses 𝓤 H A mem run) (to-apart z .0 .0) (to-apart z .0 .3) tt r))))
           (id⊢ 𝓤 _) $ await t so $ pick t (λ r. split t $ move t (1 ∷ []) $
-          use1 W (some (λ (ws : Unit {0} × (List ℕ × (List ℕ × (List ℕ × (List ℕ × Unit {0}))))). ‵ (lasts apart.ended (to-apart z .0 .0) (to-apart z .0 .3) ws) ⊛ raw (fact 𝓤 (Taken ys x r (left ws)))))
+          use1 W (some (λ (ws : Unit {0} × (List ℕ × (List ℕ × (List ℕ × (List ℕ × Unit {0}))))). ‵ (lasts apart.ended (to-apart z .0 .0) (to-apart z .0 .3) ws) ⊛ raw
+          (fact 𝓤 (Taken ys x r (left ws)))))
           (id⊢ 𝓤 _) $ pick t (λ ws. split t $ move t (1 ∷ []) $ heard t (Taken ys x r (left ws)) (λ e.
           fsplit t $ drop t $ open-lasts t z x (left ws) $
           -- [the last lists; the tokens and the answer; what is kept]
@@ -123,7 +126,8 @@ module _ {M : Type 1} (𝓤 : URA M) (H : Heap 𝓤) (A : Atoms 𝓤) (mem : Mem
           left : Unit {0} × (List ℕ × (List ℕ × (List ℕ × (List ℕ × Unit {0})))) → Quad (List ℕ)
           left ws = quad (ws .1 .0) (ws .1 .1 .0) (ws .1 .1 .1 .0) (ws .1 .1 .1 .1 .0)
 
-      pub lend-together : K → Soaks G → (k : ℕ) → Room u32 k → Room u32 n → Long n x → k ≤ length (x .a) → ((z : Quad Loan) → Seq K W (raw (Together .pre (to-together k z)) ∷ ‵ (Fronted k z l x) ∷ Γ) G)
+      pub lend-together : K → Soaks G → (k : ℕ) → Room u32 k → Room u32 n → Long n x → k ≤ length (x .a)
+          → ((z : Quad Loan) → Seq K W (raw (Together .pre (to-together k z)) ∷ ‵ (Fronted k z l x) ∷ Γ) G)
           → Seq K W (‵ (Four l x) ∷ links-had ∷ ‵ (flft (s .lft) (s .share)) ∷ Γ) G
       lend-together t so k room room′ long le go = lend-fronts t so (quad (named 0) (named 1) (named 2) (named 3)) k room room′ l x long le (λ z. move t (9 ∷ 10 ∷ 0 ∷ 1 ∷ 2 ∷ 3 ∷ 4 ∷ 5 ∷ 6 ∷ 7 ∷ []) $
           cut (asked-together k z) (raw (Together .pre (to-together k z)) ∷ []) (‵ (Fronted k z l x) ∷ Γ) (goes-together W k z) $ go z)
@@ -133,7 +137,8 @@ module _ {M : Type 1} (𝓤 : URA M) (H : Heap 𝓤) (A : Atoms 𝓤) (mem : Mem
           → Seq K W (‵ (usize .own r (v ∷ [])) ∷ ‵ (Four l x) ∷ ‵ (finally T.the-row (s .name) zs) ∷ ‵ (flft (s .lft) (s .share)) ∷ Γ) G)
           → Seq K W (raw (Together .post (to-together k z) v) ∷ ‵ (Fronted k z l x) ∷ Γ) G
       back-together t so k z v go =
-          use1 W (later (some (λ (r : ℕ). (TokensOf z (‵ (flft (s .lft) (s .share)) ⊛ ‵ ftrue) ⊛ ‵ (usize .own r (v ∷ []))) ⊛ raw (ensured 𝓤 H A together.ended (together.clauses 𝓤 H A mem run) (to-together k z .0 .0) (to-together k z .0 .3) tt r))))
+          use1 W (later (some (λ (r : ℕ). (TokensOf z (‵ (flft (s .lft) (s .share)) ⊛ ‵ ftrue) ⊛ ‵ (usize .own r (v ∷ []))) ⊛ raw
+          (ensured 𝓤 H A together.ended (together.clauses 𝓤 H A mem run) (to-together k z .0 .0) (to-together k z .0 .3) tt r))))
           (id⊢ 𝓤 _) $ await t so $ pick t (λ r. split t $ move t (1 ∷ []) $
           use1 W (some (λ (ws : Unit {0} × (Unit {0} × (Unit {0} × (Unit {0} × (List Link × Unit {0}))))). ‵ (lasts together.ended (to-together k z .0 .0) (to-together k z .0 .3) ws)
           ⊛ raw (fact 𝓤 (Put k x ys r (ws .1 .1 .1 .1 .0))))) (id⊢ 𝓤 _) $ pick t (λ ws. split t $ move t (1 ∷ []) $ heard t (Put k x ys r (ws .1 .1 .1 .1 .0)) (λ e.

@@ -38,7 +38,8 @@ fn copy_links(
     requires { ⌜ n ≤ 1024 ⌝ }
     requires { ⌜ (length (now a) ≡ 1024) × ((length (now b) ≡ 1024) × ((length (now c) ≡ 1024) × (length (now d) ≡ 1024))) ⌝ }
     requires { ⌜ (length (now x) ≡ 1024) × ((length (now y) ≡ 1024) × ((length (now z) ≡ 1024) × (length (now w) ≡ 1024))) ⌝ }
-    ensures { λ _. ⌜ firstLinks n (linkColumns (now (x .exit)) (now (y .exit)) (now (z .exit)) (now (w .exit))) ≡ firstLinks n (linkColumns (now (a .entry)) (now (b .entry)) (now (c .entry)) (now (d .entry))) ⌝ }
+    ensures { λ _. ⌜ firstLinks n (linkColumns (now (x .exit)) (now (y .exit)) (now (z .exit)) (now (w .exit)))
+        ≡ firstLinks n (linkColumns (now (a .entry)) (now (b .entry)) (now (c .entry)) (now (d .entry))) ⌝ }
 {
     copy_first(n, a, x);
     copy_first(n, b, y);
@@ -62,7 +63,9 @@ fn sort_part(
     requires { ⌜ (length (now x) ≡ 1024) × ((length (now y) ≡ 1024) × ((length (now z) ≡ 1024) × (length (now w) ≡ 1024))) ⌝ }
     requires { ⌜ (length (now a) ≡ 1024) × ((length (now b) ≡ 1024) × ((length (now c) ≡ 1024) × (length (now d) ≡ 1024))) ⌝ }
     ensures { λ r. ⌜ r ≡ length (sortLinks (firstLinks n (linkColumns (now (x .entry)) (now (y .entry)) (now (z .entry)) (now (w .entry))))) ⌝ }
-    ensures { λ _. ⌜ linkColumns (now (a .exit)) (now (b .exit)) (now (c .exit)) (now (d .exit)) ≡ linksOver (sortLinks (firstLinks n (linkColumns (now (x .entry)) (now (y .entry)) (now (z .entry)) (now (w .entry))))) (linkColumns (now (a .entry)) (now (b .entry)) (now (c .entry)) (now (d .entry))) ⌝ }
+    ensures { λ _. ⌜ linkColumns (now (a .exit)) (now (b .exit)) (now (c .exit)) (now (d .exit))
+        ≡ linksOver (sortLinks (firstLinks n (linkColumns (now (x .entry)) (now (y .entry)) (now (z .entry)) (now (w .entry)))))
+        (linkColumns (now (a .entry)) (now (b .entry)) (now (c .entry)) (now (d .entry))) ⌝ }
 {
     cover_sort::sort_links(&x[..n], &y[..n], &z[..n], &w[..n], a, b, c, d)
 }
@@ -84,7 +87,9 @@ fn sort_by(
     requires { ⌜ (length (now a) ≡ 1024) × ((length (now b) ≡ 1024) × ((length (now c) ≡ 1024) × (length (now d) ≡ 1024))) ⌝ }
     requires { ⌜ (length (now x) ≡ 1024) × ((length (now y) ≡ 1024) × ((length (now z) ≡ 1024) × (length (now w) ≡ 1024))) ⌝ }
     ensures { λ r. ⌜ r ≡ length (sortLinks (firstLinks n (linkColumns (now (a .entry)) (now (b .entry)) (now (c .entry)) (now (d .entry))))) ⌝ }
-    ensures { λ _. ⌜ linkColumns (now (a .exit)) (now (b .exit)) (now (c .exit)) (now (d .exit)) ≡ linksOver (sortLinks (firstLinks n (linkColumns (now (a .entry)) (now (b .entry)) (now (c .entry)) (now (d .entry))))) (linkColumns (now (a .entry)) (now (b .entry)) (now (c .entry)) (now (d .entry))) ⌝ }
+    ensures { λ _. ⌜ linkColumns (now (a .exit)) (now (b .exit)) (now (c .exit)) (now (d .exit))
+        ≡ linksOver (sortLinks (firstLinks n (linkColumns (now (a .entry)) (now (b .entry)) (now (c .entry)) (now (d .entry)))))
+        (linkColumns (now (a .entry)) (now (b .entry)) (now (c .entry)) (now (d .entry))) ⌝ }
 {
     copy_links(n, a, b, c, d, x, y, z, w);
     sort_part(n, x, y, z, w, a, b, c, d)
@@ -95,7 +100,9 @@ fn sort_first(n: usize, a: &mut [u32], b: &mut [u32], c: &mut [u32], d: &mut [u3
     requires { ⌜ n ≤ 1024 ⌝ }
     requires { ⌜ (length (now a) ≡ 1024) × ((length (now b) ≡ 1024) × ((length (now c) ≡ 1024) × (length (now d) ≡ 1024))) ⌝ }
     ensures { λ r. ⌜ r ≡ length (sortLinks (firstLinks n (linkColumns (now (a .entry)) (now (b .entry)) (now (c .entry)) (now (d .entry))))) ⌝ }
-    ensures { λ _. ⌜ linkColumns (now (a .exit)) (now (b .exit)) (now (c .exit)) (now (d .exit)) ≡ linksOver (sortLinks (firstLinks n (linkColumns (now (a .entry)) (now (b .entry)) (now (c .entry)) (now (d .entry))))) (linkColumns (now (a .entry)) (now (b .entry)) (now (c .entry)) (now (d .entry))) ⌝ }
+    ensures { λ _. ⌜ linkColumns (now (a .exit)) (now (b .exit)) (now (c .exit)) (now (d .exit))
+        ≡ linksOver (sortLinks (firstLinks n (linkColumns (now (a .entry)) (now (b .entry)) (now (c .entry)) (now (d .entry)))))
+        (linkColumns (now (a .entry)) (now (b .entry)) (now (c .entry)) (now (d .entry))) ⌝ }
 {
     let mut x = [0u32; 1024];
     let mut y = [0u32; 1024];
@@ -107,7 +114,11 @@ fn sort_first(n: usize, a: &mut [u32], b: &mut [u32], c: &mut [u32], d: &mut [u3
 // The same where n links were given, of which the columns hold 1,024.
 fn sort_taken(n: usize, a: &mut [u32], b: &mut [u32], c: &mut [u32], d: &mut [u32]) -> Answer
     requires { ⌜ (length (now a) ≡ 1024) × ((length (now b) ≡ 1024) × ((length (now c) ≡ 1024) × (length (now d) ≡ 1024))) ⌝ }
-    ensures { λ r. ⌜ (r ≡ recordsOf (counted (λ x. x) (given n (sortLent (firstLinks n (linkColumns (now (a .entry)) (now (b .entry)) (now (c .entry)) (now (d .entry)))))))) × (linkColumns (now (a .exit)) (now (b .exit)) (now (c .exit)) (now (d .exit)) ≡ linksAfter (λ x. x) (given n (sortLent (firstLinks n (linkColumns (now (a .entry)) (now (b .entry)) (now (c .entry)) (now (d .entry)))))) (linkColumns (now (a .entry)) (now (b .entry)) (now (c .entry)) (now (d .entry)))) ⌝ }
+    ensures { λ r. ⌜ (r ≡ recordsOf (counted (λ x. x) (given n
+        (sortLent (firstLinks n (linkColumns (now (a .entry)) (now (b .entry)) (now (c .entry)) (now (d .entry))))))))
+        × (linkColumns (now (a .exit)) (now (b .exit)) (now (c .exit)) (now (d .exit))
+        ≡ linksAfter (λ x. x) (given n (sortLent (firstLinks n (linkColumns (now (a .entry)) (now (b .entry)) (now (c .entry)) (now (d .entry))))))
+        (linkColumns (now (a .entry)) (now (b .entry)) (now (c .entry)) (now (d .entry)))) ⌝ }
 {
     if 1024 < n {
         return no_entries(Refusal::OverRecords);
@@ -118,7 +129,8 @@ fn sort_taken(n: usize, a: &mut [u32], b: &mut [u32], c: &mut [u32], d: &mut [u3
 // Puts links in order, repeats dropped, from the start of their slice on, and answers how many they are; what stands behind them stays.
 #[no_mangle]
 pub extern "C" fn ridgeoven_links_sort(links: &mut [Link]) -> Answer
-    ensures { λ r. ⌜ (r ≡ recordsOf (counted (λ x. x) (sortLent (map meant (now (links .entry)))))) × (map meant (now (links .exit)) ≡ recordsAfter (sortLent (map meant (now (links .entry)))) (map meant (now (links .entry)))) ⌝ }
+    ensures { λ r. ⌜ (r ≡ recordsOf (counted (λ x. x) (sortLent (map meant (now (links .entry))))))
+        × (map meant (now (links .exit)) ≡ recordsAfter (sortLent (map meant (now (links .entry)))) (map meant (now (links .entry)))) ⌝ }
 {
     let mut a = [0u32; 1024];
     let mut b = [0u32; 1024];

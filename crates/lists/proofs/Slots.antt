@@ -1,7 +1,8 @@
 -- Slots of rows, K to a row: slot `K * row + k` is the one of row `row` and kind k. Laws for any K; those on `/ K` and `% K` ask that there is a kind.
 use mathlib.Core.Path.{_≡_, sym, _∙_, ap}
 use Prim.Native.Nat.{ℕ, zero, suc, _+_, _-_, _*_, _/_, _%_, _≤_, _<_}
-use native.Mathlib.Nat.{zero-mul, add-zero, mod-eq-of-lt, div-eq-of-lt, div-add-mod, mul-add-mod-self-left, mul-add-div, mul-le-mul-left, lt-of-mul-lt-mul-left, le-of-suc-le-suc, div-lt-iff-lt-mul, mod-lt}
+use native.Mathlib.Nat.{zero-mul, add-zero, mod-eq-of-lt, div-eq-of-lt, div-add-mod, mul-add-mod-self-left, mul-add-div, mul-le-mul-left, lt-of-mul-lt-mul-left}
+use native.Mathlib.Nat.{le-of-suc-le-suc, div-lt-iff-lt-mul, mod-lt}
 use native.Mathlib.Omega.{arith}
 
 -- where there is a slot, there is a kind

@@ -38,7 +38,8 @@ use Rattle.run.specs.declared.Reply.the-variants.{Done, Refused}
 use Rattle.run.specs.declared.Number.the-variants as number
 use Rattle.run.specs.declared.Count.the-variants as count
 use Rattle.run.proofs.OverHeld.{taking-refused, taking-done, resolving-refused, resolving-done, resolved-grouped}
-use Rattle.run.proofs.InTurn.{OutOf, not-taking, not-resolved-yet, seen-taking, seen-resolved, survivors-valid, survivors-order, survivors-filled, survivors-once, resolved-valid, resolved-order, taking-valid, taking-order}
+use Rattle.run.proofs.InTurn.{OutOf, not-taking, not-resolved-yet, seen-taking, seen-resolved, survivors-valid, survivors-order, survivors-filled, survivors-once}
+use Rattle.run.proofs.InTurn.{resolved-valid, resolved-order, taking-valid, taking-order}
 
 -- ── out of turn ──────────────────────────────────────────────────────────────────────────────
 

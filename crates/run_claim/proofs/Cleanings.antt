@@ -18,7 +18,8 @@ use Rattle.cleaning.specs.Taking.{takenFrom}
 use Rattle.cleaning.specs.Archive.{Taken, archiveOf}
 use Rattle.cleaning.specs.Summary.{tabled}
 use Rattle.cleaning.specs.Writing.{written}
-use Rattle.cleaning.specs.Step.{Call, takes, resolves, writes, Bytes, allOf, Answer, refused, done, wrote, told, counted, printed, State, taking, resolved, spoiled, fresh, Outcome, takeMore, writeInto, step}
+use Rattle.cleaning.specs.Step.{Call, takes, resolves, writes, Bytes, allOf, Answer, refused, done, wrote, told, counted, printed, State, taking, resolved, spoiled}
+use Rattle.cleaning.specs.Step.{fresh, Outcome, takeMore, writeInto, step}
 use Rattle.cleaning.specs.History.{did, archiveOfBytes, history, filesIn, took, bytesWritten, archiveIn, Wrote, cleaned}
 use Rattle.cleaning.specs.Listing.{afterwards, writing, writingFrom, cleaning, cleanedBytes}
 use Rattle.cleaning.specs.Held.{heldOf}

@@ -136,7 +136,8 @@ module _ (h : Held) (l : List ℕ) (n : Names) (d : Named h l n) where
         (k : Renewal (take i fs) (newLists kinds (n .start) (take i fs) (slotsIn i (parts .edges))) (renewedOf g os os′)) where
       renewed : ListsRenewed after (renewedOf g os os′)
       renewed =
-          lists-renewed after (d .ok) (d .order) (d .long) (renewedOf g os os′) (subst (λ v. Renewal (flagsIn after) (newLists kinds (v .start) (flagsIn after) (slotsIn (after .sheet .rows .count) (after .sheet .edges))) (renewedOf g os os′)) (d .names)
+          lists-renewed after (d .ok) (d .order) (d .long) (renewedOf g os os′)
+          (subst (λ v. Renewal (flagsIn after) (newLists kinds (v .start) (flagsIn after) (slotsIn (after .sheet .rows .count) (after .sheet .edges))) (renewedOf g os os′)) (d .names)
           (rw (front-is, count-is, is) at k))
 
       sourced : after .sheet .groups .count ≡ 0 → ⊥

@@ -65,7 +65,8 @@ module _ {e : Edges} (m : ℕ) (os ts : List ℕ) (is : edgesOf m os ts ≡ e) w
   pub filled-form : (n : ℕ) → edgesOk n e ≡ true → edgesOk n (edgesOf m os ts) ≡ true
   filled-form n k = rw is k
 
-  pub filled-lists : (start n : ℕ) (flags : List ℕ) (q : Renewed) → Renewal flags (newLists kinds start flags (slotsIn n (edgesOf m os ts))) q → Renewal flags (newLists kinds start flags (slotsIn n e)) q
+  pub filled-lists : (start n : ℕ) (flags : List ℕ) (q : Renewed) → Renewal flags (newLists kinds start flags (slotsIn n (edgesOf m os ts))) q
+      → Renewal flags (newLists kinds start flags (slotsIn n e)) q
   filled-lists start n flags q k = subst (λ v. Renewal flags (newLists kinds start flags (slotsIn n v)) q) is k
 
 module _ {u : Unresolved} (n : ℕ) (cs ks hs : List ℕ) (is : unresolvedOf n cs ks hs ≡ u) where

@@ -70,7 +70,8 @@ pub fn fill_lists(
     requires { ⌜ (now offsets ≡ zeros 2049) × (now targets ≡ zeros 4096) ⌝ }
     requires { ⌜ (n ≤ 1024) × ((length (now flags) ≡ 1024) × (start + n ≤ 2 ^ 64 - 1)) ⌝ }
     requires { ⌜ edgesOk n ((stored h (now bytes)) .edges) ≡ true ⌝ }
-    ensures { λ r. ⌜ Renewal (take n (now (flags .entry))) (newLists kinds start (take n (now (flags .entry))) (slotsIn n ((stored h (now (bytes .entry))) .edges))) (renewedOf r (now (offsets .exit)) (now (targets .exit))) ⌝ }
+    ensures { λ r. ⌜ Renewal (take n (now (flags .entry))) (newLists kinds start (take n (now (flags .entry))) (slotsIn n ((stored h (now (bytes .entry))) .edges)))
+        (renewedOf r (now (offsets .exit)) (now (targets .exit))) ⌝ }
 {
     let m = grow_set(
         h,

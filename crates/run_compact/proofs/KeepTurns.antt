@@ -25,7 +25,8 @@ module _ {t : List ℕ} (xs fs : List ℕ) (n i : ℕ) (e : t ≡ take n xs ++ k
       sym (length-take-le n xs (omega arith)) ∙ ap length (all-kept h ∙ s)
       ∙ length-keep (gone fs) (take (length fs) ys) (length-take-le (length fs) ys (omega arith) ∙ sym (length-map fs (λ f. not (eqb f 0))))
 
-  pub one-gone : i < length fs → length fs ≤ 1024 → (ys : List ℕ) → length xs ≡ length ys → length ys ≡ 1024 → (getD fs i 0 ≡ 0 → ⊥) → t ≡ take n xs ++ keptIn (drop (i + 1) fs) (slice (i + 1) (length fs) xs)
+  pub one-gone : i < length fs → length fs ≤ 1024 → (ys : List ℕ) → length xs ≡ length ys → length ys ≡ 1024 → (getD fs i 0 ≡ 0 → ⊥)
+      → t ≡ take n xs ++ keptIn (drop (i + 1) fs) (slice (i + 1) (length fs) xs)
   unfolding gone keep
   one-gone h b ys p q f = let k : length fs ≤ length xs = omega arith in
       rw (e, drop-cons fs i 0 h, slice-cons i (length fs) xs 0 h k, ne-eqb (getD fs i 0) 0 f, add-one)

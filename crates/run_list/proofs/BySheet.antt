@@ -23,7 +23,8 @@ use Rattle.columns.proofs.ReadBack.{set-count}
 use Rattle.cleaning.specs.Lines.{fileLines}
 use Rattle.cleaning.specs.Listed.{fileNeed, filesNeed}
 use Rattle.cleaning.specs.Sheet.{Sheet, rowCount}
-use Rattle.cleaning.specs.Sections.{unerasedRow, sectionStart, sectionRows, sectionFirst, sectionLists, sectionChildren, childLists, sectionTags, sectionGraph, sectionFaults, sectionFileOf, sectionFile, sectionRules}
+use Rattle.cleaning.specs.Sections.{unerasedRow, sectionStart, sectionRows, sectionFirst, sectionLists, sectionChildren, childLists, sectionTags, sectionGraph}
+use Rattle.cleaning.specs.Sections.{sectionFaults, sectionFileOf, sectionFile, sectionRules}
 use Rattle.cleaning.proofs.Parts.{length-part}
 use Rattle.cleaning.proofs.SheetRows.{section-end, section-within}
 use Rattle.cleaning.proofs.SectionSets.{section-built}
@@ -135,7 +136,8 @@ module _ (z : Counts) (subject : List ℕ) (groups : Groups) (rows unresolved ro
 
       children-reach : deltasFit kinds (sectionFirst S g) (sectionChildren kinds S g) ≡ true
       unfolding sectionFaults
-      children-reach = passed DeltaRange (deltasFit kinds (sectionFirst S g) (sectionChildren kinds S g)) (each-none _ (sym (section-rules kinds kinds-served S (ready .tidy) g once end) ∙ e) .1 .1 .1 .1 .1 .0)
+      children-reach = passed DeltaRange (deltasFit kinds (sectionFirst S g) (sectionChildren kinds S g))
+          (each-none _ (sym (section-rules kinds kinds-served S (ready .tidy) g once end) ∙ e) .1 .1 .1 .1 .1 .0)
 
       parents-spanned : spansIn (z .start) (startAt z rows g) (startAt z rows (g + 1) - startAt z rows g) offsets targets ≡ true
       parents-spanned = sym lists-spans ∙ lists-reach

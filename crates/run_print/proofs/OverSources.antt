@@ -108,7 +108,8 @@ module _ (room : ℕ) where
         let rules = each-none (refuse OverRecords (overRecords [] fs) ∷ refuse OverNumbers (overNumbers [] fs) ∷ filesRules kinds none fs ∷ []) e in
         let kept : filesRules kinds none fs ≡ none = rules .1 .1 .0 in
         let few = not-refused OverRecords (overRecords [] fs) (rules .0) in
-        taken-says r (record { sources = map (sourceOf kinds) fs }) (taken-followed kinds kinds-served none fs kept) (fitting-taken kinds kinds-served none fs kept h) (limited-taken kinds kinds-served fs kept h few)
+        taken-says r (record { sources = map (sourceOf kinds) fs }) (taken-followed kinds kinds-served none fs kept) (fitting-taken kinds kinds-served none fs kept h)
+        (limited-taken kinds kinds-served fs kept h few)
 
     parse-says : (x : Parsed (List File)) → Each (FileFits kinds) (filesIn x) → Says (takeMore noSource (takenFrom kinds [] x))
     parse-says broken h = refl

@@ -33,7 +33,8 @@ fn measure_group(
     requires { ⌜ Ready z (now subject) groups (now rows) (now unresolved) (now roots) (now links) (now offsets) (now targets) ⌝ }
     requires { ⌜ (Children z (now offsets) (now targets) (now starts) (now kids)) × (CoversCounted z groups (now rows) covers) ⌝ }
     requires { ⌜ g < groups .count ⌝ }
-    ensures { λ r. ⌜ MeasuredGroup (sheetOf z (now (subject .entry)) groups (now (rows .entry)) (now (unresolved .entry)) (now (roots .entry)) (now (links .entry)) (now (offsets .entry)) (now (targets .entry))) g r ⌝ }
+    ensures { λ r. ⌜ MeasuredGroup (sheetOf z (now (subject .entry)) groups (now (rows .entry)) (now (unresolved .entry)) (now (roots .entry)) (now (links .entry))
+        (now (offsets .entry)) (now (targets .entry))) g r ⌝ }
 {
     let f = facts_of(groups, covers, g);
     let s = section_of(z, g, rows, unresolved, roots, links);
@@ -69,7 +70,8 @@ pub fn measure(
 ) -> Measured
     requires { ⌜ Ready z (now subject) groups (now rows) (now unresolved) (now roots) (now links) (now offsets) (now targets) ⌝ }
     requires { ⌜ (Children z (now offsets) (now targets) (now starts) (now kids)) × (CoversCounted z groups (now rows) covers) ⌝ }
-    ensures { λ r. ⌜ MeasuredBy (sheetOf z (now (subject .entry)) groups (now (rows .entry)) (now (unresolved .entry)) (now (roots .entry)) (now (links .entry)) (now (offsets .entry)) (now (targets .entry))) r ⌝ }
+    ensures { λ r. ⌜ MeasuredBy (sheetOf z (now (subject .entry)) groups (now (rows .entry)) (now (unresolved .entry)) (now (roots .entry)) (now (links .entry))
+        (now (offsets .entry)) (now (targets .entry))) r ⌝ }
 {
     let n = groups.count;
     let mut total: usize = 0;

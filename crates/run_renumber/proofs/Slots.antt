@@ -194,7 +194,8 @@ module _ (K : ℕ) (start : ℕ) (flags numbers : List ℕ) where
         pub slots-more : t ≡ newListsFrom K start flags numbers (cut (take (s + 1 + 1) offs′) (take m all′)) (drop (s + 1) (cut offsets targets))
         slots-more =
             turned
-            ∙ ap (λ (n : ℕ). newListsFrom K start flags numbers (more K start flags numbers (cut (take (s + 1) offs) (take end all)) s (cut offsets targets)) (drop n (cut offsets targets))) (sym (add-one s))
+            ∙ ap (λ (n : ℕ). newListsFrom K start flags numbers (more K start flags numbers (cut (take (s + 1) offs) (take end all)) s (cut offsets targets))
+            (drop n (cut offsets targets))) (sym (add-one s))
             ∙ ap (λ (ls : List (List ℕ)). newListsFrom K start flags numbers ls (drop (s + 1) (cut offsets targets)))
             (sym (built-cut offs′ all′ (s + 1) m (more K start flags numbers (cut (take (s + 1) offs) (take end all)) s (cut offsets targets)) built))
 

@@ -196,7 +196,8 @@ fn add_slot(
     requires { ⌜ Built (now offs) (now all) s end (cut (take (s + 1) (now offs)) (take end (now all))) ⌝ }
     ensures { λ r. ⌜ Result r (now (offs .exit)) (now (all .exit)) (s + 1)
         (cut (take (s + 1) (now (offs .entry))) (take end (now (all .entry)))
-        ++ (newList kinds start (now (flags .entry)) (now (numbers .entry)) (s % kinds) (cut (take (s + 1) (now (offs .entry))) (take end (now (all .entry)))) (getD (cut (now (offsets .entry)) (now (targets .entry))) s []) ∷ [])) ⌝ }
+        ++ (newList kinds start (now (flags .entry)) (now (numbers .entry)) (s % kinds) (cut (take (s + 1) (now (offs .entry))) (take end (now (all .entry))))
+        (getD (cut (now (offsets .entry)) (now (targets .entry))) s []) ∷ [])) ⌝ }
 {
     let a = index(offsets[s]);
     let b = index(offsets[s + 1]);

@@ -62,7 +62,8 @@ unfolding summaryOf parentsAt rows
 sheet-below s e h =
     let n = rowCount s in
     let parents : ℕ → List (List ℕ) = λ j. part (kinds * j) kinds (s .lists) in
-    let z : RowsFrom kinds (s .start + 0) (rows (s .start) (bodyAt s) parents 0 n) = subst (λ m. RowsFrom kinds m (rows (s .start) (bodyAt s) parents 0 n)) {x = s .start} {y = s .start + 0} (omega arith) h in
+    let z : RowsFrom kinds (s .start + 0) (rows (s .start) (bodyAt s) parents 0 n) = subst
+    (λ m. RowsFrom kinds m (rows (s .start) (bodyAt s) parents 0 n)) {x = s .start} {y = s .start + 0} (omega arith) h in
     earlier-slots (s .start) 0 (s .lists) (subst (EachFrom (SlotBelow kinds (s .start)) 0) (parts-all kinds n (s .lists) e) (rows-below (s .start) (bodyAt s) parents 0 n z))
 
 -- ── the survivors of a neat run ──────────────────────────────────────────────────────────────

@@ -71,7 +71,8 @@ fn sort_behind(
     requires { ⌜ (length (now b) ≡ length (now a)) × ((length (now c) ≡ length (now a)) × (length (now d) ≡ length (now a))) ⌝ }
     requires { ⌜ k + length (now a) ≤ 1024 ⌝ }
     requires { ⌜ (length (now x) ≡ 1024) × ((length (now y) ≡ 1024) × ((length (now z) ≡ 1024) × (length (now w) ≡ 1024))) ⌝ }
-    ensures { λ r. ⌜ SortedBehind (cover.linksOf (now (a .entry)) (now (b .entry)) (now (c .entry)) (now (d .entry))) k r (now (x .entry)) (now (y .entry)) (now (z .entry)) (now (w .entry)) (now (x .exit)) (now (y .exit)) (now (z .exit)) (now (w .exit)) ⌝ }
+    ensures { λ r. ⌜ SortedBehind (cover.linksOf (now (a .entry)) (now (b .entry)) (now (c .entry)) (now (d .entry))) k r (now (x .entry)) (now (y .entry))
+        (now (z .entry)) (now (w .entry)) (now (x .exit)) (now (y .exit)) (now (z .exit)) (now (w .exit)) ⌝ }
 {
     cover_sort::sort_links(
         a,
@@ -102,7 +103,8 @@ fn sort_part(
     requires { ⌜ (i ≤ j) × ((j ≤ 1024) × (k ≤ i)) ⌝ }
     requires { ⌜ (length (now a) ≡ 1024) × ((length (now b) ≡ 1024) × ((length (now c) ≡ 1024) × (length (now d) ≡ 1024))) ⌝ }
     requires { ⌜ (length (now x) ≡ 1024) × ((length (now y) ≡ 1024) × ((length (now z) ≡ 1024) × (length (now w) ≡ 1024))) ⌝ }
-    ensures { λ r. ⌜ SortedBehind (map (rowAt (now (a .entry)) (now (b .entry)) (now (c .entry)) (now (d .entry))) (upFrom i (j - i))) k r (now (x .entry)) (now (y .entry)) (now (z .entry)) (now (w .entry)) (now (x .exit)) (now (y .exit)) (now (z .exit)) (now (w .exit)) ⌝ }
+    ensures { λ r. ⌜ SortedBehind (map (rowAt (now (a .entry)) (now (b .entry)) (now (c .entry)) (now (d .entry))) (upFrom i (j - i))) k r (now (x .entry))
+        (now (y .entry)) (now (z .entry)) (now (w .entry)) (now (x .exit)) (now (y .exit)) (now (z .exit)) (now (w .exit)) ⌝ }
 {
     sort_behind(&a[i..j], &b[i..j], &c[i..j], &d[i..j], k, x, y, z, w)
 }
@@ -126,7 +128,8 @@ fn add_group(
     requires { ⌜ (i ≤ j) × ((j ≤ 1024) × (k ≤ i)) ⌝ }
     requires { ⌜ (length (now a) ≡ 1024) × ((length (now b) ≡ 1024) × ((length (now c) ≡ 1024) × (length (now d) ≡ 1024))) ⌝ }
     ensures { λ r. ⌜ r ≤ j ⌝ }
-    ensures { λ r. ⌜ listed (linkAt (linksOf r (now (out .exit)) (now (x .exit)) (now (y .exit)) (now (z .exit)) (now (w .exit)))) r ≡ listed (linkAt (linksOf k (now (out .entry)) (now (x .entry)) (now (y .entry)) (now (z .entry)) (now (w .entry)))) k
+    ensures { λ r. ⌜ listed (linkAt (linksOf r (now (out .exit)) (now (x .exit)) (now (y .exit)) (now (z .exit)) (now (w .exit)))) r
+        ≡ listed (linkAt (linksOf k (now (out .entry)) (now (x .entry)) (now (y .entry)) (now (z .entry)) (now (w .entry)))) k
         ++ inGroup g (sortLinks (map (rowAt (now (a .entry)) (now (b .entry)) (now (c .entry)) (now (d .entry))) (upFrom i (j - i)))) ⌝ }
 {
     let m = sort_part(a, b, c, d, i, j, k, x, y, z, w);

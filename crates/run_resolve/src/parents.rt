@@ -83,7 +83,8 @@ pub fn renew(
 ) -> Grown
     requires { ⌜ (n ≤ 1024) × ((length (now flags) ≡ 1024) × (start + n ≤ 2 ^ 64 - 1)) ⌝ }
     requires { ⌜ edgesOk n (edgesOf count (now offsets) (now targets)) ≡ true ⌝ }
-    ensures { λ r. ⌜ Renewal (take n (now (flags .entry))) (newLists kinds start (take n (now (flags .entry))) (slotsIn n (edgesOf count (now (offsets .entry)) (now (targets .entry))))) (renewedOf r (now (offsets .exit)) (now (targets .exit))) ⌝ }
+    ensures { λ r. ⌜ Renewal (take n (now (flags .entry))) (newLists kinds start (take n (now (flags .entry)))
+        (slotsIn n (edgesOf count (now (offsets .entry)) (now (targets .entry))))) (renewedOf r (now (offsets .exit)) (now (targets .exit))) ⌝ }
 {
     let g = put_all(start, n, count, flags, offsets, targets, offs, all);
     match g {

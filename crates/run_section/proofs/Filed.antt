@@ -14,7 +14,8 @@ use Rattle.columns.specs.Building.{Built, slotRules, builtOf, within}
 use Rattle.archive.specs.File.{File}
 use Rattle.archive_bytes.specs.Bytes.{several}
 use Rattle.cleaning.specs.Sheet.{Sheet, rowCount}
-use Rattle.cleaning.specs.Sections.{sectionStart, sectionRows, sectionFirst, sectionEnd, sheetEnd, sectionLists, sectionChildren, childLists, sectionGraph, sectionFile, sectionFileOf, unerasedRow, coverWhere, sectionLabels}
+use Rattle.cleaning.specs.Sections.{sectionStart, sectionRows, sectionFirst, sectionEnd, sheetEnd, sectionLists, sectionChildren, childLists, sectionGraph, sectionFile}
+use Rattle.cleaning.specs.Sections.{sectionFileOf, unerasedRow, coverWhere, sectionLabels}
 use Rattle.cleaning.proofs.SectionSets.{section-built}
 use Rattle.run_state.specs.declared.Groups.{Groups}
 use Rattle.run_state.specs.View.{factsAt}

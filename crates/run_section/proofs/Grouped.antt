@@ -71,7 +71,8 @@ module _ (z : Counts) (subject : List ℕ) (groups : Groups) (rows unresolved ro
         links-few = omega (arith, at .links-at .within, ready .few .links);
       }
 
-      module _ {starts kids : List ℕ} (children : Children z offsets targets starts kids) (covers : Covers) (counted : CoversCounted z groups rows covers) (f : Facts) (facts : FactsAt groups covers g f)
+      module _ {starts kids : List ℕ} (children : Children z offsets targets starts kids) (covers : Covers) (counted : CoversCounted z groups rows covers) (f : Facts)
+          (facts : FactsAt groups covers g f)
         where
           pub ranges-rise : f .from ≤ f .to
           ranges-rise = omega (arith, facts .from-is, facts .to-is, counted .ends-rise g there)

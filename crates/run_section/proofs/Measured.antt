@@ -93,6 +93,7 @@ module _ (z : Counts) (subject : List ℕ) (groups : Groups) (g : ℕ) (s : Sect
 
   -- the same by edges that are counted
   pub file-size : (e : Edges) → EdgesOf (setsAt z s offsets targets starts kids) e
-      → length (fileBytes (fileAt z subject groups g s rows unresolved roots (setsAt z s offsets targets starts kids) (coverWhere there ls (linksAt s links)))) ≡ sizeAt (length subject) s e there ranges
+      → length (fileBytes (fileAt z subject groups g s rows unresolved roots (setsAt z s offsets targets starts kids) (coverWhere there ls (linksAt s links))))
+      ≡ sizeAt (length subject) s e there ranges
   unfolding sizeAt sizeBy
   file-size e edges = file-length ∙ rw (← edges .forward-is, ← edges .reverse-is, ← edges .inbound-is)

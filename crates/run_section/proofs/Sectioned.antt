@@ -22,7 +22,8 @@ use Rattle.columns.specs.declared.refusal.Refusal.the-variants.{DeltaRange}
 use Rattle.archive_bytes.specs.Bytes.{several}
 use Rattle.archive.proofs.Back.{length-several}
 use Rattle.cleaning.specs.Sheet.{Sheet, rowCount}
-use Rattle.cleaning.specs.Sections.{place, between, sectionStart, sectionRows, sectionFirst, sectionEnd, sectionTags, sectionLists, sectionLabels, sectionUnresolved, sectionRoots, sectionLinks, sectionChildren, childLists, factsOf, sectionGraph, sectionFaults}
+use Rattle.cleaning.specs.Sections.{place, between, sectionStart, sectionRows, sectionFirst, sectionEnd, sectionTags, sectionLists, sectionLabels, sectionUnresolved}
+use Rattle.cleaning.specs.Sections.{sectionRoots, sectionLinks, sectionChildren, childLists, factsOf, sectionGraph, sectionFaults}
 use Rattle.cleaning.specs.Held.{noFacts}
 use Rattle.cleaning.proofs.SectionRules.{section-rules}
 use Rattle.run_state.specs.declared.Groups.{Groups}

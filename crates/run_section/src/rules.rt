@@ -122,8 +122,10 @@ pub fn section_rules(
     requires { ⌜ (z .rows ≤ 1024) × ((z .start + z .rows < end64) × ((s .rows .from ≤ s .rows .to) × (s .rows .to ≤ z .rows))) ⌝ }
     requires { ⌜ (s .unresolved .from ≤ s .unresolved .to) × (s .unresolved .to * 3 ≤ length (now unresolved)) ⌝ }
     requires { ⌜ Lists (z .rows) (now offsets) (now targets) (now starts) (now kids) ⌝ }
-    ensures { λ r. ⌜ r ≡ ruling (faults (ltb 0 size) (all kindFits (several 3 unresolvedIn (s .unresolved .to - s .unresolved .from) (drop (s .unresolved .from * 3) (now (unresolved .entry))))) (depthOk (depthIn k)) rises
-        (spansIn (z .start) (s .rows .from) (s .rows .to - s .rows .from) (now (offsets .entry)) (now (targets .entry)) && spansIn (z .start) (s .rows .from) (s .rows .to - s .rows .from) (now (starts .entry)) (now (kids .entry)))) ⌝ }
+    ensures { λ r. ⌜ r ≡ ruling (faults (ltb 0 size) (all kindFits
+        (several 3 unresolvedIn (s .unresolved .to - s .unresolved .from) (drop (s .unresolved .from * 3) (now (unresolved .entry))))) (depthOk (depthIn k)) rises
+        (spansIn (z .start) (s .rows .from) (s .rows .to - s .rows .from) (now (offsets .entry)) (now (targets .entry)) && spansIn (z .start) (s .rows .from)
+        (s .rows .to - s .rows .from) (now (starts .entry)) (now (kids .entry)))) ⌝ }
 {
     let a = s.rows.from;
     let p = s.unresolved.from;

@@ -27,7 +27,8 @@ use Rattle.run_store.specs.names.Named.{Named}
 
 -- what is asked of an archive that is stored
 pub accepted : (h : Held) (l : List ℕ) → LongHeld h
-    → ((heldOk h ≡ true) × (ordered (h .sheet) ≡ true)) × (((isGot (parse kinds l) ≡ true) × Each (FileFits kinds) (filesIn (parse kinds l))) × (holdRules kinds (heldIn h) (filesIn (parse kinds l)) ≡ none)) → Accepted h l
+    → ((heldOk h ≡ true) × (ordered (h .sheet) ≡ true)) × (((isGot (parse kinds l) ≡ true) × Each (FileFits kinds) (filesIn (parse kinds l)))
+    × (holdRules kinds (heldIn h) (filesIn (parse kinds l)) ≡ none)) → Accepted h l
 accepted h l long r = record { long = long; ok = r .0 .0; order = r .0 .1; parsed = r .1 .0 .0; fits = r .1 .0 .1; rules = r .1 .1 }
 
 -- names and parts, put together

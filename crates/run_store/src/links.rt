@@ -62,7 +62,8 @@ fn cover_links(
 )
     requires { ⌜ HoldsCover (now bytes) n (t .cover) (t .body) × SumsIn true (now bytes) n t ⌝ }
     requires { ⌜ (c + t .cover .links ≤ 1024) × ((n ≤ 1024) × (t .cover .ranges ≤ 1024)) ⌝ }
-    ensures { λ _. ⌜ EndsMore c (now (chains .entry)) (now (seqs .entry)) (now (tochains .entry)) (now (toseqs .entry)) (now (chains .exit)) (now (seqs .exit)) (now (tochains .exit)) (now (toseqs .exit)) (coverIn (partIn (now (bytes .entry)) (t .body)) n (t .cover)) ⌝ }
+    ensures { λ _. ⌜ EndsMore c (now (chains .entry)) (now (seqs .entry)) (now (tochains .entry)) (now (toseqs .entry)) (now (chains .exit)) (now (seqs .exit))
+        (now (tochains .exit)) (now (toseqs .exit)) (coverIn (partIn (now (bytes .entry)) (t .body)) n (t .cover)) ⌝ }
 {
     let a = t.body;
     let at = a.at;
@@ -94,7 +95,9 @@ fn add_links(
 )
     requires { ⌜ HoldsTail (now bytes) (f .front .head .rows) (f .tail) × (SumsIn (f .tail .covered) (now bytes) (f .front .head .rows) (f .tail) × Uncovers (f .tail .covered) (f .tail .cover)) ⌝ }
     requires { ⌜ (c + f .tail .cover .links ≤ 1024) × ((f .front .head .rows ≤ 1024) × (f .tail .cover .ranges ≤ 1024)) ⌝ }
-    ensures { λ _. ⌜ linksOf (c + f .tail .cover .links) (now (groups .exit)) (now (chains .exit)) (now (seqs .exit)) (now (tochains .exit)) (now (toseqs .exit)) ≡ linksMore (linksOf c (now (groups .entry)) (now (chains .entry)) (now (seqs .entry)) (now (tochains .entry)) (now (toseqs .entry))) (f .front .head .group) ((tailIn (now (bytes .entry)) (f .front .head .rows) (f .tail)) .cover) ⌝ }
+    ensures { λ _. ⌜ linksOf (c + f .tail .cover .links) (now (groups .exit)) (now (chains .exit)) (now (seqs .exit)) (now (tochains .exit)) (now (toseqs .exit))
+        ≡ linksMore (linksOf c (now (groups .entry)) (now (chains .entry)) (now (seqs .entry)) (now (tochains .entry)) (now (toseqs .entry))) (f .front .head .group)
+        ((tailIn (now (bytes .entry)) (f .front .head .rows) (f .tail)) .cover) ⌝ }
 {
     let t = f.tail;
     if !t.covered {

@@ -32,7 +32,8 @@ fn put_unresolved(
     bytes: &[u8],
 )
     requires { ⌜ (c + n ≤ 1024) × (4 + n * 13 ≤ length (now bytes)) ⌝ }
-    ensures { λ _. ⌜ unresolvedOf (c + n) (now (children .exit)) (now (kinds .exit)) (now (handles .exit)) ≡ unresolvedWith (unresolvedOf c (now (children .entry)) (now (kinds .entry)) (now (handles .entry))) (several 13 unresolvedAt n (drop 4 (now (bytes .entry)))) ⌝ }
+    ensures { λ _. ⌜ unresolvedOf (c + n) (now (children .exit)) (now (kinds .exit)) (now (handles .exit))
+        ≡ unresolvedWith (unresolvedOf c (now (children .entry)) (now (kinds .entry)) (now (handles .entry))) (several 13 unresolvedAt n (drop 4 (now (bytes .entry)))) ⌝ }
 {
     put_u64s(children, c, bytes, 4, 13, 0, n);
     put_u8s(kinds, c, bytes, 4, 13, 8, n);
@@ -49,7 +50,9 @@ fn add_unresolved(
     m: MiddleAt,
 )
     requires { ⌜ Holds (now bytes) (m .unresolved) (4 + m .count * 13) × (c + m .count ≤ 1024) ⌝ }
-    ensures { λ _. ⌜ unresolvedOf (c + m .count) (now (children .exit)) (now (kinds .exit)) (now (handles .exit)) ≡ unresolvedWith (unresolvedOf c (now (children .entry)) (now (kinds .entry)) (now (handles .entry))) (several 13 unresolvedAt (m .count) (drop 4 (partIn (now (bytes .entry)) (m .unresolved)))) ⌝ }
+    ensures { λ _. ⌜ unresolvedOf (c + m .count) (now (children .exit)) (now (kinds .exit)) (now (handles .exit))
+        ≡ unresolvedWith (unresolvedOf c (now (children .entry)) (now (kinds .entry)) (now (handles .entry)))
+        (several 13 unresolvedAt (m .count) (drop 4 (partIn (now (bytes .entry)) (m .unresolved)))) ⌝ }
 {
     let a = m.unresolved;
     let at = a.at;
@@ -123,7 +126,8 @@ fn put_roots(
 )
     requires { ⌜ (c + n ≤ 1024) × ((before ≤ 1024) × (4 + n * 16 ≤ length (now bytes))) ⌝ }
     requires { ⌜ Small (several 16 (λ l. be 8 l 0) n (drop 4 (now bytes))) ⌝ }
-    ensures { λ _. ⌜ rootsOf (c + n) (now (rows .exit)) (now (handles .exit)) ≡ rootsWith (rootsOf c (now (rows .entry)) (now (handles .entry))) before (several 16 rootAt n (drop 4 (now (bytes .entry)))) ⌝ }
+    ensures { λ _. ⌜ rootsOf (c + n) (now (rows .exit)) (now (handles .exit))
+        ≡ rootsWith (rootsOf c (now (rows .entry)) (now (handles .entry))) before (several 16 rootAt n (drop 4 (now (bytes .entry)))) ⌝ }
 {
     put_moved(rows, c, bytes, 4, 16, 0, n, before as u64);
     put_u64s(handles, c, bytes, 4, 16, 8, n);
@@ -140,7 +144,8 @@ fn add_roots(
 )
     requires { ⌜ Holds (now bytes) (t .roots) (4 + t .count * 16) × ((c + t .count ≤ 1024) × (before ≤ 1024)) ⌝ }
     requires { ⌜ Small (several 16 (λ l. be 8 l 0) (t .count) (drop 4 (partIn (now bytes) (t .roots)))) ⌝ }
-    ensures { λ _. ⌜ rootsOf (c + t .count) (now (rows .exit)) (now (handles .exit)) ≡ rootsWith (rootsOf c (now (rows .entry)) (now (handles .entry))) before (several 16 rootAt (t .count) (drop 4 (partIn (now (bytes .entry)) (t .roots)))) ⌝ }
+    ensures { λ _. ⌜ rootsOf (c + t .count) (now (rows .exit)) (now (handles .exit))
+        ≡ rootsWith (rootsOf c (now (rows .entry)) (now (handles .entry))) before (several 16 rootAt (t .count) (drop 4 (partIn (now (bytes .entry)) (t .roots)))) ⌝ }
 {
     let a = t.roots;
     let at = a.at;

@@ -103,7 +103,8 @@ fn add_rows(
     f: FileAt,
 )
     requires { ⌜ HoldsFile (now bytes) f × (c + f .front .head .rows ≤ 1024) ⌝ }
-    ensures { λ _. ⌜ rowsOf (c + f .front .head .rows) (now (groups .exit)) (now (tags .exit)) (now (chains .exit)) (now (seqs .exit)) ≡ rowsMore (rowsOf c (now (groups .entry)) (now (tags .entry)) (now (chains .entry)) (now (seqs .entry))) (fileIn (now (bytes .entry)) f) ⌝ }
+    ensures { λ _. ⌜ rowsOf (c + f .front .head .rows) (now (groups .exit)) (now (tags .exit)) (now (chains .exit)) (now (seqs .exit))
+        ≡ rowsMore (rowsOf c (now (groups .entry)) (now (tags .entry)) (now (chains .entry)) (now (seqs .entry))) (fileIn (now (bytes .entry)) f) ⌝ }
 {
     let a = f.front;
     let d = a.head;

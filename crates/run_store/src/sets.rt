@@ -148,7 +148,8 @@ fn add_set(
 )
     requires { ⌜ Holds (now bytes) (f .sets) (setEnd (f .head .rows) (s .at) (s .count)) ⌝ }
     requires { ⌜ SetRoom c n (now bytes) f (s .at) (s .count) ⌝ }
-    ensures { λ _. ⌜ edgesOf (c + s .count) (now (starts .exit)) (now (targets .exit)) ≡ edgesWith (edgesOf c (now (starts .entry)) (now (targets .entry))) n (f .head .first) (setAt (partIn (now (bytes .entry)) (f .sets)) (f .head .rows) (s .at) (s .count)) ⌝ }
+    ensures { λ _. ⌜ edgesOf (c + s .count) (now (starts .exit)) (now (targets .exit))
+        ≡ edgesWith (edgesOf c (now (starts .entry)) (now (targets .entry))) n (f .head .first) (setAt (partIn (now (bytes .entry)) (f .sets)) (f .head .rows) (s .at) (s .count)) ⌝ }
 {
     let d = f.head;
     let rows = d.rows as usize;

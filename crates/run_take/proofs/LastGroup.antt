@@ -72,7 +72,8 @@ module _ (s : Sheet) (l : LongSheet s) (k : sheetOk s ≡ true) where
   no-groups e = rw e
 
   pub last-group : (s .groups .count ≡ 0 → ⊥)
-      → backOf (record { known = true; group = s .groups .count - 1; end = s .start + s .rows .count; covered = hasCover (s .groups) (s .groups .count - 1) }) (take (s .subject .length) (s .subject .bytes)) ≡ lookBack (sheetIn s)
+      → backOf (record { known = true; group = s .groups .count - 1; end = s .start + s .rows .count; covered = hasCover (s .groups) (s .groups .count - 1) })
+      (take (s .subject .length) (s .subject .bytes)) ≡ lookBack (sheetIn s)
   unfolding backOf lookBack sheetIn factsAt
   last-group e =
       let n = s .groups .count in

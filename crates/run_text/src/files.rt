@@ -22,7 +22,8 @@ fn put_name(out: &mut [u8], at: usize, name: &[u8]) -> usize
 
 fn put_offsets_line(out: &mut [u8], at: usize, name: &[u8], xs: &[u64]) -> usize
     requires { ⌜ at + (9 + (length (now name) + 21 * length (now xs))) ≤ length (now out) ⌝ }
-    ensures { λ r. ⌜ Wrote (line (text "offsets") (now (name .entry) ∷ map decimal (now (xs .entry)))) (9 + (length (now (name .entry)) + 21 * length (now (xs .entry)))) (now (out .entry)) at (now (out .exit)) r ⌝ }
+    ensures { λ r. ⌜ Wrote (line (text "offsets") (now (name .entry) ∷ map decimal (now (xs .entry)))) (9 + (length (now (name .entry)) + 21 * length (now (xs .entry))))
+        (now (out .entry)) at (now (out .exit)) r ⌝ }
 {
     let p = put_word(out, at, b"offsets");
     let q = put_name(out, p, name);
@@ -32,7 +33,8 @@ fn put_offsets_line(out: &mut [u8], at: usize, name: &[u8], xs: &[u64]) -> usize
 
 fn put_deltas_line(out: &mut [u8], at: usize, name: &[u8], ds: &[i64]) -> usize
     requires { ⌜ at + (8 + (length (now name) + 21 * length (now ds))) ≤ length (now out) ⌝ }
-    ensures { λ r. ⌜ Wrote (line (text "deltas") (now (name .entry) ∷ map signed (now (ds .entry)))) (8 + (length (now (name .entry)) + 21 * length (now (ds .entry)))) (now (out .entry)) at (now (out .exit)) r ⌝ }
+    ensures { λ r. ⌜ Wrote (line (text "deltas") (now (name .entry) ∷ map signed (now (ds .entry)))) (8 + (length (now (name .entry)) + 21 * length (now (ds .entry))))
+        (now (out .entry)) at (now (out .exit)) r ⌝ }
 {
     let p = put_word(out, at, b"deltas");
     let q = put_name(out, p, name);
@@ -42,7 +44,8 @@ fn put_deltas_line(out: &mut [u8], at: usize, name: &[u8], ds: &[i64]) -> usize
 
 pub fn put_set(out: &mut [u8], at: usize, name: &[u8], offsets: &[u64], deltas: &[i64]) -> usize
     requires { ⌜ at + setSize (length (now name)) (length (now offsets)) (length (now deltas)) ≤ length (now out) ⌝ }
-    ensures { λ r. ⌜ Wrote (setLines (now (name .entry)) (columnsOf (now (offsets .entry)) (now (deltas .entry)))) (setSize (length (now (name .entry))) (length (now (offsets .entry))) (length (now (deltas .entry)))) (now (out .entry)) at (now (out .exit)) r ⌝ }
+    ensures { λ r. ⌜ Wrote (setLines (now (name .entry)) (columnsOf (now (offsets .entry)) (now (deltas .entry))))
+        (setSize (length (now (name .entry))) (length (now (offsets .entry))) (length (now (deltas .entry)))) (now (out .entry)) at (now (out .exit)) r ⌝ }
 {
     let p = put_offsets_line(out, at, name, offsets);
     put_deltas_line(out, p, name, deltas)

@@ -43,7 +43,8 @@ fn write_tables(
     requires { ⌜ (Children (p .counts) (now offsets) (now targets) (now starts) (now kids)) × (CoversAt (p .counts) groups (now rows) (now ranges) (p .covers)) ⌝ }
     requires { ⌜ Stores (p .counts) (now rows) (now unresolved) (now links) (now ranges) ⌝ }
     requires { ⌜ Filled (sheetOf (p .counts) (now subject) groups (now rows) (now unresolved) (now roots) (now links) (now offsets) (now targets)) ⌝ }
-    ensures { λ r. ⌜ Wrote (sheetOf (p .counts) (now (subject .entry)) groups (now (rows .entry)) (now (unresolved .entry)) (now (roots .entry)) (now (links .entry)) (now (offsets .entry)) (now (targets .entry))) (now (out .entry)) (now (out .exit)) r ⌝ }
+    ensures { λ r. ⌜ Wrote (sheetOf (p .counts) (now (subject .entry)) groups (now (rows .entry)) (now (unresolved .entry)) (now (roots .entry)) (now (links .entry))
+        (now (offsets .entry)) (now (targets .entry))) (now (out .entry)) (now (out .exit)) r ⌝ }
 {
     let z = p.counts;
     let covers = p.covers;

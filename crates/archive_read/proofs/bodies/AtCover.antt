@@ -25,7 +25,8 @@ module _ (b : List ℕ) (rows : ℕ) where
         q = linksPlace rows m + 4
 
         go : (t1 t2 t3 t4 t5 t6 t7 : Bool) → leb (rows * 4) (length b) ≡ t1 → leb (rows * 4 + rows * 4) (length b) ≡ t2 → leb (linksPlace rows m) (length b) ≡ t3
-            → leb (linksPlace rows m + 4 + k * 4) (length b) ≡ t4 → leb (linksPlace rows m + 4 + k * 4 + k * 4) (length b) ≡ t5 → leb (linksPlace rows m + 4 + k * 4 + k * 4 + k * 4) (length b) ≡ t6 → leb (coverEnd rows m k) (length b) ≡ t7
+            → leb (linksPlace rows m + 4 + k * 4) (length b) ≡ t4 → leb (linksPlace rows m + 4 + k * 4 + k * 4) (length b) ≡ t5
+            → leb (linksPlace rows m + 4 + k * 4 + k * 4 + k * 4) (length b) ≡ t6 → leb (coverEnd rows m k) (length b) ≡ t7
             → broken ≡ whole (Parse.cover rows) b
         go false t2 t3 t4 t5 t6 t7 e1 e2 e3 e4 e5 e6 e7 = rw (zero-add (rows * 4), e1)
         go true false t3 t4 t5 t6 t7 e1 e2 e3 e4 e5 e6 e7 = rw (zero-add (rows * 4), e1, e2)

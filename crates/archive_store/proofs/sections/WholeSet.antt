@@ -34,7 +34,8 @@ module _ (low high from n : ℕ) (offsets targets : List ℕ) where
         let ds = joined (deltasFrom kinds first 0 ls) in
         omega (arith, length-column 8 (map unsignedOf ds), length-map ds unsignedOf, set-count kinds first ls)
 
-    module _ (at : ℕ) (l : List ℕ) {i j : List ℕ} (m : ℕ) (d : i ≡ sets l (at + 4) (columnBytes 8 (starts 0 (rowsWithin kinds low high from n offsets targets)))) (e : j ≡ sets i at (bytesOf 4 m)) where
+    module _ (at : ℕ) (l : List ℕ) {i j : List ℕ} (m : ℕ) (d : i ≡ sets l (at + 4) (columnBytes 8 (starts 0 (rowsWithin kinds low high from n offsets targets))))
+        (e : j ≡ sets i at (bytesOf 4 m)) where
       pub deltas-room : at + setSize (2 * n + 1) (length (joined (rowsWithin kinds low high from n offsets targets))) ≤ length l
           → at + 4 + 8 * (2 * n + 1) + length (deltaBytes (joined (deltasFrom kinds first 0 (rowsWithin kinds low high from n offsets targets)))) ≤ length j
       deltas-room h =

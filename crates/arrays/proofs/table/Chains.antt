@@ -37,7 +37,8 @@ module _ {t : ℕ} (keys links : List ℕ) (i x : ℕ) (e : t ≡ newest i keys 
 
   split : 0 < i → t ≡ cond (eqb (getD keys (i - 1) 0) x) i (newest (i - 1) keys links (getD links (i - 1) 0) x)
   unfolding newest
-  split h = let z : i ≡ suc (i - 1) = omega arith in e ∙ ap (λ (k : ℕ). newest k keys links k x) z ∙ ap (λ (k : ℕ). cond (eqb (getD keys (i - 1) 0) x) k (newest (i - 1) keys links (getD links (i - 1) 0) x)) (sym z)
+  split h = let z : i ≡ suc (i - 1) = omega arith in e ∙ ap (λ (k : ℕ). newest k keys links k x) z
+      ∙ ap (λ (k : ℕ). cond (eqb (getD keys (i - 1) 0) x) k (newest (i - 1) keys links (getD links (i - 1) 0) x)) (sym z)
 
   pub bucket-hit : 0 < i → getD keys (i - 1) 0 ≡ x → i ≡ t
   bucket-hit h f = sym (split h ∙ rw (eq-eqb (getD keys (i - 1) 0) x f))
@@ -140,7 +141,8 @@ module _ (keys links heads : List ℕ) (n k : ℕ) (t : Table keys links heads n
       go j h (same e) = rw (e, getD-set-same links n (getD heads (k % length heads) 0) 0 (let v = t .even in omega arith)) (t .top (k % length heads))
       go j h (other e) = rw (getD-set-other links n j (getD heads (k % length heads) 0) 0 e) (t .down .low j (omega (arith, e)))
 
-  holds′ : (x : ℕ) → newest (getD (set heads (k % length heads) (n + 1)) (x % length heads) 0) (set keys n k) (set links n (getD heads (k % length heads) 0)) (getD (set heads (k % length heads) (n + 1)) (x % length heads) 0) x
+  holds′ : (x : ℕ) → newest (getD (set heads (k % length heads) (n + 1)) (x % length heads) 0) (set keys n k) (set links n (getD heads (k % length heads) 0))
+      (getD (set heads (k % length heads) (n + 1)) (x % length heads) 0) x
       ≡ lastPlace (set keys n k) (n + 1) x
   unfolding newest lastPlace
   holds′ x = elim (is-same (x % length heads) (k % length heads)) [
@@ -229,7 +231,8 @@ module _ {t : List ℕ} (c : ℕ) (ys : List ℕ) (i b : ℕ) (src : List ℕ) (
   unfolding addsCap
   one-in d f q h k = rw (e, slice-cons i b src 0, f, q, add-one)
 
-pub list-in : (keys₀ keys ps src links₀ heads₀ links heads : List ℕ) (n m i b : ℕ) → addsCap (length keys₀) (take n keys₀) ps ≡ addsCap (length keys₀) (take m keys) (slice i b src) → b ≤ i → length keys ≡ length keys₀
+pub list-in : (keys₀ keys ps src links₀ heads₀ links heads : List ℕ) (n m i b : ℕ)
+    → addsCap (length keys₀) (take n keys₀) ps ≡ addsCap (length keys₀) (take m keys) (slice i b src) → b ≤ i → length keys ≡ length keys₀
     → Table keys₀ links₀ heads₀ n → Table keys links heads m → Keys keys₀ keys n m ps
 list-in keys₀ keys ps src links₀ heads₀ links heads n m i b e h q t u = keys-are keys₀ keys ps n m (all-in (length keys₀) (take m keys) i b src e h) (t .upto) (u .upto) q
 

@@ -21,7 +21,9 @@ use Rattle.columns.specs.Refusal.{accepted, unless, firstOf, firstIn, Lent, sho
 use Rattle.columns.specs.EdgeSet.{EdgeSet, forward, reverse, inbound, offsetsForm, setOf}
 use Rattle.columns.specs.Reading.{Labels, labelsIn, coverRules, setRules, setLengths, columnLengths, granuleRules, granuleOf, readBeside, readGranule}
 use Rattle.columns.specs.Questions.{listOf}
-use Rattle.columns.specs.Building.{Graph, Built, endOf, slotsIn, has, greater, recordCount, numbersOk, slotRules, labelsRules, inboundRules, allInboundRules, childrenTo, slotTable, naming, reverseLists, inboundLists, granuleStart, forwardPart, reversePart, inboundPart, buildRules, builtOf, graphRecords, graphLengths, buildBeside}
+use Rattle.columns.specs.Building.{Graph, Built, endOf, slotsIn, has, greater, recordCount, numbersOk, slotRules, labelsRules, inboundRules, allInboundRules, childrenTo}
+use Rattle.columns.specs.Building.{slotTable, naming, reverseLists, inboundLists, granuleStart, forwardPart, reversePart, inboundPart, buildRules, builtOf, graphRecords}
+use Rattle.columns.specs.Building.{graphLengths, buildBeside}
 use Rattle.columns.specs.declared.refusal.Refusal.{Refusal}
 use Rattle.columns.specs.declared.refusal.Refusal.the-variants.{EdgeEntries, NumberRange, InboundChild, InboundTwice, GranuleRows, OverNumbers}
 use Rattle.columns.proofs.FirstBroken.{each-none, none-of, each-none-in, not-refused, passed, fails}
@@ -152,22 +154,31 @@ module _ (g : Graph) (room : List Lent) (small : limits (graphRecords g) (graphL
   inbound-kept =
       set-rules kinds inbound (granuleStart g) (g .granuleRows) (endOf g) (inboundPart kinds g)
       (rw inbound-table (length-table kinds (λ number kind. sort (childrenTo number kind (g .inbound .children) (g .inbound .parents) (g .inbound .kindsGiven))) (granuleStart g) (g .granuleRows)))
-      (rw inbound-table (table-side inbound (granuleStart g) (endOf g) (λ number kind. sort (childrenTo number kind (g .inbound .children) (g .inbound .parents) (g .inbound .kindsGiven))) (g .granuleRows)
+      (rw inbound-table (table-side inbound (granuleStart g) (endOf g)
+      (λ number kind. sort (childrenTo number kind (g .inbound .children) (g .inbound .parents) (g .inbound .kindsGiven))) (g .granuleRows)
       (omega (arith, numbers, inside)) (λ p k l u j. inbound-side (endOf g) p k (g .inbound .children) (g .inbound .parents) (g .inbound .kindsGiven) children)))
 
   -- ── room ─────────────────────────────────────────────────────────────────────────────────────
 
   room-of : (set : ℕ) (s : EdgeSet) → setRules kinds set (granuleStart g) (g .granuleRows) (endOf g) s ≡ none → length (s .deltas) ≤ maxNumbers → Roomy s
   room-of set s k d = record {
-    offsets = omega (arith, form-length kinds (g .granuleRows) (s .count) (s .offsets) (kept-form kinds set (granuleStart g) (g .granuleRows) (endOf g) s k), few g room small form full inside, inside);
+    offsets = omega (
+      arith,
+      form-length kinds (g .granuleRows) (s .count) (s .offsets) (kept-form kinds set (granuleStart g) (g .granuleRows) (endOf g) s k),
+      few g room small form full inside,
+      inside,
+    );
     deltas = d;
   }
 
   rooms-back : Roomy (builtOf kinds g .forward) × Roomy (builtOf kinds g .reverse) × Roomy (builtOf kinds g .inbound)
   unfolding columnLengths setLengths builtOf
   rooms-back =
-      let w = built-within g room small form full inside none refl in
-      (room-of forward (builtOf kinds g .forward) forward-kept (w .1 .0), room-of reverse (builtOf kinds g .reverse) reverse-kept (w .1 .1 .1 .0), room-of inbound (builtOf kinds g .inbound) inbound-kept (w .1 .1 .1 .1 .1 .0))
+      let w = built-within g room small form full inside none refl in (
+        room-of forward (builtOf kinds g .forward) forward-kept (w .1 .0),
+        room-of reverse (builtOf kinds g .reverse) reverse-kept (w .1 .1 .1 .0),
+        room-of inbound (builtOf kinds g .inbound) inbound-kept (w .1 .1 .1 .1 .1 .0),
+      )
 
   -- ── a reader ─────────────────────────────────────────────────────────────────────────────────
 

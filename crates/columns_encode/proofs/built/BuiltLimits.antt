@@ -19,7 +19,8 @@ use Rattle.columns.specs.Limits.{kinds, maxRecords, maxNumbers, end32}
 use Rattle.columns.specs.Refusal.{firstOf, Lent, short, limits}
 use Rattle.columns.specs.EdgeSet.{offsetsForm, setOf}
 use Rattle.columns.specs.Reading.{Label, Labels, labelsOf, labelsIn, labelLengths, labelRules, coverRules, setLengths, columnLengths}
-use Rattle.columns.specs.Building.{Graph, slotsIn, labelsRules, childrenTo, naming, reverseLists, inboundLists, granulePart, granuleStart, forwardPart, reversePart, inboundPart, builtOf, graphRecords, graphLengths}
+use Rattle.columns.specs.Building.{Graph, slotsIn, labelsRules, childrenTo, naming, reverseLists, inboundLists, granulePart, granuleStart, forwardPart, reversePart}
+use Rattle.columns.specs.Building.{inboundPart, builtOf, graphRecords, graphLengths}
 use Rattle.columns.specs.declared.refusal.Refusal.the-variants.{LabelCount, LabelColumns, OverRecords}
 use Rattle.columns.proofs.Checks.{few-numbers}
 use Rattle.columns.proofs.FirstBroken.{each-none, not-refused, passed}

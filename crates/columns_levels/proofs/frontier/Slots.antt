@@ -121,7 +121,8 @@ module _ {t : List ℕ} (p : ℕ → List ℕ) (c : ℕ) (i hi : ℕ) (list keys
   pub collect-one : (keys′ : List ℕ) (r : ℕ) → Keys keys keys′ n r (p (getD list i 0)) → length keys ≡ c → i < hi → hi ≤ length list → t ≡ addsCap c (take r keys′) (flat p (slice (i + 1) hi list))
   collect-one keys′ r x q h k = rw (e, slice-cons i hi list 0, adds-append, ← q, x .are, add-one)
 
-pub collect-done : (p : ℕ → List ℕ) (keys₀ keys ps list links₀ heads₀ links heads : List ℕ) (n m i hi : ℕ) → addsCap (length keys₀) (take n keys₀) ps ≡ addsCap (length keys₀) (take m keys) (flat p (slice i hi list))
+pub collect-done : (p : ℕ → List ℕ) (keys₀ keys ps list links₀ heads₀ links heads : List ℕ) (n m i hi : ℕ)
+    → addsCap (length keys₀) (take n keys₀) ps ≡ addsCap (length keys₀) (take m keys) (flat p (slice i hi list))
     → hi ≤ i → length keys ≡ length keys₀ → Table keys₀ links₀ heads₀ n → Table keys links heads m → Keys keys₀ keys n m ps
 collect-done p keys₀ keys ps list links₀ heads₀ links heads n m i hi e h q t u =
     keys-are keys₀ keys ps n m (collect-all p (length keys₀) i hi list keys m e h) (t .upto) (u .upto) q

@@ -115,8 +115,10 @@ module _ (first kind left n r : ℕ) (offsets targets visited frontier keys keys
   new : List ℕ
   new = newFrom visited [] (flat (parentsIn first kind offsets targets) frontier)
 
-  all-made : 0 < left → (addsCap (length keys) (take n keys) (flat (parentsIn first kind offsets targets) frontier) ≡ take n keys ++ newFrom visited [] (flat (parentsIn first kind offsets targets) frontier))
-      × (length (take n keys ++ newFrom visited [] (flat (parentsIn first kind offsets targets) frontier)) ≤ hitsIn (take n keys ++ newFrom visited [] (flat (parentsIn first kind offsets targets) frontier)) (q .bound))
+  all-made : 0 < left → (addsCap (length keys) (take n keys) (flat (parentsIn first kind offsets targets) frontier) ≡ take n keys
+      ++ newFrom visited [] (flat (parentsIn first kind offsets targets) frontier))
+      × (length (take n keys ++ newFrom visited [] (flat (parentsIn first kind offsets targets) frontier)) ≤ hitsIn
+      (take n keys ++ newFrom visited [] (flat (parentsIn first kind offsets targets) frontier)) (q .bound))
   all-made h =
       made-all (length keys) (take n keys) (q .bound) visited (q .same h) (q .fits) (flat (parentsIn first kind offsets targets) frontier)
       (λ x e. q .every x (all-parents-in first kind offsets targets frontier x e)) (q .within h)

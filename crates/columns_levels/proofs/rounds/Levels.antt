@@ -56,7 +56,8 @@ part-part m e l a h k =
 
 -- ── the turns of the code ────────────────────────────────────────────────────────────────────
 
-pub going-first : (p : ℕ → List ℕ) (limit : ℕ) (buf ends : List ℕ) → Going (levelsFrom p limit limit (take 1 buf) (take 1 buf)) (levelsFrom p (limit - 0) limit (take 1 buf) (slice 0 1 buf)) buf ends 1 0
+pub going-first : (p : ℕ → List ℕ) (limit : ℕ) (buf ends : List ℕ)
+    → Going (levelsFrom p limit limit (take 1 buf) (take 1 buf)) (levelsFrom p (limit - 0) limit (take 1 buf) (slice 0 1 buf)) buf ends 1 0
 going-first p limit buf ends =
     let z : limit - 0 ≡ limit = omega arith in
     rw z (record {

@@ -35,7 +35,8 @@ module _ (first high : ℕ) (deltas : List ℤ) (fits : high ≤ length deltas) 
   slot-long : (s a b : ℕ) → b ≤ high → length (map (targetOf (eventOf kinds first s)) (slice a b deltas)) ≡ b - a
   slot-long s a b h = length-map (slice a b deltas) (targetOf (eventOf kinds first s)) ∙ length-slice a b deltas (omega arith)
 
-  targets-cons : (s a b : ℕ) (bs : List ℕ) → targetsFrom kinds first s (cutFrom a (b ∷ bs) deltas) ≡ map (targetOf (eventOf kinds first s)) (slice a b deltas) ∷ targetsFrom kinds first (suc s) (cutFrom b bs deltas)
+  targets-cons : (s a b : ℕ) (bs : List ℕ) → targetsFrom kinds first s (cutFrom a (b ∷ bs) deltas)
+      ≡ map (targetOf (eventOf kinds first s)) (slice a b deltas) ∷ targetsFrom kinds first (suc s) (cutFrom b bs deltas)
   unfolding targetsFrom cutFrom
   targets-cons s a b bs = refl
 
@@ -68,7 +69,8 @@ module _ (first high : ℕ) (deltas : List ℤ) (fits : high ≤ length deltas) 
       let x = map (targetOf (eventOf kinds first s)) (slice a b deltas) in
       let rest = joined (targetsFrom kinds first (suc s) (cutFrom b bs deltas)) in
       let q : length x ≡ b - a = slot-long s a b k in
-      let g : l ≡ p ++ (x ++ (rest ++ r)) = f ∙ ap (λ (j : List (List ℕ)). p ++ (joined j ++ r)) (targets-cons s a b bs) ∙ ap (λ (j : List ℕ). p ++ (j ++ r)) (joined-cons x (targetsFrom kinds first (suc s) (cutFrom b bs deltas)))
+      let g : l ≡ p ++ (x ++ (rest ++ r)) = f ∙ ap (λ (j : List (List ℕ)). p ++ (joined j ++ r)) (targets-cons s a b bs)
+      ∙ ap (λ (j : List ℕ). p ++ (j ++ r)) (joined-cons x (targetsFrom kinds first (suc s) (cutFrom b bs deltas)))
       ∙ ap (λ (j : List ℕ). p ++ j) (append-assoc x rest r) in
       let g′ : l ≡ (p ++ x) ++ (rest ++ r) = g ∙ sym (append-assoc p x (rest ++ r)) in
       let n : length (p ++ x) ≡ b = length-append p x ∙ omega (arith, h, q, c .0) in
@@ -89,5 +91,6 @@ pub stored : (set first rows end : ℕ) (s : EdgeSet) → setRules kinds set fir
 unfolding slotsOf
 stored set first rows end s k r = elim (tested (ltb 0 (s .count))) [
   | inl f ↦ all-same first (length (s .deltas)) (s .deltas) (omega arith) (s .offsets) (kept-climbs kinds set first rows end s k (ltb-true 0 (s .count) f)) _ r refl
-  | inr f ↦ all-same first 0 (s .deltas) (omega arith) (s .offsets) (let z : s .count ≡ 0 = omega (arith, ltb-false 0 (s .count) f) in rw z at (form-climbs kinds rows (s .count) (s .offsets) (kept-form kinds set first rows end s k))) _ r refl
+  | inr f ↦ all-same first 0 (s .deltas) (omega arith) (s .offsets)
+      (let z : s .count ≡ 0 = omega (arith, ltb-false 0 (s .count) f) in rw z at (form-climbs kinds rows (s .count) (s .offsets) (kept-form kinds set first rows end s k))) _ r refl
 ]

@@ -1,7 +1,8 @@
 -- `columns_read::decode_granule_edges` meets its contract.
 use mathlib.Core.Path.{refl}
 use borrow.Author.Needs.{needs}
-use Rattle.columns_read.proofs.ThreeSets.{forward-readable, reverse-readable, inbound-readable, granule-counted, forward-written, reverse-written, inbound-written, granule-refused, granule-as-was}
+use Rattle.columns_read.proofs.ThreeSets.{forward-readable, reverse-readable, inbound-readable, granule-counted, forward-written, reverse-written, inbound-written}
+use Rattle.columns_read.proofs.ThreeSets.{granule-refused, granule-as-was}
 use Rattle.columns_read.proofs.decode_granule_edges.Statement.{statement}
 use Rattle.columns_read.proofs.decode_granule_edges.Tie as tie
 
@@ -30,7 +31,10 @@ returns-2 c =
     let rules = c .before .before .before .granule-rules .ensures in
     let broken = c .before .rules .given .1 in (
       granule-refused _ _ _ _ _ _ _ _ _ _ _ rules _ _ _ tight _ broken,
-      (granule-as-was _ _ _ _ _ _ _ _ _ _ _ rules _ _ _ tight _ broken 0 _, (granule-as-was _ _ _ _ _ _ _ _ _ _ _ rules _ _ _ tight _ broken 1 _, granule-as-was _ _ _ _ _ _ _ _ _ _ _ rules _ _ _ tight _ broken 2 _)),
+      (
+        granule-as-was _ _ _ _ _ _ _ _ _ _ _ rules _ _ _ tight _ broken 0 _,
+        (granule-as-was _ _ _ _ _ _ _ _ _ _ _ rules _ _ _ tight _ broken 1 _, granule-as-was _ _ _ _ _ _ _ _ _ _ _ rules _ _ _ tight _ broken 2 _),
+      ),
     )
 
 pub decode-granule-edges-spec : {M : Type 1} → statement M

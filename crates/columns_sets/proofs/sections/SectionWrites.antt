@@ -19,7 +19,8 @@ use Rattle.columns.proofs.Sections.{starts-over, starts-left, slots-done, slots
 module _ (low high first from n : ℕ) (offsets targets : List ℕ) (i : 2 * (from + n) < length offsets) where
   -- ── where the lists start ──────────────────────────────────────────────────────────────────
 
-  module _ {was out : List ℕ} (q p : ℕ) (s : Storing was 0 (starts 0 (rowsWithin kinds low high from n offsets targets)) out q (starts p (drop q (rowsWithin kinds low high from n offsets targets)))) where
+  module _ {was out : List ℕ} (q p : ℕ) (s : Storing was 0 (starts 0 (rowsWithin kinds low high from n offsets targets)) out q
+      (starts p (drop q (rowsWithin kinds low high from n offsets targets)))) where
     pub start-on : q < 2 * n → (r : ℕ) → r ≡ p + length (deltasWithin low high (first + q / 2) (getD (cut offsets targets) (2 * from + q) []))
         → Storing was 0 (starts 0 (rowsWithin kinds low high from n offsets targets)) (set out q p) (q + 1) (starts r (drop (q + 1) (rowsWithin kinds low high from n offsets targets)))
     start-on h r e =
@@ -37,7 +38,8 @@ module _ (low high first from n : ℕ) (offsets targets : List ℕ) (i : 2 * (fr
   deltas-few c = omega (arith, set-count kinds first (rowsWithin kinds low high from n offsets targets), section-few kinds low high from n offsets targets c)
 
   module _ {was out : List ℤ} {p : ℕ} (q : ℕ)
-      (s : Storing was 0 (joined (deltasFrom kinds first 0 (rowsWithin kinds low high from n offsets targets))) out p (joined (deltasFrom kinds first q (drop q (rowsWithin kinds low high from n offsets targets))))) where
+      (s : Storing was 0 (joined (deltasFrom kinds first 0 (rowsWithin kinds low high from n offsets targets))) out p
+      (joined (deltasFrom kinds first q (drop q (rowsWithin kinds low high from n offsets targets))))) where
     pub list-in : fromTo 0 (length targets) offsets ≡ true → length targets ≤ length was → q < 2 * n
         → p + length (deltasWithin low high (first + q / 2) (getD (cut offsets targets) (2 * from + q) [])) ≤ length out
     list-in c k h = slots-room kinds (λ ds. ds) refl (λ xs ys. refl) low high first from n q offsets targets s i h (omega (arith, deltas-few c))

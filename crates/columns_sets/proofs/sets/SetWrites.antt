@@ -101,12 +101,14 @@ module _ (first rows from n : ℕ) (offsets targets : List ℕ) (base : ℕ) whe
       this : drop q (part (2 * from) (2 * n) (cut offsets targets)) ≡ getD (cut offsets targets) (2 * from + q) [] ∷ drop (suc q) (part (2 * from) (2 * n) (cut offsets targets))
       this = drop-cons (part (2 * from) (2 * n) (cut offsets targets)) q [] (omega (arith, long)) ∙ rw piece
 
-      fits-parts : (spansFit (first + from + q / 2) (getD (cut offsets targets) (2 * from + q) []) && slotsFit (first + from) (suc q) (drop (suc q) (part (2 * from) (2 * n) (cut offsets targets)))) ≡ true
+      fits-parts : (spansFit (first + from + q / 2) (getD (cut offsets targets) (2 * from + q) []) && slotsFit (first + from) (suc q)
+          (drop (suc q) (part (2 * from) (2 * n) (cut offsets targets)))) ≡ true
       unfolding slotsFit
       fits-parts = rw this at (w .fits)
 
       pub writing-fits : spansFit (first + from + q / 2) (getD (cut offsets targets) (2 * from + q) []) ≡ true
-      writing-fits = both (spansFit (first + from + q / 2) (getD (cut offsets targets) (2 * from + q) [])) (slotsFit (first + from) (suc q) (drop (suc q) (part (2 * from) (2 * n) (cut offsets targets)))) fits-parts .0
+      writing-fits = both (spansFit (first + from + q / 2) (getD (cut offsets targets) (2 * from + q) []))
+          (slotsFit (first + from) (suc q) (drop (suc q) (part (2 * from) (2 * n) (cut offsets targets)))) fits-parts .0
 
       size : length (map (deltaOf (first + from + q / 2)) (getD (cut offsets targets) (2 * from + q) [])) ≡ getD offsets (2 * from + q + 1) 0 - getD offsets (2 * from + q) 0
       size =
@@ -129,8 +131,10 @@ module _ (first rows from n : ℕ) (offsets targets : List ℕ) (base : ℕ) whe
         under = omega arith;
         start = w .start;
         same = l ∙ w .same;
-        fits = rw add-one (both (spansFit (first + from + q / 2) (getD (cut offsets targets) (2 * from + q) [])) (slotsFit (first + from) (suc q) (drop (suc q) (part (2 * from) (2 * n) (cut offsets targets)))) fits-parts .1);
+        fits = rw add-one (both (spansFit (first + from + q / 2) (getD (cut offsets targets) (2 * from + q) []))
+            (slotsFit (first + from) (suc q) (drop (suc q) (part (2 * from) (2 * n) (cut offsets targets)))) fits-parts .1);
         ends =
-            let step = sets-append out (getD offsets (2 * from + q) 0 - base) (map (deltaOf (first + from + q / 2)) (getD (cut offsets targets) (2 * from + q) [])) (joined (deltasFrom kinds (first + from) (suc q) (drop (suc q) (part (2 * from) (2 * n) (cut offsets targets))))) in
+            let step = sets-append out (getD offsets (2 * from + q) 0 - base) (map (deltaOf (first + from + q / 2)) (getD (cut offsets targets) (2 * from + q) []))
+            (joined (deltasFrom kinds (first + from) (suc q) (drop (suc q) (part (2 * from) (2 * n) (cut offsets targets))))) in
             (rw this at (w .ends)) ∙ step ∙ rw (place, ← e, add-one);
       }

@@ -63,12 +63,18 @@ module _ (rows from n : ℕ) (offsets targets : List ℕ) (ok : offsetsForm kind
       = rw y (omega (arith, size s (omega arith), above-base s (omega arith))) in
       (rw z at (sym (drop-drop 1 s (starts 0 (part (2 * from) (2 * n) (cut offsets targets))))))
       ∙ ap (drop 1) (starts-from s (omega arith))
-      ∙ rw (this s h, starts-rest (getD offsets (2 * from + s) 0 - getD offsets (2 * from) 0) (getD (cut offsets targets) (2 * from + s) []) (drop (suc s) (part (2 * from) (2 * n) (cut offsets targets))), p)
+      ∙ rw (
+        this s h,
+        starts-rest (getD offsets (2 * from + s) 0 - getD offsets (2 * from) 0) (getD (cut offsets targets) (2 * from + s) [])
+            (drop (suc s) (part (2 * from) (2 * n) (cut offsets targets))),
+        p,
+      )
 
   pub start-is : (s : ℕ) → s ≤ 2 * n → getD (starts 0 (part (2 * from) (2 * n) (cut offsets targets))) s 0 ≡ getD offsets (2 * from + s) 0 - getD offsets (2 * from) 0
   start-is s h =
       let z : s + 0 ≡ s = omega arith in
-      sym (rw z at (getD-drop s (starts 0 (part (2 * from) (2 * n) (cut offsets targets))) 0 0)) ∙ ap (λ l. getD l 0 0) (starts-from s h) ∙ head-is _ (drop s (part (2 * from) (2 * n) (cut offsets targets)))
+      sym (rw z at (getD-drop s (starts 0 (part (2 * from) (2 * n) (cut offsets targets))) 0 0)) ∙ ap (λ l. getD l 0 0) (starts-from s h)
+      ∙ head-is _ (drop s (part (2 * from) (2 * n) (cut offsets targets)))
 
 -- what holds in the loop
 pub record Starting (rows from n : ℕ) (offsets targets : List ℕ) (base s : ℕ) (out out₀ : List ℕ) : Type 0 where
@@ -88,7 +94,8 @@ module _ (rows from n : ℕ) (offsets targets : List ℕ) (base : ℕ) where
   module _ (s : ℕ) (out out₀ : List ℕ) (w : Starting rows from n offsets targets base s out out₀) where
     pub starting-done : 2 * n + 1 ≤ s → out ≡ sets out₀ 0 (starts 0 (part (2 * from) (2 * n) (cut offsets targets)))
     starting-done h =
-        let z : drop s (starts 0 (part (2 * from) (2 * n) (cut offsets targets))) ≡ [] = drop-of-length-le (starts 0 (part (2 * from) (2 * n) (cut offsets targets))) {i = s} (omega (arith, starts-long rows from n offsets targets (w .form) (w .inside))) in
+        let z : drop s (starts 0 (part (2 * from) (2 * n) (cut offsets targets)))
+        ≡ [] = drop-of-length-le (starts 0 (part (2 * from) (2 * n) (cut offsets targets))) {i = s} (omega (arith, starts-long rows from n offsets targets (w .form) (w .inside))) in
         sym (rw z at (w .ends))
 
     module _ (h : s < 2 * n + 1) where

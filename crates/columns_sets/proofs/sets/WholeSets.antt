@@ -47,7 +47,8 @@ module _ (first rows from n : ℕ) (offsets targets : List ℕ) (r : Reached fir
   unfolding setOf
   starts-written was out e = e
 
-  pub deltas-written : (was out : List ℤ) → out ≡ sets was 0 (joined (deltasFrom kinds (first + from) 0 (part (2 * from) (2 * n) (cut offsets targets)))) → out ≡ sets was 0 (setAt first from n (cut offsets targets) .deltas)
+  pub deltas-written : (was out : List ℤ) → out ≡ sets was 0 (joined (deltasFrom kinds (first + from) 0 (part (2 * from) (2 * n) (cut offsets targets))))
+      → out ≡ sets was 0 (setAt first from n (cut offsets targets) .deltas)
   unfolding setOf
   deltas-written was out e = e
 
@@ -68,7 +69,12 @@ module _ (first rows from n : ℕ) (offsets targets : List ℕ) (t : Turnable fi
 
   pub turned-offsets : 2 * rows + 1 ≤ length offs
   turned-offsets =
-      rw (f, length-append (starts 0 (reverseLists kinds first rows (cut offsets targets))) (drop (2 * rows + 1) was), length-starts 0 (reverseLists kinds first rows (cut offsets targets)), length-turned first rows (cut offsets targets))
+      rw (
+        f,
+        length-append (starts 0 (reverseLists kinds first rows (cut offsets targets))) (drop (2 * rows + 1) was),
+        length-starts 0 (reverseLists kinds first rows (cut offsets targets)),
+        length-turned first rows (cut offsets targets),
+      )
       (omega arith)
 
   pub turned-reached : Reached first rows from n (take (2 * rows + 1) offs) (take m list)
@@ -83,8 +89,10 @@ module _ (first rows from n : ℕ) (offsets targets : List ℕ) (t : Turnable fi
   pub turned-counted : (k : ℕ) → k ≡ setAt first from n (cut (take (2 * rows + 1) offs) (take m list)) .count → k ≡ setAt first from n (reverseLists kinds first rows (cut offsets targets)) .count
   turned-counted k d = rw back at d
 
-  pub turned-starts : (a b : List ℕ) → a ≡ sets b 0 (setAt first from n (cut (take (2 * rows + 1) offs) (take m list)) .offsets) → a ≡ sets b 0 (setAt first from n (reverseLists kinds first rows (cut offsets targets)) .offsets)
+  pub turned-starts : (a b : List ℕ) → a ≡ sets b 0 (setAt first from n (cut (take (2 * rows + 1) offs) (take m list)) .offsets)
+      → a ≡ sets b 0 (setAt first from n (reverseLists kinds first rows (cut offsets targets)) .offsets)
   turned-starts a b d = rw back at d
 
-  pub turned-deltas : (a b : List ℤ) → a ≡ sets b 0 (setAt first from n (cut (take (2 * rows + 1) offs) (take m list)) .deltas) → a ≡ sets b 0 (setAt first from n (reverseLists kinds first rows (cut offsets targets)) .deltas)
+  pub turned-deltas : (a b : List ℤ) → a ≡ sets b 0 (setAt first from n (cut (take (2 * rows + 1) offs) (take m list)) .deltas)
+      → a ≡ sets b 0 (setAt first from n (reverseLists kinds first rows (cut offsets targets)) .deltas)
   turned-deltas a b d = rw back at d

@@ -73,7 +73,8 @@ module _ {t : Bool} (set first end slot : ℕ) (offsets : List ℕ) (deltas : Li
       let j : suc slot < length (cut offsets deltas) = omega (arith, cut-length offsets deltas) in
       let two : slot + 2 ≡ suc (suc slot) = omega arith in
       rw (e, drop-cons (cut offsets deltas) slot [] i, drop-cons (cut offsets deltas) (suc slot) [] j, same-event first slot p, two, g, add-one slot, all-append)
-      (in-row (ltb (eventOf kinds first slot) end64) (all (sound set end (eventOf kinds first slot)) (getD (cut offsets deltas) slot [])) (all (sound set end (eventOf kinds first slot)) (getD (cut offsets deltas) (suc slot) []))
+      (in-row (ltb (eventOf kinds first slot) end64) (all (sound set end (eventOf kinds first slot)) (getD (cut offsets deltas) slot []))
+      (all (sound set end (eventOf kinds first slot)) (getD (cut offsets deltas) (suc slot) []))
       (soundFrom kinds set first end (suc (suc slot)) (drop (suc (suc slot)) (cut offsets deltas))))
 
   pub rows-stop : not b ≡ true → false ≡ t
@@ -117,19 +118,26 @@ module _ (first : ℕ) (offsets : List ℕ) (deltas : List ℤ) (r : Edged kinds
       row-list : getD (targetsFrom kinds first 0 (cut offsets deltas)) slot [] ++ getD (targetsFrom kinds first 0 (cut offsets deltas)) (slot + 1) [] ≡ map (targetOf event) (slice from to deltas)
       row-list =
           let mid = getD offsets (slot + 1) 0 in
-          rw (← row-join offsets deltas (r .climbs) slot h from to f g, map-append, slot-list kinds first offsets deltas r slot (omega arith) event from mid e f refl, slot-list kinds first offsets deltas r (slot + 1) (omega arith) event mid to next-event refl next-ends)
+          rw (
+            ← row-join offsets deltas (r .climbs) slot h from to f g,
+            map-append,
+            slot-list kinds first offsets deltas r slot (omega arith) event from mid e f refl,
+            slot-list kinds first offsets deltas r (slot + 1) (omega arith) event mid to next-event refl next-ends,
+          )
 
       row-count : length (getD (targetsFrom kinds first 0 (cut offsets deltas)) slot [] ++ getD (targetsFrom kinds first 0 (cut offsets deltas)) (slot + 1) []) ≡ to - from
       row-count = rw row-list (targets-count event from to deltas row-within)
 
-      pub row-ends : (at n : ℕ) → n ≡ at + (to - from) → n ≡ at + length (getD (targetsFrom kinds first 0 (cut offsets deltas)) slot [] ++ getD (targetsFrom kinds first 0 (cut offsets deltas)) (slot + 1) [])
+      pub row-ends : (at n : ℕ) → n ≡ at + (to - from) → n ≡ at + length
+          (getD (targetsFrom kinds first 0 (cut offsets deltas)) slot [] ++ getD (targetsFrom kinds first 0 (cut offsets deltas)) (slot + 1) [])
       row-ends at n i = rw row-count i
 
       pub row-written : (at : ℕ) (was out : List ℕ) → out ≡ sets was at (map (targetOf event) (slice from to deltas))
           → out ≡ sets was at (getD (targetsFrom kinds first 0 (cut offsets deltas)) slot [] ++ getD (targetsFrom kinds first 0 (cut offsets deltas)) (slot + 1) [])
       row-written at was out i = rw row-list i
 
-  pub row-onward : onward first offsets deltas slot ≡ (getD (targetsFrom kinds first 0 (cut offsets deltas)) slot [] ++ getD (targetsFrom kinds first 0 (cut offsets deltas)) (slot + 1) []) ++ onward first offsets deltas (slot + 2)
+  pub row-onward : onward first offsets deltas slot ≡ (getD (targetsFrom kinds first 0 (cut offsets deltas)) slot []
+      ++ getD (targetsFrom kinds first 0 (cut offsets deltas)) (slot + 1) []) ++ onward first offsets deltas (slot + 2)
   row-onward =
       let two : slot + 1 + 1 ≡ slot + 2 = omega arith in
       rw (this-then first offsets deltas slot (omega arith), this-then first offsets deltas (slot + 1) (omega arith), two, append-assoc)

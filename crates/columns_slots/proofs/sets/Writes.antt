@@ -122,7 +122,8 @@ module _ (first : ℕ) (offsets : List ℕ) (deltas : List ℤ) (slot at : ℕ) 
   all-counted h e = rw (e, no-more first offsets deltas slot h) (omega arith)
 
   module _ (h : slot + 1 < length offsets) (k : length offsets ≤ slot + 2) where
-    pub last-written : {t : List ℕ} (was out : List ℕ) → t ≡ sets was at (onward first offsets deltas slot) → out ≡ sets was at (getD (targetsFrom kinds first 0 (cut offsets deltas)) slot []) → out ≡ t
+    pub last-written : {t : List ℕ} (was out : List ℕ) → t ≡ sets was at (onward first offsets deltas slot)
+        → out ≡ sets was at (getD (targetsFrom kinds first 0 (cut offsets deltas)) slot []) → out ≡ t
     last-written was out e g = rw (e, g, this-alone first offsets deltas slot h k)
 
     pub last-counted : {n : ℕ} (r : ℕ) → n ≡ at + length (onward first offsets deltas slot) → r ≡ at + length (getD (targetsFrom kinds first 0 (cut offsets deltas)) slot []) → r ≡ n

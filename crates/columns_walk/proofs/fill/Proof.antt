@@ -13,7 +13,21 @@ add-requires : tie.Need-add-requires
 add-requires c κs = none-zeros 4097 2053 (omega arith)
 
 run-requires : tie.Need-run-requires
-run-requires c κs = ((search needs, one-key _ _ 4097 (replicate 4097 0) _ _ _ (c .before .before .before .before .before .before .before .before .before .add .ensures .0) (c .before .before .before .before .before .before .before .before .before .add .ensures .1) (length-replicate {A = ℕ} 4097 0) (omega arith)), ((search needs, (search needs, search needs)), (c .before .before .before .before .before .before .before .before .before .add .ensures .0, seen-first _ _ _ 4097 4097 _ (c .before .before .before .before .before .before .before .before .before .before .before .before .before .before .before .before .before .args .buf .now) (replicate 4097 0) _ (c .before .before .before .before .before .before .before .before .before .add .ensures .1) (c .before .before .before .before .before .before .before .before .before .before .before .before .before .before .before .before .before .pre .1) (length-replicate {A = ℕ} 4097 0) (search needs) refl (c .before .before .before .before .before .before .before .before .before .before .before .before .before .before .before .before .before .pre .0 .1 .1 .1))))
+run-requires c κs = (
+  (
+    search needs,
+    one-key _ _ 4097 (replicate 4097 0) _ _ _
+        (c .before .before .before .before .before .before .before .before .before .add .ensures .0)
+        (c .before .before .before .before .before .before .before .before .before .add .ensures .1) (length-replicate {A = ℕ} 4097 0) (omega arith),
+  ),
+  (
+    (search needs, (search needs, search needs)),
+    (
+      c .before .before .before .before .before .before .before .before .before .add .ensures .0,
+      seen-first _ _ _ 4097 4097 _ (c .before .before .before .before .before .before .before .before .before .before .before .before .before .before .before .before .before .args .buf .now) (replicate 4097 0) _ (c .before .before .before .before .before .before .before .before .before .add .ensures .1) (c .before .before .before .before .before .before .before .before .before .before .before .before .before .before .before .before .before .pre .1) (length-replicate {A = ℕ} 4097 0) (search needs) refl (c .before .before .before .before .before .before .before .before .before .before .before .before .before .before .before .before .before .pre .0 .1 .1 .1),
+    ),
+  ),
+)
 
 returns : tie.Need-returns
 returns c = search ran-levels

@@ -23,7 +23,8 @@ level-none p visited frontier = refl
 -- `levelsFrom` with the limit for its bound, as `levels` has it
 pub repeated : (p : ℕ → List ℕ) (limit : ℕ) (visited frontier : List ℕ) → levelsFrom p limit limit visited frontier
     ≡ cond (isEmpty (level p limit visited frontier)) []
-    (level p limit visited frontier ∷ levelsFrom p (limit - length (level p limit visited frontier)) (limit - length (level p limit visited frontier)) (visited ++ level p limit visited frontier) (level p limit visited frontier))
+    (level p limit visited frontier ∷ levelsFrom p (limit - length (level p limit visited frontier)) (limit - length (level p limit visited frontier))
+    (visited ++ level p limit visited frontier) (level p limit visited frontier))
 unfolding levelsFrom
 repeated p zero visited frontier = rw (level-none p visited frontier)
 repeated p (suc bound) visited frontier =

@@ -40,7 +40,8 @@ module _ (first rows end : ℕ) (s : EdgeSet) (kind limit : ℕ) (visited fronti
   no-longer : any (ltb maxNumbers) (setLengths s ++ (length visited ∷ length frontier ∷ [])) ≡ any (ltb maxNumbers) (setLengths s)
   no-longer = any-append (ltb maxNumbers) (setLengths s) (length visited ∷ length frontier ∷ []) ∙ rw i (or-false (any (ltb maxNumbers) (setLengths s)))
 
-  as-read : next first rows end s kind limit visited frontier (room a) ≡ unless (lentRules kinds 0 first rows end s (room n)) (level (listOf kinds first (slotsOf kinds first s) kind) limit visited frontier)
+  as-read : next first rows end s kind limit visited frontier (room a)
+      ≡ unless (lentRules kinds 0 first rows end s (room n)) (level (listOf kinds first (slotsOf kinds first s) kind) limit visited frontier)
   unfolding next lentRules limits
   as-read = rw (no-longer, same-short n a m)
 
@@ -74,7 +75,8 @@ module _ (first rows end : ℕ) (s : EdgeSet) (kind limit : ℕ) (visited fronti
         unfolding unless
         accepted-next = as-read ∙ rw (all-kept, same-level)
 
-        pub next-counted : (c : ℕ) → c ≡ length (level (parentsIn first slot (s .offsets) t) limit visited frontier) → counted.Entries c ≡ countedOf (next first rows end s kind limit visited frontier (room a))
+        pub next-counted : (c : ℕ) → c ≡ length (level (parentsIn first slot (s .offsets) t) limit visited frontier)
+            → counted.Entries c ≡ countedOf (next first rows end s kind limit visited frontier (room a))
         unfolding countedOf
         next-counted c q = rw (accepted-next, q)
 
@@ -107,7 +109,8 @@ module _ (first rows end : ℕ) (s : EdgeSet) (kind limit : ℕ) (visited fronti
   long-verdict = rw some-long (go (any (ltb maxRecords) (rows ∷ [])) e)
     where
       go : (b : Bool) → some why ≡ firstOf (refuse OverRecords b ∷ some OverNumbers ∷ none ∷ [])
-          → unless (firstOf (firstOf (refuse OverRecords b ∷ some OverNumbers ∷ refuse SliceShort (any short (room a)) ∷ []) ∷ setRules kinds 0 first rows end s ∷ [])) (level (listOf kinds first (slotsOf kinds first s) kind) limit visited frontier) ≡ refused why
+          → unless (firstOf (firstOf (refuse OverRecords b ∷ some OverNumbers ∷ refuse SliceShort (any short (room a)) ∷ []) ∷ setRules kinds 0 first rows end s ∷ []))
+          (level (listOf kinds first (slotsOf kinds first s) kind) limit visited frontier) ≡ refused why
       go true q = let z : why ≡ OverRecords = cc in rw z
       go false q = let z : why ≡ OverNumbers = cc in rw z
 

@@ -60,7 +60,8 @@ few-once ps l i =
 
 -- ── find ─────────────────────────────────────────────────────────────────────────────────────
 
-module _ (n : ℕ) (visited targets keys keys′ : List ℕ) (k : Keys keys keys′ 0 n (slice 0 (length visited) visited)) (h : length keys ≡ 8192) (i : length visited ≤ 4096) (j : length targets ≤ 4096) where
+module _ (n : ℕ) (visited targets keys keys′ : List ℕ) (k : Keys keys keys′ 0 n (slice 0 (length visited) visited)) (h : length keys ≡ 8192) (i : length visited ≤ 4096)
+    (j : length targets ≤ 4096) where
   room-for-all : length (visited ++ targets) ≤ length keys
   room-for-all = rw length-append (omega arith)
 

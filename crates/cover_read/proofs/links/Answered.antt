@@ -18,7 +18,8 @@ use Rattle.cover.specs.Questions.{chainLinks}
 use Rattle.cover.specs.Answers.{linkLengths, forRecords, counted, linksOver, linksAfter}
 use Rattle.cover.specs.declared.answer.Answer.the-variants.{Refused, Done}
 use Rattle.cover_rows.proofs.limits.Anyone.{any-here, any-on, any-nil}
-use Rattle.cover_rows.proofs.limits.Verdicts.{counted-refused, counted-done, columns-kept, columns-written, limits-records, limits-numbers, limits-short, limits-none, first-refuses, next-rule, no-rule, refuse-not}
+use Rattle.cover_rows.proofs.limits.Verdicts.{counted-refused, counted-done, columns-kept, columns-written, limits-records, limits-numbers, limits-short, limits-none}
+use Rattle.cover_rows.proofs.limits.Verdicts.{first-refuses, next-rule, no-rule, refuse-not}
 use Rattle.cover_read.specs.chosen.Chosen.{linksFrom}
 
 module _ (l : LinkColumns) (chains ns : List ℕ) where

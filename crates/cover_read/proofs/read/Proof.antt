@@ -1,4 +1,5 @@
-use Rattle.cover_read.proofs.Readings.{read-over-told, read-over-kept, read-short-told, read-short-kept, read-ranges-told, read-ranges-kept, read-links-told, read-links-kept, read-all-told, read-all-written, few, rooms}
+use Rattle.cover_read.proofs.Readings.{read-over-told, read-over-kept, read-short-told, read-short-kept, read-ranges-told, read-ranges-kept, read-links-told}
+use Rattle.cover_read.proofs.Readings.{read-links-kept, read-all-told, read-all-written, few, rooms}
 use borrow.Author.Needs.{needs}
 use Rattle.cover_read.proofs.read.Statement.{statement}
 use Rattle.cover_read.proofs.read.Tie as tie
@@ -20,7 +21,12 @@ returns-4 : tie.Need-returns-4
 returns-4 c = (search read-links-told, search read-links-kept)
 
 write-links-requires : tie.Need-write-links-requires
-write-links-requires c κs = (links-ok _ _ (c .before .before .before .before .before .links-fit .ensures) (c .before .before .before .before .if4 .left), rooms _ _ _ _ _ _ _ _ _ _ _ _ (c .before .before .before .before .before .before .before .before .before .before .before .seven-over .ensures) (c .before .before .before .before .before .before .before .before .before .before .if1 .left) _ (c .before .before .before .before .before .before .before .before .before .four-short .ensures) (c .before .before .before .before .before .before .before .before .if2 .left))
+write-links-requires c κs = (
+  links-ok _ _ (c .before .before .before .before .before .links-fit .ensures) (c .before .before .before .before .if4 .left),
+  rooms _ _ _ _ _ _ _ _ _ _ _ _ (c .before .before .before .before .before .before .before .before .before .before .before .seven-over .ensures)
+      (c .before .before .before .before .before .before .before .before .before .before .if1 .left) _
+      (c .before .before .before .before .before .before .before .before .before .four-short .ensures) (c .before .before .before .before .before .before .before .before .if2 .left),
+)
 
 returns-5 : tie.Need-returns-5
 returns-5 c = (read-all-told _ _ _ (c .before .before .before .before .before .before .before .before .before .before .before .before .before .before .before .before .before .before .before .before .seven-over .ensures) (c .before .before .before .before .before .before .before .before .before .before .before .before .before .before .before .before .before .before .before .if1 .left) (c .before .before .before .before .before .before .before .before .before .before .before .before .before .before .before .before .before .before .four-short .ensures) (c .before .before .before .before .before .before .before .before .before .before .before .before .before .before .before .before .before .if2 .left) (c .before .before .before .before .before .before .before .before .before .before .before .before .before .before .before .before .ranges-fit .ensures) (c .before .before .before .before .before .before .before .before .before .before .before .before .before .before .before .if3 .left) (c .before .before .before .before .before .before .before .before .before .before .before .before .before .before .links-fit .ensures) (c .before .before .before .before .before .before .before .before .before .before .before .before .before .if4 .left), read-all-written _ _ _ (c .before .before .before .before .before .before .before .before .before .before .before .before .before .before .before .before .before .before .before .before .seven-over .ensures) (c .before .before .before .before .before .before .before .before .before .before .before .before .before .before .before .before .before .before .before .if1 .left) (c .before .before .before .before .before .before .before .before .before .before .before .before .before .before .before .before .before .before .four-short .ensures) (c .before .before .before .before .before .before .before .before .before .before .before .before .before .before .before .before .before .if2 .left) (c .before .before .before .before .before .before .before .before .before .before .before .before .before .before .before .before .ranges-fit .ensures) (c .before .before .before .before .before .before .before .before .before .before .before .before .before .before .before .if3 .left) (c .before .before .before .before .before .before .before .before .before .before .before .before .before .before .links-fit .ensures) _ _ (c .before .before .before .before .before .before .before .before .write-links .ensures) (c .before .before .before .before .before .before .before .before .before .before .before .before .before .if4 .left))

@@ -25,7 +25,12 @@ returns-2 : tie.Need-returns-2 Inv-loop μ-loop
 returns-2 c = search rise-not
 
 loop-again : tie.Need-loop-again Inv-loop μ-loop
-loop-again c = (search needs, search needs, rise-on _ _ _ _ _ _ (c .before .before .before .loop .inv .2) _ (c .before .row-less .ensures) (c .before .before .loop-test .taken) (search needs) (search needs) (search needs) (search needs) (c .if2 .left))
+loop-again c = (
+  search needs,
+  search needs,
+  rise-on _ _ _ _ _ _ (c .before .before .before .loop .inv .2) _ (c .before .row-less .ensures)
+      (c .before .before .loop-test .taken) (search needs) (search needs) (search needs) (search needs) (c .if2 .left),
+)
 
 returns-3 : tie.Need-returns-3 Inv-loop μ-loop
 returns-3 c = search rise-done

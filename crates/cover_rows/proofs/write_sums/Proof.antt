@@ -11,7 +11,8 @@ use Rattle.cover_rows.proofs.write_sums.Statement.{statement}
 use Rattle.cover_rows.proofs.write_sums.Tie as tie
 
 abbrev Inv-loop : tie.InvT-loop
-Inv-loop differences out₀ sum₀ i₀ out sum i = (i ≤ length differences) × (length out ≡ length out₀) × (allFit (sums sum (drop i differences)) ≡ true) × (over (sums 0 differences) out₀ ≡ sets out i (sums sum (drop i differences)))
+Inv-loop differences out₀ sum₀ i₀ out sum i = (i ≤ length differences) × (length out ≡ length out₀) × (allFit (sums sum (drop i differences)) ≡ true)
+    × (over (sums 0 differences) out₀ ≡ sets out i (sums sum (drop i differences)))
 
 abbrev μ-loop : tie.MeasureT-loop
 μ-loop differences out₀ sum₀ i₀ out sum i = length differences - i

@@ -16,7 +16,10 @@ use Rattle.lists.proofs.Each.{each-getD}
 use Rattle.lists.proofs.Flat.{length-joined, getD-starts, part-joined}
 use Rattle.columns.specs.Refusal.{numberOf}
 use Rattle.columns.specs.declared.refusal.Refusal.{Refusal}
-use Rattle.columns.specs.declared.refusal.Refusal.the-variants.{SubjectLength, EdgeEntries, NumberRange, ParentNotEarlier, ParentTwice, UnresolvedChild, UnresolvedKind, DepthOrder, LabelCount, SeqNotRising, InboundChild, InboundParent, InboundTwice, GranuleRows, DeltaRange, RootOutside, OffsetsForm, DeltaCount, TargetSide, LabelColumns, LabelRange, CoverForm, RecordBroken, GroupOrder, SourceOrder, CoverInSome, NoSurvivor, OutOfTurn, SliceShort, OverRecords, OverNumbers}
+use Rattle.columns.specs.declared.refusal.Refusal.the-variants.{SubjectLength, EdgeEntries, NumberRange, ParentNotEarlier, ParentTwice, UnresolvedChild, UnresolvedKind}
+use Rattle.columns.specs.declared.refusal.Refusal.the-variants.{DepthOrder, LabelCount, SeqNotRising, InboundChild, InboundParent, InboundTwice, GranuleRows, DeltaRange}
+use Rattle.columns.specs.declared.refusal.Refusal.the-variants.{RootOutside, OffsetsForm, DeltaCount, TargetSide, LabelColumns, LabelRange, CoverForm, RecordBroken}
+use Rattle.columns.specs.declared.refusal.Refusal.the-variants.{GroupOrder, SourceOrder, CoverInSome, NoSurvivor, OutOfTurn, SliceShort, OverRecords, OverNumbers}
 use Rattle.run_text.specs.numbers.Wrote.{Wrote}
 use Rattle.run_text.proofs.numbers.Joined.{renamed}
 use Rattle.messages.specs.words.Words.{wordsOf, table}

@@ -3,7 +3,10 @@ use mathlib.Core.List.{List, [], _∷_}
 use Prim.Native.Nat.{ℕ}
 use Rattle.lists.specs.Text.{text}
 use Rattle.columns.specs.declared.refusal.Refusal.{Refusal}
-use Rattle.columns.specs.declared.refusal.Refusal.the-variants.{SubjectLength, EdgeEntries, NumberRange, ParentNotEarlier, ParentTwice, UnresolvedChild, UnresolvedKind, DepthOrder, LabelCount, SeqNotRising, InboundChild, InboundParent, InboundTwice, GranuleRows, DeltaRange, RootOutside, OffsetsForm, DeltaCount, TargetSide, LabelColumns, LabelRange, CoverForm, RecordBroken, GroupOrder, SourceOrder, CoverInSome, NoSurvivor, OutOfTurn, SliceShort, OverRecords, OverNumbers}
+use Rattle.columns.specs.declared.refusal.Refusal.the-variants.{SubjectLength, EdgeEntries, NumberRange, ParentNotEarlier, ParentTwice, UnresolvedChild, UnresolvedKind}
+use Rattle.columns.specs.declared.refusal.Refusal.the-variants.{DepthOrder, LabelCount, SeqNotRising, InboundChild, InboundParent, InboundTwice, GranuleRows, DeltaRange}
+use Rattle.columns.specs.declared.refusal.Refusal.the-variants.{RootOutside, OffsetsForm, DeltaCount, TargetSide, LabelColumns, LabelRange, CoverForm, RecordBroken}
+use Rattle.columns.specs.declared.refusal.Refusal.the-variants.{GroupOrder, SourceOrder, CoverInSome, NoSurvivor, OutOfTurn, SliceShort, OverRecords, OverNumbers}
 
 unfoldable pub wordsOf : Refusal → List ℕ
 wordsOf SubjectLength = text "the subject is not 1 to 255 bytes long"

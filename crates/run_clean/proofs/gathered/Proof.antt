@@ -1,6 +1,7 @@
 -- `run_clean::gathered` meets its contract. Where they stand in an answer, `r` is where the rows are filled, and `d` what is held after the files.
 use mathlib.Core.Path.{refl, sym}
-use Rattle.run_clean.proofs.Gathers.{no-file, few-groups, few-links, level-links, links-long, few-unresolved, few-roots, few-rows, front-room, front-count, flags-long, rows-end, edges-form, front-few, front-end, children-fit, roots-fit, too-many, sheet-counted, one-empty, all-full}
+use Rattle.run_clean.proofs.Gathers.{no-file, few-groups, few-links, level-links, links-long, few-unresolved, few-roots, few-rows, front-room, front-count}
+use Rattle.run_clean.proofs.Gathers.{flags-long, rows-end, edges-form, front-few, front-end, children-fit, roots-fit, too-many, sheet-counted, one-empty, all-full}
 use borrow.Author.Needs.{needs}
 use Rattle.run_clean.proofs.gathered.Statement.{statement}
 use Rattle.run_clean.proofs.gathered.Tie as tie
@@ -20,14 +21,26 @@ slice-aggregate-fill-lists c =
 fill-lists-requires : tie.Need-fill-lists-requires
 fill-lists-requires c κs =
     let r = c .before .before .before .before .before .before in
-    let d = r .before .before .before .before .before .before .before .before .before .before .grow-names .ensures in
-    (r .before .before .before .before .before .before .before .before .before .before .before .before .before .pre, ((refl, refl), ((few-rows _ _ _ d (r .fill-rows .ensures .0) (r .fill-rows .ensures .1), (flags-long _ _ _ d (r .fill-rows .ensures .0) (r .fill-rows .ensures .1), rows-end _ _ _ d (r .fill-rows .ensures .0) (r .fill-rows .ensures .1))), edges-form _ _ _ d (r .fill-rows .ensures .0) (r .fill-rows .ensures .1))))
+    let d = r .before .before .before .before .before .before .before .before .before .before .grow-names .ensures in (
+      r .before .before .before .before .before .before .before .before .before .before .before .before .before .pre,
+      (
+        (refl, refl),
+        (
+          (
+            few-rows _ _ _ d (r .fill-rows .ensures .0) (r .fill-rows .ensures .1),
+            (flags-long _ _ _ d (r .fill-rows .ensures .0) (r .fill-rows .ensures .1), rows-end _ _ _ d (r .fill-rows .ensures .0) (r .fill-rows .ensures .1)),
+          ),
+          edges-form _ _ _ d (r .fill-rows .ensures .0) (r .fill-rows .ensures .1),
+        ),
+      ),
+    )
 
 returns-2 : tie.Need-returns-2
 returns-2 c =
     let r = c .before .before .before .before .before .before .before .before .before .before in
     let d = r .before .before .before .before .before .before .before .before .before .before .grow-names .ensures in
-    too-many _ _ _ d (r .fill-rows .ensures .0) (r .fill-rows .ensures .1) (r .before .before .before .before .before .before .if1 .left) _ _ _ (c .before .before .before .fill-lists .ensures) _ (c .before .enum-told .given .1) (c .refused2 .ensures)
+    too-many _ _ _ d (r .fill-rows .ensures .0) (r .fill-rows .ensures .1) (r .before .before .before .before .before .before .if1 .left) _ _ _
+    (c .before .before .before .fill-lists .ensures) _ (c .before .enum-told .given .1) (c .refused2 .ensures)
 
 array-share-prefix-flags : tie.Need-array-share-prefix-flags
 array-share-prefix-flags c =
@@ -44,8 +57,22 @@ slice-aggregate-fill-unresolved c =
 fill-unresolved-requires : tie.Need-fill-unresolved-requires
 fill-unresolved-requires c κs =
     let r = c .before .before .before .before .before .before .before .before .before .before .before .before .before .before in
-    let d = r .before .before .before .before .before .before .before .before .before .before .grow-names .ensures in
-    (r .before .before .before .before .before .before .before .before .before .before .before .before .before .pre, ((refl, (refl, refl)), ((few-unresolved _ _ _ d, (front-few _ _ _ d (r .fill-rows .ensures .0) (r .fill-rows .ensures .1), front-end _ _ _ d (r .fill-rows .ensures .0) (r .fill-rows .ensures .1))), children-fit _ _ _ d (r .fill-rows .ensures .0) (r .fill-rows .ensures .1))))
+    let d = r .before .before .before .before .before .before .before .before .before .before .grow-names .ensures in (
+      r .before .before .before .before .before .before .before .before .before .before .before .before .before .pre,
+      (
+        (refl, (refl, refl)),
+        (
+          (
+            few-unresolved _ _ _ d,
+            (
+              front-few _ _ _ d (r .fill-rows .ensures .0) (r .fill-rows .ensures .1),
+              front-end _ _ _ d (r .fill-rows .ensures .0) (r .fill-rows .ensures .1),
+            ),
+          ),
+          children-fit _ _ _ d (r .fill-rows .ensures .0) (r .fill-rows .ensures .1),
+        ),
+      ),
+    )
 
 array-share-prefix-flags-2 : tie.Need-array-share-prefix-flags-2
 array-share-prefix-flags-2 c =
@@ -62,14 +89,30 @@ slice-aggregate-fill-roots c =
 fill-roots-requires : tie.Need-fill-roots-requires
 fill-roots-requires c κs =
     let r = c .before .before .before .before .before .before .before .before .before .before .before .before .before .before .before .before .before .before in
-    let d = r .before .before .before .before .before .before .before .before .before .before .grow-names .ensures in
-    (r .before .before .before .before .before .before .before .before .before .before .before .before .before .pre, ((refl, refl), ((few-roots _ _ _ d, (front-few _ _ _ d (r .fill-rows .ensures .0) (r .fill-rows .ensures .1), front-end _ _ _ d (r .fill-rows .ensures .0) (r .fill-rows .ensures .1))), roots-fit _ _ _ d (r .fill-rows .ensures .0) (r .fill-rows .ensures .1))))
+    let d = r .before .before .before .before .before .before .before .before .before .before .grow-names .ensures in (
+      r .before .before .before .before .before .before .before .before .before .before .before .before .before .pre,
+      (
+        (refl, refl),
+        (
+          (
+            few-roots _ _ _ d,
+            (
+              front-few _ _ _ d (r .fill-rows .ensures .0) (r .fill-rows .ensures .1),
+              front-end _ _ _ d (r .fill-rows .ensures .0) (r .fill-rows .ensures .1),
+            ),
+          ),
+          roots-fit _ _ _ d (r .fill-rows .ensures .0) (r .fill-rows .ensures .1),
+        ),
+      ),
+    )
 
 fill-links-requires : tie.Need-fill-links-requires
 fill-links-requires c κs =
     let r = c .before .before .before .before .before .before .before .before .before .before .before .before .before .before .before .before .before .before .before .before .before .before .before .before in
-    let d = r .before .before .before .before .before .before .before .before .before .before .grow-names .ensures in
-    (r .before .before .before .before .before .before .before .before .before .before .before .before .before .pre, (links-long _ _ _ d, (few-links _ _ _ d, (few-groups _ _ _ d, level-links _ _ _ d))))
+    let d = r .before .before .before .before .before .before .before .before .before .before .grow-names .ensures in (
+      r .before .before .before .before .before .before .before .before .before .before .before .before .before .pre,
+      (links-long _ _ _ d, (few-links _ _ _ d, (few-groups _ _ _ d, level-links _ _ _ d))),
+    )
 
 array-share-prefix-flags-3 : tie.Need-array-share-prefix-flags-3
 array-share-prefix-flags-3 c =

@@ -89,7 +89,15 @@ module _ (flags offsets targets : List ℕ) (ok : offsetsForm kinds (length flag
         pub slot-kept : getD flags (s / 2) 0 ≡ 0 → t ≡ cut (take (k + 1 + 1) offs′) (take m all′) ++ slotsFrom flags (s + 1) (drop (s + 1) (cut offsets targets))
         unfolding slotsFrom
         slot-kept f =
-            rw (e, here, eq-eqb (getD flags (s / 2) 0) 0 f, built-cut offs′ all′ (k + 1) m (cut (take (k + 1) offs) (take end all) ++ (getD (cut offsets targets) s [] ∷ [])) b, add-one s, append-assoc)
+            rw (
+              e,
+              here,
+              eq-eqb (getD flags (s / 2) 0) 0 f,
+              built-cut offs′ all′ (k + 1) m
+                  (cut (take (k + 1) offs) (take end all) ++ (getD (cut offsets targets) s [] ∷ [])) b,
+              add-one s,
+              append-assoc,
+            )
 
         pub slot-built : Built offs′ all′ (k + 1) m (cut (take (k + 1 + 1) offs′) (take m all′))
         slot-built = built-same offs′ all′ (k + 1) m (cut (take (k + 1) offs) (take end all) ++ (getD (cut offsets targets) s [] ∷ [])) b
@@ -132,7 +140,8 @@ module _ (flags : List ℕ) (lists : List (List ℕ)) (w : length lists ≡ kind
 
   pub slots-kept : slotsFrom flags 0 lists ≡ keepSlots kinds (gone flags) lists
   unfolding keepSlots gone
-  slots-kept = sym (ap (λ n. flat (λ j. cond (getD (gone flags) j false) [] (part (kinds * j) kinds lists)) (upFrom 0 n)) (length-map flags (λ f. not (eqb f 0))) ∙ rows-from (length flags) 0 0 (omega arith) (omega arith))
+  slots-kept = sym (ap (λ n. flat (λ j. cond (getD (gone flags) j false) [] (part (kinds * j) kinds lists)) (upFrom 0 n)) (length-map flags (λ f. not (eqb f 0)))
+      ∙ rows-from (length flags) 0 0 (omega arith) (omega arith))
 
 pub kept-built : (offs all : List ℕ) (r : ℕ) (flags offsets targets : List ℕ) → offsetsForm kinds (length flags) (length targets) offsets ≡ true
     → Built offs all (length (slotsFrom flags 0 (cut offsets targets))) r (slotsFrom flags 0 (cut offsets targets))

@@ -11,16 +11,19 @@ need-files-requires c κs =
 
 mul-if1 : tie.Need-mul-if1
 mul-if1 c =
-    let pre = c .before .before .before .before .before .before .before .before .before .before .before .before .before .before .before .before .before .pre in search (needs, rows-fit _ (pre .0 .0) (pre .0 .1) (c .before .before .before .before .before .before .held-long .ensures))
+    let pre = c .before .before .before .before .before .before .before .before .before .before .before .before .before .before .before .before .before .pre in search
+    (needs, rows-fit _ (pre .0 .0) (pre .0 .1) (c .before .before .before .before .before .before .held-long .ensures))
 
 add-if1-2 : tie.Need-add-if1-2
 add-if1-2 c =
-    let pre = c .before .before .before .before .before .before .before .before .before .before .before .before .before .before .before .before .before .pre in search (needs, need-fits _ (pre .0 .0) (pre .0 .1) (c .before .before .before .before .before .before .held-long .ensures) (c .before .need-files .ensures .1))
+    let pre = c .before .before .before .before .before .before .before .before .before .before .before .before .before .before .before .before .before .pre in search
+    (needs, need-fits _ (pre .0 .0) (pre .0 .1) (c .before .before .before .before .before .before .held-long .ensures) (c .before .need-files .ensures .1))
 
 returns : tie.Need-returns
 returns c =
     let pre = c .before .before .before .before .before .before .before .before .before .before .before .before .before .before .before .before .before .before .pre in
-    list-short _ (pre .0 .0) (pre .0 .1) (c .before .before .before .before .before .before .before .held-long .ensures) _ _ _ _ _ _ _ _ _ (pre .1 .0) (pre .1 .1 .1) (c .before .before .before .before .before .measure .ensures)
+    list-short _ (pre .0 .0) (pre .0 .1) (c .before .before .before .before .before .before .before .held-long .ensures) _ _ _ _ _ _ _ _ _ (pre .1 .0) (pre .1 .1 .1)
+    (c .before .before .before .before .before .measure .ensures)
     (c .before .before .before .enum-told .given .1) (pre .1 .1 .0 .0) (c .before .before .need-files .ensures .0) _ (c .if1 .taken)
 
 put-listing-requires : tie.Need-put-listing-requires
@@ -29,7 +32,11 @@ put-listing-requires c κs =
     let kept = c .before .before .before .before .enum-told .given .1 in (
       pre .0,
       (
-        (tabled _ _ _ _ _ _ _ _ _ (pre .1 .0) (pre .1 .1 .0 .0), in-reach _ (pre .0 .0) (pre .0 .1) (c .before .before .before .before .before .before .before .before .held-long .ensures) _ _ _ _ _ _ _ _ _ (pre .1 .0) (pre .1 .1 .1) (c .before .before .before .before .before .before .measure .ensures) kept (pre .1 .1 .0 .0)),
+        (
+          tabled _ _ _ _ _ _ _ _ _ (pre .1 .0) (pre .1 .1 .0 .0),
+          in-reach _ (pre .0 .0) (pre .0 .1) (c .before .before .before .before .before .before .before .before .held-long .ensures) _ _ _ _ _ _ _ _ _ (pre .1 .0)
+              (pre .1 .1 .1) (c .before .before .before .before .before .before .measure .ensures) kept (pre .1 .1 .0 .0),
+        ),
         search needs,
       ),
     )
@@ -37,13 +44,16 @@ put-listing-requires c κs =
 returns-2 : tie.Need-returns-2
 returns-2 c =
     let pre = c .before .before .before .before .before .before .before .before .before .before .before .before .before .before .before .before .pre in
-    list-refused _ (pre .0 .0) (pre .0 .1) (c .before .before .before .before .before .held-long .ensures) _ _ _ _ _ _ _ _ _ (pre .1 .0) (pre .1 .1 .1) (c .before .before .before .measure .ensures) _ _ (c .before .v .given .1)
+    list-refused _ (pre .0 .0) (pre .0 .1) (c .before .before .before .before .before .held-long .ensures) _ _ _ _ _ _ _ _ _ (pre .1 .0) (pre .1 .1 .1)
+    (c .before .before .before .measure .ensures) _ _ (c .before .v .given .1)
 
 returns-3 : tie.Need-returns-3
 returns-3 c =
     let pre = c .before .before .before .before .before .before .before .before .before .before .before .before .before .before .before .before .before .before .before .before .before .before .pre in
-    list-all _ (pre .0 .0) (pre .0 .1) (c .before .before .before .before .before .before .before .before .before .before .before .held-long .ensures) _ _ _ _ _ _ _ _ _ (pre .1 .0) (pre .1 .1 .1) (c .before .before .before .before .before .before .before .before .before .measure .ensures)
-    (c .before .before .before .before .before .before .before .enum-told .given .1) (pre .1 .1 .0 .0) (c .before .before .before .before .before .before .need-files .ensures .0) (c .before .before .before .before .if1 .left) (c .before .before .put-listing .ensures)
+    list-all _ (pre .0 .0) (pre .0 .1) (c .before .before .before .before .before .before .before .before .before .before .before .held-long .ensures) _ _ _ _ _ _ _ _ _
+    (pre .1 .0) (pre .1 .1 .1) (c .before .before .before .before .before .before .before .before .before .measure .ensures)
+    (c .before .before .before .before .before .before .before .enum-told .given .1) (pre .1 .1 .0 .0)
+    (c .before .before .before .before .before .before .need-files .ensures .0) (c .before .before .before .before .if1 .left) (c .before .before .put-listing .ensures)
 
 pub list-tables-spec : {M : Type 1} → statement M
 list-tables-spec =

@@ -75,4 +75,5 @@ module _ (g i n p : ℕ) (groups : List ℕ) (l : n ≤ length groups) where
         unfolding all
         end-own k a =
             rw (add-one, slice-snoc i p groups 0 k (omega arith))
-            (all-of (eqb g) (slice i p groups ++ (getD groups p 0 ∷ [])) (each-append (λ x. eqb g x ≡ true) (slice i p groups) (getD groups p 0 ∷ []) (all-each (eqb g) (slice i p groups) a) (eq-eqb g (getD groups p 0) (sym e), tt)))
+            (all-of (eqb g) (slice i p groups ++ (getD groups p 0 ∷ []))
+            (each-append (λ x. eqb g x ≡ true) (slice i p groups) (getD groups p 0 ∷ []) (all-each (eqb g) (slice i p groups) a) (eq-eqb g (getD groups p 0) (sym e), tt)))

@@ -128,7 +128,8 @@ module _ (l : Links) (long : length (l .groups) ≡ 1024) (few : l .count ≤ 10
         ap (λ n. flat f (upFrom g n)) z
         ∙ ap₂ _++_ (ap (λ ks. inGroup g (sortLinks ks)) (ap (λ xs. linksOf xs g) split ∙ own-links))
         (flat-ext f f′ (upFrom (suc g) m)
-        (each-imp (λ n. (suc g ≤ n) × (n < suc g + m)) (λ n. f n ≡ f′ n) (upFrom (suc g) m) (λ n q. ap (λ ks. inGroup n (sortLinks ks)) (ap (λ xs. linksOf xs n) split ∙ other-links n (q .0))) (each-upFrom (suc g) m))
+        (each-imp (λ n. (suc g ≤ n) × (n < suc g + m)) (λ n. f n ≡ f′ n) (upFrom (suc g) m)
+        (λ n q. ap (λ ks. inGroup n (sortLinks ks)) (ap (λ xs. linksOf xs n) split ∙ other-links n (q .0))) (each-upFrom (suc g) m))
         ∙ after m f′ refl)
       where
         after : (m : ℕ) (f : ℕ → List GroupLink) → f ≡ (λ n. inGroup n (sortLinks (linksOf rest n))) → flat f (upFrom (suc g) m) ≡ flat (λ n. inGroup n (sortLinks (linksOf rest n))) (upFrom (g + 1) m)

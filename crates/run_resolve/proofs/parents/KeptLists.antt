@@ -75,7 +75,8 @@ module _ (flags : List ℕ) (lists : List (List ℕ)) (w : length lists ≡ kind
 
 pub kept-edges : (n m : ℕ) (flags offsets targets offs all : List ℕ) (r : ℕ) → n ≤ 1024 → length flags ≡ 1024 → m ≤ 4096 → length targets ≡ 4096
     → offsetsForm kinds n m (take (2 * n + 1) offsets) ≡ true → length all ≡ 4096
-    → Built offs all (length (keepSlots kinds (gone (take n flags)) (cut (take (2 * n + 1) offsets) (take m targets)))) r (keepSlots kinds (gone (take n flags)) (cut (take (2 * n + 1) offsets) (take m targets)))
+    → Built offs all (length (keepSlots kinds (gone (take n flags)) (cut (take (2 * n + 1) offsets) (take m targets)))) r
+    (keepSlots kinds (gone (take n flags)) (cut (take (2 * n + 1) offsets) (take m targets)))
     → EdgesKept (take n flags) (cut (take (2 * n + 1) offsets) (take m targets)) (edgesOf r offs all)
 kept-edges n m flags offsets targets offs all r h l i k f q b =
     edges-built (take n flags) (cut (take (2 * n + 1) offsets) (take m targets))

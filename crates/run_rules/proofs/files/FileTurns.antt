@@ -52,7 +52,8 @@ covered-same group subject end false c = refl
 
 module _ (l : List ℕ) (f : FileAt) where
   pub looks-back : (fs : List File)
-      → filesRules kinds (endsWith (f .front .head .group) (subjectIn l (f .front)) (f .front .head .first + f .front .head .rows) (f .tail .covered)) fs ≡ filesRules kinds (some (sourceOf kinds (fileIn l f))) fs
+      → filesRules kinds (endsWith (f .front .head .group) (subjectIn l (f .front)) (f .front .head .first + f .front .head .rows) (f .tail .covered)) fs
+      ≡ filesRules kinds (some (sourceOf kinds (fileIn l f))) fs
   unfolding ending sourceOf fileIn fileFrom frontIn headIn tailIn
   looks-back fs =
       let h = f .front .head in

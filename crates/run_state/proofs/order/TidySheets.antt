@@ -159,7 +159,8 @@ module _ (s : Sheet) (l : LongSheet s) (k : sheetOk s ≡ true) where
         rootOrder = rw roots-column (d .0);
         rootsWithin = rw tags-length (all-parts (below (s .rows .count)) (λ r. r .row) (listed (rootAt (s .roots)) (s .roots .count)) ∙ rw roots-column (r .1));
         childOrder = rw children-column (d .1);
-        childrenWithin = rw tags-length (all-parts (inFile (s .start) (s .start + s .rows .count)) (λ u. u .child) (listed (unresolvedAt (s .unresolved)) (s .unresolved .count)) ∙ rw children-column (r .0));
+        childrenWithin = rw tags-length (all-parts (inFile (s .start) (s .start + s .rows .count)) (λ u. u .child)
+            (listed (unresolvedAt (s .unresolved)) (s .unresolved .count)) ∙ rw children-column (r .0));
         linkOrder = rw links-column (h .0);
         linksKnown = rw facts-length (all-parts (below (s .groups .count)) (λ x. x .group) (listed (linkAt (s .links)) (s .links .count)) ∙ rw links-column (h .1));
         labelled = labels-there (g .1);
@@ -186,7 +187,8 @@ unfolding earlier below
 slots-below start slot [] e = tt
 slots-below start slot (ps ∷ lists) e =
     let q = both (all (below (eventOf kinds start slot)) ps) (earlier start (suc slot) lists) e in (
-      each-imp (λ p. below (eventOf kinds start slot) p ≡ true) (λ p. p < eventOf kinds start slot) ps (λ p t. ltb-true p (eventOf kinds start slot) t) (all-each (below (eventOf kinds start slot)) ps (q .0)),
+      each-imp (λ p. below (eventOf kinds start slot) p ≡ true) (λ p. p < eventOf kinds start slot) ps (λ p t. ltb-true p (eventOf kinds start slot) t)
+          (all-each (below (eventOf kinds start slot)) ps (q .0)),
       slots-below start (suc slot) lists (q .1),
     )
 
@@ -206,7 +208,8 @@ neat-held h l k o =
         lists = slots-length n (s .edges) (edges-form s (l .sheet) e) ∙ ap (λ i. kinds * i) (sym m);
         roots = rw m (each-imp (λ r. ltb (r .row) n ≡ true) (λ r. r .row < n) (listed (rootAt (s .roots)) (s .roots .count)) (λ r b. ltb-true (r .row) n b)
             (all-each (λ r. ltb (r .row) n) (listed (rootAt (s .roots)) (s .roots .count)) (rw (tags-length s (l .sheet) e) at (t .rootsWithin))));
-        unresolved = rw m (each-imp (λ u. inFile (s .start) (s .start + n) (u .child) ≡ true) (λ u. (s .start ≤ u .child) × (u .child < s .start + n)) (listed (unresolvedAt (s .unresolved)) (s .unresolved .count))
+        unresolved = rw m (each-imp (λ u. inFile (s .start) (s .start + n) (u .child) ≡ true) (λ u. (s .start ≤ u .child) × (u .child < s .start + n))
+            (listed (unresolvedAt (s .unresolved)) (s .unresolved .count))
             (λ u b. let q = both (leb (s .start) (u .child)) (ltb (u .child) (s .start + n)) b in (leb-true (s .start) (u .child) (q .0), ltb-true (u .child) (s .start + n) (q .1)))
             (all-each (λ u. inFile (s .start) (s .start + n) (u .child)) (listed (unresolvedAt (s .unresolved)) (s .unresolved .count)) (rw (tags-length s (l .sheet) e) at (t .childrenWithin))));
       };

@@ -307,7 +307,13 @@ module _ (h : Held) (l : List ℕ) (f : FileAt) (fs : List File) (long : LongHel
     sheet = record {
       subject = rw (long .sheet .subject) subject-short;
       depth = depth-is l f;
-      table = record { known = rw (long .sheet .groups .known) group-few; least = rw (long .sheet .groups .least) group-few; greatest = rw (long .sheet .groups .greatest) group-few; covers = rw (long .sheet .groups .covered) group-few };
+      table = record {
+        known = rw (long .sheet .groups .known) group-few;
+        least = rw (long .sheet .groups .least) group-few;
+        greatest = rw
+            (long .sheet .groups .greatest) group-few;
+        covers = rw (long .sheet .groups .covered) group-few;
+      };
       group = group-is h F flags-long next;
       cover = cover-is h F flags-long next;
       known = known-is h F flags-long next (omega (arith, rows-room, long .sheet .rows .groups)) (neat .tidy .groupsKnown);

@@ -87,7 +87,8 @@ module _ (g : Groups) (n flag least greatest : ℕ) (covered : Bool) (t : Table 
         getD-set-other (g .greatest) n i (greater (getD (g .greatest) n 0) greatest) 0 z,
       )
 
-  depth-joined : (a b : Bool) (k : ℕ) → flagged k ≡ b → cond (flagged (cond a k 0)) (some (record { least = smaller (getD (g .least) n 0) least; greatest = greater (getD (g .greatest) n 0) greatest })) none
+  depth-joined : (a b : Bool) (k : ℕ) → flagged k ≡ b → cond (flagged (cond a k 0))
+      (some (record { least = smaller (getD (g .least) n 0) least; greatest = greater (getD (g .greatest) n 0) greatest })) none
       ≡ joinDepth (cond b (some (record { least = getD (g .least) n 0; greatest = getD (g .greatest) n 0 })) none) (cond a (some (record { least = least; greatest = greatest })) none)
   depth-joined true true k e = rw e
   depth-joined true false k e = rw e
@@ -119,7 +120,8 @@ module _ (g : Groups) (n flag least greatest : ℕ) (covered : Bool) (t : Table 
   joined-listed e =
       rw (← e, add-one n)
       (map-upFrom-snoc (factsAt (groupsJoined g n flag least greatest)) 0 n
-      ∙ ap (λ r. r ++ (factsAt (groupsJoined g n flag least greatest) (0 + n) ∷ [])) (map-ext _ _ (upFrom 0 n) (each-below (λ i. factsAt (groupsJoined g n flag least greatest) i ≡ factsAt g i) n joined-before))
+      ∙ ap (λ r. r ++ (factsAt (groupsJoined g n flag least greatest) (0 + n) ∷ []))
+      (map-ext _ _ (upFrom 0 n) (each-below (λ i. factsAt (groupsJoined g n flag least greatest) i ≡ factsAt g i) n joined-before))
       ∙ ap (λ x. listed (factsAt g) n ++ (x ∷ [])) (ap (factsAt (groupsJoined g n flag least greatest)) (zero-add n) ∙ joined-here)
       ∙ sym (facts-last (listed (factsAt g) n) (factsAt g n) n facts (length-map-upFrom (factsAt g) 0 n))
       ∙ ap (λ r. Held.factsAt n r facts) (ap (λ x. listed (factsAt g) n ++ (x ∷ [])) (ap (factsAt g) (sym (zero-add n))) ∙ sym (map-upFrom-snoc (factsAt g) 0 n)))

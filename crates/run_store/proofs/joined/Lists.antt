@@ -133,7 +133,16 @@ module _ (n rows first : ℕ) (e : Edges) (s : EdgeSet) (form : edgesOk n e ≡ 
 
   length-slots : length (ks ++ ls) ≡ kinds * (n + rows)
   length-slots =
-      omega (arith, length-append ks ls, length-starts 0 ks, length-starts 0 ls, ap length ps-starts, ap length (sym (starts-cut xs os os-climb)), form-length kinds rows (s .count) (s .offsets) more, form-length kinds n (e .count) os os-form)
+      omega (
+        arith,
+        length-append ks ls,
+        length-starts 0 ks,
+        length-starts 0 ls,
+        ap length ps-starts,
+        ap length (sym (starts-cut xs os os-climb)),
+        form-length kinds rows (s .count) (s .offsets) more,
+        form-length kinds n (e .count) os os-form,
+      )
 
   pub edges-grown : edgesOk (n + rows) (edgesWith e n first s) ≡ true
   unfolding edgesOk edgesWith

@@ -94,7 +94,12 @@ earlier-of first start n slot [] e h = refl
 earlier-of first start n slot (x ∷ ls) e h =
     let z = event-on first start n slot e in
     let y : suc (kinds * n + slot) ≡ kinds * n + suc slot = omega arith in
-    rw (z, all-of (λ p. ltb p (eventOf kinds first slot)) x (each-imp (λ p. suc p ≤ eventOf kinds first slot) (λ p. ltb p (eventOf kinds first slot) ≡ true) x (λ p t. lt-ltb p (eventOf kinds first slot) t) (h .0)), y)
+    rw (
+      z,
+      all-of (λ p. ltb p (eventOf kinds first slot)) x (each-imp (λ p. suc p ≤ eventOf kinds first slot) (λ p. ltb p (eventOf kinds first slot) ≡ true) x
+          (λ p t. lt-ltb p (eventOf kinds first slot) t) (h .0)),
+      y,
+    )
     (earlier-of first start n (suc slot) ls e (h .1))
 
 pub parents-earlier : (start start′ n first : ℕ) (ks ls : List (List ℕ)) → start′ + n ≡ first → (0 < n → start′ ≡ start) → length ks ≡ kinds * n

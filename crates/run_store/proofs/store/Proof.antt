@@ -21,20 +21,33 @@ store-roots-requires : tie.Need-store-roots-requires
 store-roots-requires c κs = accepted _ _ (c .before .before .before .before .before .before .held-long .ensures) (c .before .before .before .before .before .before .before .before .pre)
 
 store-links-requires : tie.Need-store-links-requires
-store-links-requires c κs = accepted _ _ (c .before .before .before .before .before .before .before .held-long .ensures) (c .before .before .before .before .before .before .before .before .before .pre)
+store-links-requires c κs = accepted _ _ (c .before .before .before .before .before .before .before .held-long .ensures)
+    (c .before .before .before .before .before .before .before .before .before .pre)
 
 store-flags-requires : tie.Need-store-flags-requires
-store-flags-requires c κs = accepted _ _ (c .before .before .before .before .before .before .before .before .held-long .ensures) (c .before .before .before .before .before .before .before .before .before .before .pre)
+store-flags-requires c κs = accepted _ _ (c .before .before .before .before .before .before .before .before .held-long .ensures)
+    (c .before .before .before .before .before .before .before .before .before .before .pre)
 
 store-set-requires-2 : tie.Need-store-set-requires-2
-store-set-requires-2 c κs = (accepted _ _ (c .before .before .before .before .before .before .before .before .before .held-long .ensures) (c .before .before .before .before .before .before .before .before .before .before .before .pre), refl)
+store-set-requires-2 c κs = (
+  accepted _ _ (c .before .before .before .before .before .before .before .before .before .held-long .ensures)
+      (c .before .before .before .before .before .before .before .before .before .before .before .pre),
+  refl,
+)
 
 store-set-requires-3 : tie.Need-store-set-requires-3
-store-set-requires-3 c κs = (accepted _ _ (c .before .before .before .before .before .before .before .before .before .before .held-long .ensures) (c .before .before .before .before .before .before .before .before .before .before .before .before .pre), refl)
+store-set-requires-3 c κs = (
+  accepted _ _ (c .before .before .before .before .before .before .before .before .before .before .held-long .ensures)
+      (c .before .before .before .before .before .before .before .before .before .before .before .before .pre),
+  refl,
+)
 
 returns : tie.Need-returns
 returns c =
-    together-stored _ _ _ (c .before .before .before .before .before .before .before .before .before .before .store-names .ensures) (c .before .before .before .before .before .before .before .store-rows .ensures) (c .before .before .before .before .before .before .store-set .ensures) (c .before .before .before .before .before .store-unresolved .ensures) (c .before .before .before .before .store-roots .ensures) (c .before .before .before .store-links .ensures) (c .before .before .store-flags .ensures) (c .before .store-set2 .ensures) (c .store-set3 .ensures)
+    together-stored _ _ _ (c .before .before .before .before .before .before .before .before .before .before .store-names .ensures)
+    (c .before .before .before .before .before .before .before .store-rows .ensures) (c .before .before .before .before .before .before .store-set .ensures)
+    (c .before .before .before .before .before .store-unresolved .ensures) (c .before .before .before .before .store-roots .ensures)
+    (c .before .before .before .store-links .ensures) (c .before .before .store-flags .ensures) (c .before .store-set2 .ensures) (c .store-set3 .ensures)
 
 pub store-spec : {M : Type 1} → statement M
 store-spec =

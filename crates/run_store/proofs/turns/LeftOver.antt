@@ -135,7 +135,8 @@ module _ (h : Held) (l : List ℕ) (f : FileAt) (fs : List File) (long : LongHel
   rules-next =
       let d = sound h l f fs long ok neat left holds u in
       let r = each-none (fileRules kinds (lookBack (sheetIn (h .sheet))) F ∷ filesRules kinds (some (sourceOf kinds F)) fs ∷ []) (left .rules) .1 .0 in
-      ap (λ x. filesRules kinds (lookBack (x .sheet)) fs) view-next ∙ looks-at (sourceOf kinds F) (heldWith (heldIn h) (sourceOf kinds F)) (held-with kinds kinds-served (heldIn h) (sourceOf kinds F) ready-now d) fs ∙ r
+      ap (λ x. filesRules kinds (lookBack (x .sheet)) fs) view-next
+      ∙ looks-at (sourceOf kinds F) (heldWith (heldIn h) (sourceOf kinds F)) (held-with kinds kinds-served (heldIn h) (sourceOf kinds F) ready-now d) fs ∙ r
 
   group-place : (F .group ≡ h .sheet .groups .count) ⊎ (F .group + 1 ≡ h .sheet .groups .count)
   group-place = group-is h F (flags-long h l f fs long ok neat left holds u) ready-now

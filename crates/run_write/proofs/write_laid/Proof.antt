@@ -1,5 +1,6 @@
 -- `run_write::write_laid` meets its contract: what was prepared is the sheet, and the lent parts of it are there.
-use Rattle.run_write.proofs.Lent.{slots-fit, offsets-fit, name-there, name-count, offsets-there, offsets-count, targets-there, targets-count, starts-count, kids-count, ready, children, covers, stores, all-filled, wrote-laid}
+use Rattle.run_write.proofs.Lent.{slots-fit, offsets-fit, name-there, name-count, offsets-there, offsets-count, targets-there, targets-count, starts-count}
+use Rattle.run_write.proofs.Lent.{kids-count, ready, children, covers, stores, all-filled, wrote-laid}
 use borrow.Author.Needs.{needs}
 use Rattle.run_write.proofs.write_laid.Statement.{statement}
 use Rattle.run_write.proofs.write_laid.Tie as tie

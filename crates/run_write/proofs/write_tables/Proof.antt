@@ -18,8 +18,17 @@ returns c =
 
 put-groups-requires : tie.Need-put-groups-requires
 put-groups-requires c κs =
-    let pre = c .before .before .before .before .before .before .before .before .before .before .before .before .before .before .before .before .before .before .pre in
-    (pre .0, (pre .1 .0, (pre .1 .1 .0, has-room _ (pre .0 .tidy) (pre .1 .1 .1) (c .before .before .before .before .measure .ensures) [] (c .before .before .enum-told .given .1) (c .before .if1 .left))))
+    let pre = c .before .before .before .before .before .before .before .before .before .before .before .before .before .before .before .before .before .before .pre in (
+      pre .0,
+      (
+        pre .1 .0,
+        (
+          pre .1 .1 .0,
+          has-room _ (pre .0 .tidy) (pre .1 .1 .1) (c .before .before .before .before .measure .ensures) []
+              (c .before .before .enum-told .given .1) (c .before .if1 .left),
+        ),
+      ),
+    )
 
 returns-2 : tie.Need-returns-2
 returns-2 c =
@@ -29,7 +38,8 @@ returns-2 c =
 returns-3 : tie.Need-returns-3
 returns-3 c =
     let pre = c .before .before .before .before .before .before .before .before .before .before .before .before .before .before .before .before .before .before .before .before .before .pre in
-    wrote-all _ (pre .0 .tidy) (pre .1 .1 .1) (c .before .before .before .before .before .before .before .measure .ensures) _ (c .before .before .before .before .before .enum-told .given .1) (c .before .before .before .before .if1 .left) (c .before .before .put-groups .ensures)
+    wrote-all _ (pre .0 .tidy) (pre .1 .1 .1) (c .before .before .before .before .before .before .before .measure .ensures) _
+    (c .before .before .before .before .before .enum-told .given .1) (c .before .before .before .before .if1 .left) (c .before .before .put-groups .ensures)
 
 pub write-tables-spec : {M : Type 1} → statement M
 write-tables-spec =

@@ -12,7 +12,8 @@ use Rattle.archive_bytes.proofs.number_columns.fill_i64s.Statement.{sta
 use Rattle.archive_bytes.proofs.number_columns.fill_i64s.Tie as tie
 
 abbrev Inv-loop : tie.InvT-loop
-Inv-loop bytes at n out₀ i₀ p₀ out i p = (i ≤ n) × (p ≡ at + i * 8) × (length out ≡ length out₀) × (sets out₀ 0 (map signedOf (column 8 n bytes at)) ≡ sets out i (map signedOf (column 8 (n - i) bytes p)))
+Inv-loop bytes at n out₀ i₀ p₀ out i p = (i ≤ n) × (p ≡ at + i * 8) × (length out ≡ length out₀)
+    × (sets out₀ 0 (map signedOf (column 8 n bytes at)) ≡ sets out i (map signedOf (column 8 (n - i) bytes p)))
 
 abbrev μ-loop : tie.MeasureT-loop
 μ-loop bytes at n out₀ i₀ p₀ out i p = n - i

@@ -12,14 +12,20 @@ use Rattle.archive_bytes.proofs.number_columns.store_i64s.Statement.{st
 use Rattle.archive_bytes.proofs.number_columns.store_i64s.Tie as tie
 
 abbrev Inv-loop : tie.InvT-loop
-Inv-loop xs n out₀ at i₀ p₀ out i p = (i ≤ n) × (p ≡ at + i * 8) × (length out ≡ length out₀) × (sets out₀ at (flat (bytesOf 8) (map unsignedOf (slice 0 n xs))) ≡ sets out p (flat (bytesOf 8) (map unsignedOf (slice i n xs))))
+Inv-loop xs n out₀ at i₀ p₀ out i p = (i ≤ n) × (p ≡ at + i * 8) × (length out ≡ length out₀)
+    × (sets out₀ at (flat (bytesOf 8) (map unsignedOf (slice 0 n xs))) ≡ sets out p (flat (bytesOf 8) (map unsignedOf (slice i n xs))))
 
 abbrev μ-loop : tie.MeasureT-loop
 μ-loop xs n out₀ at i₀ p₀ out i p = n - i
 
 loop-again : tie.Need-loop-again Inv-loop μ-loop
-loop-again c = let b = c .before .before .before .before .before .before in
-    (search needs, search needs, search needs, one-stored-z _ _ _ _ _ (b .before .loop .inv .3) (b .loop-test .taken) (b .before .before .before .pre .0) (search needs) (c .before .before .before .unsigned .ensures) (c .before .before .store-u64 .ensures))
+loop-again c = let b = c .before .before .before .before .before .before in (
+  search needs,
+  search needs,
+  search needs,
+  one-stored-z _ _ _ _ _ (b .before .loop .inv .3) (b .loop-test .taken) (b .before .before .before .pre .0) (search needs)
+      (c .before .before .before .unsigned .ensures) (c .before .before .store-u64 .ensures),
+)
 
 returns : tie.Need-returns Inv-loop μ-loop
 returns c = search (needs, all-stored-z)

@@ -17,8 +17,13 @@ abbrev μ-loop : tie.MeasureT-loop
 μ-loop xs n out₀ at i₀ p₀ out i p = n - i
 
 loop-again : tie.Need-loop-again Inv-loop μ-loop
-loop-again c = let b = c .before .before .before .before .before .before in
-    (search needs, search needs, search needs, one-stored-as _ _ _ _ _ _ (b .before .loop .inv .3) (b .loop-test .taken) (b .before .before .before .before .pre .0) (c .before .before .before .long .ensures .0) (c .before .before .store-u32 .ensures))
+loop-again c = let b = c .before .before .before .before .before .before in (
+  search needs,
+  search needs,
+  search needs,
+  one-stored-as _ _ _ _ _ _ (b .before .loop .inv .3) (b .loop-test .taken) (b .before .before .before .before .pre .0)
+      (c .before .before .before .long .ensures .0) (c .before .before .store-u32 .ensures),
+)
 
 returns : tie.Need-returns Inv-loop μ-loop
 returns c = search (needs, all-stored)

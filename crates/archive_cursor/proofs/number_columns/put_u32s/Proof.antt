@@ -14,7 +14,8 @@ returns-2 c =
     (no-bytes 4 _ _ _ _ h (f .fits2 .ensures) (c .if2 .taken), not-stored 4 _ _ _ _ h (f .fits2 .ensures) (c .if2 .taken) _)
 
 store-u32s-requires : tie.Need-store-u32s-requires
-store-u32s-requires c κs = let a = c .before .before .before .before .before .before .args in (search needs, in-range 4 (a .n) (a .at) (a .out .now) (c .before .before .fits2 .ensures) (c .before .if2 .left))
+store-u32s-requires c κs = let a = c .before .before .before .before .before .before .args in
+    (search needs, in-range 4 (a .n) (a .at) (a .out .now) (c .before .before .fits2 .ensures) (c .before .if2 .left))
 
 returns-3 : tie.Need-returns-3
 returns-3 c = (search (needs, is-stored), search (needs, stored))

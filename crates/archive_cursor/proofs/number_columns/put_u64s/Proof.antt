@@ -14,7 +14,8 @@ returns-2 c =
     (no-bytes 8 _ _ _ _ h (f .fits2 .ensures) (c .if2 .taken), not-stored 8 _ _ _ _ h (f .fits2 .ensures) (c .if2 .taken) _)
 
 store-u64s-requires : tie.Need-store-u64s-requires
-store-u64s-requires c κs = let a = c .before .before .before .before .before .before .args in (search needs, in-range 8 (a .n) (a .at) (a .out .now) (c .before .before .fits2 .ensures) (c .before .if2 .left))
+store-u64s-requires c κs = let a = c .before .before .before .before .before .before .args in
+    (search needs, in-range 8 (a .n) (a .at) (a .out .now) (c .before .before .fits2 .ensures) (c .before .if2 .left))
 
 returns-3 : tie.Need-returns-3
 returns-3 c = (search (needs, is-stored), search (needs, stored))

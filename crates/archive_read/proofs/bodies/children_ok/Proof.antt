@@ -12,7 +12,8 @@ use Rattle.archive_read.proofs.bodies.children_ok.Statement.{statement}
 use Rattle.archive_read.proofs.bodies.children_ok.Tie as tie
 
 abbrev Inv-loop : tie.InvT-loop
-Inv-loop b n i₀ p₀ low₀ i p low = (i ≤ n) × (p ≡ 4 + i * 13) × (notFalling (map (λ u. u .child) (several 13 unresolvedAt n (drop 4 b))) ≡ levelAbove low (map (λ u. u .child) (several 13 unresolvedAt (n - i) (drop p b))))
+Inv-loop b n i₀ p₀ low₀ i p low = (i ≤ n) × (p ≡ 4 + i * 13) ×
+    (notFalling (map (λ u. u .child) (several 13 unresolvedAt n (drop 4 b))) ≡ levelAbove low (map (λ u. u .child) (several 13 unresolvedAt (n - i) (drop p b))))
 
 abbrev μ-loop : tie.MeasureT-loop
 μ-loop b n i₀ p₀ low₀ i p low = n - i

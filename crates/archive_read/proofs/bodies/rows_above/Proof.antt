@@ -12,7 +12,8 @@ use Rattle.archive_read.proofs.bodies.rows_above.Statement.{statement}
 use Rattle.archive_read.proofs.bodies.rows_above.Tie as tie
 
 abbrev Inv-loop : tie.InvT-loop
-Inv-loop b n i₀ p₀ last₀ i p last = (i ≤ n) × (p ≡ 4 + i * 16) × (rising (map (λ t. t .row) (several 16 rootAt n (drop 4 b))) ≡ risesAbove last (map (λ t. t .row) (several 16 rootAt (n - i) (drop p b))))
+Inv-loop b n i₀ p₀ last₀ i p last = (i ≤ n) × (p ≡ 4 + i * 16)
+    × (rising (map (λ t. t .row) (several 16 rootAt n (drop 4 b))) ≡ risesAbove last (map (λ t. t .row) (several 16 rootAt (n - i) (drop p b))))
 
 abbrev μ-loop : tie.MeasureT-loop
 μ-loop b n i₀ p₀ last₀ i p last = n - i

@@ -24,8 +24,11 @@ returns-6 : tie.Need-returns-6
 returns-6 c = (search (needs, no-kind), tt)
 
 returns-7 : tie.Need-returns-7
-returns-7 c = let i = c .before .before .before .before .before .before in
-    (is-body _ _ _ (i .before .load-u32 .ensures .0) (i .index .ensures) (omega arith) (omega arith) (omega arith) (omega arith) (c .before .before .if5 .left) (c .if6 .left), (search needs, search needs, search needs))
+returns-7 c = let i = c .before .before .before .before .before .before in (
+  is-body _ _ _ (i .before .load-u32 .ensures .0) (i .index .ensures) (omega arith) (omega arith) (omega arith) (omega arith) (c .before .before .if5 .left)
+      (c .if6 .left),
+  (search needs, search needs, search needs),
+)
 
 pub find-body-spec : {M : Type 1} → statement M
 find-body-spec =

@@ -28,8 +28,11 @@ returns-5 c =
     let m = k .before .before .before .before .before in
     let h = m .before .before .before .before in
     let n = h .before .before .before .before .before in (
-      is-front _ _ _ (n .find-body .ensures .0) _ (h .before .before .before .x .given .1) (h .before .bytes-of .ensures) (h .head-body .ensures .0) _ (m .before .before .y .given .1) (m .find-body2 .ensures .0) _ (k .before .before .before .z .given .1) (k .before .bytes-of2 .ensures) (k .edges-body .ensures .0) (c .before .w .given .1),
-      front-after _ _ _ (n .find-body .ensures .1) (h .before .before .before .x .given .1) (h .before .bytes-of .ensures) _ (h .head-body .ensures .1) (m .before .before .y .given .1) _ (m .find-body2 .ensures .1) (k .before .before .before .z .given .1) (k .before .bytes-of2 .ensures) _ (k .edges-body .ensures .1) (c .before .w .given .1),
+      is-front _ _ _ (n .find-body .ensures .0) _ (h .before .before .before .x .given .1) (h .before .bytes-of .ensures) (h .head-body .ensures .0) _
+          (m .before .before .y .given .1) (m .find-body2 .ensures .0) _ (k .before .before .before .z .given .1) (k .before .bytes-of2 .ensures) (k .edges-body .ensures .0) (c .before .w .given .1),
+      front-after _ _ _ (n .find-body .ensures .1) (h .before .before .before .x .given .1) (h .before .bytes-of .ensures) _ (h .head-body .ensures .1)
+          (m .before .before .y .given .1) _ (m .find-body2 .ensures .1) (k .before .before .before .z .given .1) (k .before .bytes-of2 .ensures) _
+          (k .edges-body .ensures .1) (c .before .w .given .1),
     )
 
 pub read-front-spec : {M : Type 1} → statement M

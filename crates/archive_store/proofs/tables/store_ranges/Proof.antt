@@ -12,7 +12,8 @@ use Rattle.archive_store.proofs.tables.store_ranges.Statement.{statemen
 use Rattle.archive_store.proofs.tables.store_ranges.Tie as tie
 
 abbrev Inv-loop : tie.InvT-loop
-Inv-loop out₀ at ids minima maxima i₀ p₀ out i p = (i ≤ length ids) × (p ≡ at + i * 12) × (length out ≡ length out₀) × (sets out₀ at (flat rangeBytes (zip3 rangeFrom ids minima maxima)) ≡ sets out p (flat rangeBytes (zip3 rangeFrom (drop i ids) (drop i minima) (drop i maxima))))
+Inv-loop out₀ at ids minima maxima i₀ p₀ out i p = (i ≤ length ids) × (p ≡ at + i * 12) × (length out ≡ length out₀)
+    × (sets out₀ at (flat rangeBytes (zip3 rangeFrom ids minima maxima)) ≡ sets out p (flat rangeBytes (zip3 rangeFrom (drop i ids) (drop i minima) (drop i maxima))))
 
 abbrev μ-loop : tie.MeasureT-loop
 μ-loop out₀ at ids minima maxima i₀ p₀ out i p = length ids - i

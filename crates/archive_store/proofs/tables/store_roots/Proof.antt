@@ -12,7 +12,8 @@ use Rattle.archive_store.proofs.tables.store_roots.Statement.{statement
 use Rattle.archive_store.proofs.tables.store_roots.Tie as tie
 
 abbrev Inv-loop : tie.InvT-loop
-Inv-loop out₀ at rows handles i₀ p₀ out i p = (i ≤ length rows) × (p ≡ at + i * 16) × (length out ≡ length out₀) × (sets out₀ at (flat rootBytes (zip2 rootFrom rows handles)) ≡ sets out p (flat rootBytes (zip2 rootFrom (drop i rows) (drop i handles))))
+Inv-loop out₀ at rows handles i₀ p₀ out i p = (i ≤ length rows) × (p ≡ at + i * 16) × (length out ≡ length out₀)
+    × (sets out₀ at (flat rootBytes (zip2 rootFrom rows handles)) ≡ sets out p (flat rootBytes (zip2 rootFrom (drop i rows) (drop i handles))))
 
 abbrev μ-loop : tie.MeasureT-loop
 μ-loop out₀ at rows handles i₀ p₀ out i p = length rows - i

@@ -12,7 +12,8 @@ use Rattle.archive_store.proofs.tables.store_rows.Statement.{statement}
 use Rattle.archive_store.proofs.tables.store_rows.Tie as tie
 
 abbrev Inv-loop : tie.InvT-loop
-Inv-loop out₀ at flags tags i₀ p₀ out i p = (i ≤ length tags) × (p ≡ at + i * 9) × (length out ≡ length out₀) × (sets out₀ at (flat rowBytes (zip2 rowFrom flags tags)) ≡ sets out p (flat rowBytes (zip2 rowFrom (drop i flags) (drop i tags))))
+Inv-loop out₀ at flags tags i₀ p₀ out i p = (i ≤ length tags) × (p ≡ at + i * 9) × (length out ≡ length out₀)
+    × (sets out₀ at (flat rowBytes (zip2 rowFrom flags tags)) ≡ sets out p (flat rowBytes (zip2 rowFrom (drop i flags) (drop i tags))))
 
 abbrev μ-loop : tie.MeasureT-loop
 μ-loop out₀ at flags tags i₀ p₀ out i p = length tags - i

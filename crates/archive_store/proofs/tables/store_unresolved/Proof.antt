@@ -12,7 +12,8 @@ use Rattle.archive_store.proofs.tables.store_unresolved.Statement.{stat
 use Rattle.archive_store.proofs.tables.store_unresolved.Tie as tie
 
 abbrev Inv-loop : tie.InvT-loop
-Inv-loop out₀ at children kinds handles i₀ p₀ out i p = (i ≤ length children) × (p ≡ at + i * 13) × (length out ≡ length out₀) × (sets out₀ at (flat unresolvedBytes (zip3 unresolvedFrom children kinds handles)) ≡ sets out p (flat unresolvedBytes (zip3 unresolvedFrom (drop i children) (drop i kinds) (drop i handles))))
+Inv-loop out₀ at children kinds handles i₀ p₀ out i p = (i ≤ length children) × (p ≡ at + i * 13) × (length out ≡ length out₀)
+    × (sets out₀ at (flat unresolvedBytes (zip3 unresolvedFrom children kinds handles)) ≡ sets out p (flat unresolvedBytes (zip3 unresolvedFrom (drop i children) (drop i kinds) (drop i handles))))
 
 abbrev μ-loop : tie.MeasureT-loop
 μ-loop out₀ at children kinds handles i₀ p₀ out i p = length children - i

@@ -10,7 +10,8 @@ use Rattle.arrays.proofs.table.add_list.Statement.{statement}
 use Rattle.arrays.proofs.table.add_list.Tie as tie
 
 abbrev Inv-loop : tie.InvT-loop
-Inv-loop keys₀ links₀ heads₀ n src a b m₀ i₀ keys links heads m i = (length keys ≡ length keys₀) × (length links ≡ length links₀) × (length heads ≡ length heads₀) × Table keys links heads m × (addsCap (length keys₀) (take n keys₀) (slice a b src) ≡ addsCap (length keys₀) (take m keys) (slice i b src))
+Inv-loop keys₀ links₀ heads₀ n src a b m₀ i₀ keys links heads m i = (length keys ≡ length keys₀) × (length links ≡ length links₀) × (length heads ≡ length heads₀)
+    × Table keys links heads m × (addsCap (length keys₀) (take n keys₀) (slice a b src) ≡ addsCap (length keys₀) (take m keys) (slice i b src))
 
 abbrev μ-loop : tie.MeasureT-loop
 μ-loop keys₀ links₀ heads₀ n src a b m₀ i₀ keys links heads m i = b - i

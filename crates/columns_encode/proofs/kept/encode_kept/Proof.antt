@@ -1,6 +1,7 @@
 -- `columns_encode::kept::encode_kept` meets its contract.
 use native.Mathlib.Omega.{arith}
-use Rattle.columns_encode.proofs.Laid.{late-refused, offsets-as-were, deltas-as-were, ready, late-counted, forward-offsets, forward-deltas, reverse-offsets, reverse-deltas, inbound-offsets, inbound-deltas}
+use Rattle.columns_encode.proofs.Laid.{late-refused, offsets-as-were, deltas-as-were, ready, late-counted, forward-offsets, forward-deltas, reverse-offsets}
+use Rattle.columns_encode.proofs.Laid.{reverse-deltas, inbound-offsets, inbound-deltas}
 use borrow.Author.Needs.{needs}
 use Rattle.columns_encode.proofs.kept.encode_kept.Statement.{statement}
 use Rattle.columns_encode.proofs.kept.encode_kept.Tie as tie
@@ -40,7 +41,16 @@ returns-2 c =
         search forward-offsets,
         (
           search forward-deltas,
-          (search reverse-offsets, (search reverse-deltas, (inbound-offsets _ _ _ _ _ _ _ _ _ (late .0) kept _ _ (late .1) _ (count) _ _ (sets .1 .1 .1 .1 .1 .0), inbound-deltas _ _ _ _ _ _ _ _ _ (late .0) kept _ _ (late .1) _ (count) _ _ (sets .1 .1 .1 .1 .1 .1)))),
+          (
+            search reverse-offsets,
+            (
+              search reverse-deltas,
+              (
+                inbound-offsets _ _ _ _ _ _ _ _ _ (late .0) kept _ _ (late .1) _ (count) _ _ (sets .1 .1 .1 .1 .1 .0),
+                inbound-deltas _ _ _ _ _ _ _ _ _ (late .0) kept _ _ (late .1) _ (count) _ _ (sets .1 .1 .1 .1 .1 .1),
+              ),
+            ),
+          ),
         ),
       ),
     )

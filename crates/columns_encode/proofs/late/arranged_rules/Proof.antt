@@ -9,8 +9,13 @@ arrange-requires c κs = (search needs, ((search needs, search needs), (search n
 
 table-rules-requires : tie.Need-table-rules-requires
 table-rules-requires c κs =
-    let t = c .before .before .before .before .before .before .before .before .arrange .ensures in
-    ((search needs, search needs), ((arrived-long _ _ _ _ _ _ (t .0) _ _ (t .1 .0) _ _ (t .1 .1 .0), arrived-many _ _ _ _ _ _ (t .0) _ _ (t .1 .0) _ _ (t .1 .1 .0)), (search needs, (lent-form _ _ _ _ _ _ (t .0) _ _ (t .1 .0) _ _ (t .1 .1 .0), lent-level _ _ _ _ _ _ (t .0) _ _ (t .1 .0) _ _ (t .1 .1 .0)))))
+    let t = c .before .before .before .before .before .before .before .before .arrange .ensures in (
+      (search needs, search needs),
+      (
+        (arrived-long _ _ _ _ _ _ (t .0) _ _ (t .1 .0) _ _ (t .1 .1 .0), arrived-many _ _ _ _ _ _ (t .0) _ _ (t .1 .0) _ _ (t .1 .1 .0)),
+        (search needs, (lent-form _ _ _ _ _ _ (t .0) _ _ (t .1 .0) _ _ (t .1 .1 .0), lent-level _ _ _ _ _ _ (t .0) _ _ (t .1 .0) _ _ (t .1 .1 .0))),
+      ),
+    )
 
 returns : tie.Need-returns
 returns c = (search arranged-says, search arranged)

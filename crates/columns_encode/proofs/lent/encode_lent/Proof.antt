@@ -8,8 +8,13 @@ encode-kept-requires : tie.Need-encode-kept-requires
 encode-kept-requires c κs =
     let early = c .before .before .before .before .before .before .before .before .before .before .before .early-rules .ensures in
     let kept = c .before .before .before .before .before .before .before .before .before .enum-told .given .1 in
-    let tight = c .before .before .before .before .before .before .before .before .before .before .before .before .are-sets-short .ensures in
-    (early-given _ _ _ _ _ _ _ _ _ _ _ _ _ _ _ early kept, (rooms-given _ _ _ _ _ _ _ _ _ _ _ _ _ _ _ early kept _ _ _ _ _ _ tight, c .before .before .before .before .before .before .before .before .before .before .before .before .before .before .before .before .before .before .before .before .before .before .before .before .before .before .before .before .before .before .pre))
+    let tight = c .before .before .before .before .before .before .before .before .before .before .before .before .are-sets-short .ensures in (
+      early-given _ _ _ _ _ _ _ _ _ _ _ _ _ _ _ early kept,
+      (
+        rooms-given _ _ _ _ _ _ _ _ _ _ _ _ _ _ _ early kept _ _ _ _ _ _ tight,
+        c .before .before .before .before .before .before .before .before .before .before .before .before .before .before .before .before .before .before .before .before .before .before .before .before .before .before .before .before .before .before .pre,
+      ),
+    )
 
 returns : tie.Need-returns
 returns c = record {

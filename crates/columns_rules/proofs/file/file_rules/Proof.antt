@@ -14,7 +14,10 @@ returns-3 : tie.Need-returns-3
 returns-3 c = search numbers-bad
 
 slot-rules-requires : tie.Need-slot-rules-requires
-slot-rules-requires c κs = ((search needs, numbers-good _ _ (c .before .numbers-fit .ensures) (c .if3 .left)), entries-good _ _ _ (c .before .before .before .is-form .ensures) (c .before .before .if2 .left))
+slot-rules-requires c κs = (
+  (search needs, numbers-good _ _ (c .before .numbers-fit .ensures) (c .if3 .left)),
+  entries-good _ _ _ (c .before .before .before .is-form .ensures) (c .before .before .if2 .left),
+)
 
 returns-4 : tie.Need-returns-4
 returns-4 c = search then-parents

@@ -10,8 +10,10 @@ turn-requires c κs = ((search needs, (search needs, search needs)), (search nee
 write-table-requires : tie.Need-write-table-requires
 write-table-requires c κs =
     let t = c .before .before .before .before .before .before .before .before .turn .ensures in
-    let given = c .before .before .before .before .before .before .before .before .before .before .before .before .before .before .before .before .pre .0 in
-    ((turned-offsets _ _ _ _ _ _ given _ (t .0) _ _ (t .1 .0) _ _ (t .1 .1 .0), turned-many _ _ _ _ _ _ given _ (t .0) _ _ (t .1 .0) _ _ (t .1 .1 .0)), (turned-reached _ _ _ _ _ _ given _ (t .0) _ _ (t .1 .0) _ _ (t .1 .1 .0), (search needs, turned-room _ _ _ _ _ _ given _ (t .0) _ _ (t .1 .0) _ _ (t .1 .1 .0) _ (t .1 .1 .1) (search needs))))
+    let given = c .before .before .before .before .before .before .before .before .before .before .before .before .before .before .before .before .pre .0 in (
+      (turned-offsets _ _ _ _ _ _ given _ (t .0) _ _ (t .1 .0) _ _ (t .1 .1 .0), turned-many _ _ _ _ _ _ given _ (t .0) _ _ (t .1 .0) _ _ (t .1 .1 .0)),
+      (turned-reached _ _ _ _ _ _ given _ (t .0) _ _ (t .1 .0) _ _ (t .1 .1 .0), (search needs, turned-room _ _ _ _ _ _ given _ (t .0) _ _ (t .1 .0) _ _ (t .1 .1 .0) _ (t .1 .1 .1) (search needs))),
+    )
 
 returns : tie.Need-returns
 returns c = (search turned-counted, (search turned-starts, search turned-deltas))

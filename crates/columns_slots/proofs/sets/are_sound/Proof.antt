@@ -13,7 +13,8 @@ use Rattle.columns_slots.proofs.sets.are_sound.Statement.{statement}
 use Rattle.columns_slots.proofs.sets.are_sound.Tie as tie
 
 abbrev Inv-loop : tie.InvT-loop
-Inv-loop set first end offsets deltas slot₀ slot = (slot % 2 ≡ 0) × (slot < length offsets) × (soundFrom kinds set first end 0 (cut offsets deltas) ≡ soundFrom kinds set first end slot (drop slot (cut offsets deltas)))
+Inv-loop set first end offsets deltas slot₀ slot = (slot % 2 ≡ 0) × (slot < length offsets)
+    × (soundFrom kinds set first end 0 (cut offsets deltas) ≡ soundFrom kinds set first end slot (drop slot (cut offsets deltas)))
 
 abbrev μ-loop : tie.MeasureT-loop
 μ-loop set first end offsets deltas slot₀ slot = length offsets - slot

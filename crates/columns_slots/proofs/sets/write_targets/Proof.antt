@@ -19,7 +19,8 @@ loop-again c =
     let after = c .before .before in
     let told = after .before .before in
     let turn = told .before .before in
-    target-put _ _ _ _ _ _ _ _ _ (turn .before .loop .inv) (turn .loop-test .taken) (turn .before .before .before .pre .0 .1 .0) (record { sfits = told .target-arg .given }) _ (after .before .target .ensures) _ (after .put .ensures)
+    target-put _ _ _ _ _ _ _ _ _ (turn .before .loop .inv) (turn .loop-test .taken) (turn .before .before .before .pre .0 .1 .0)
+    (record { sfits = told .target-arg .given }) _ (after .before .target .ensures) _ (after .put .ensures)
 
 returns : tie.Need-returns Inv-loop μ-loop
 returns c = (search needs, search targets-done)

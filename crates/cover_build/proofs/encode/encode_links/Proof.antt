@@ -1,5 +1,6 @@
 use Rattle.cover_rows.proofs.limits.Rooms.{four-rooms}
-use Rattle.cover_build.proofs.encode.Encoding.{encode-over-told, encode-over-kept, encode-short-told, encode-short-kept, encode-uneven-told, encode-uneven-kept, encode-told, encode-written, columns-even}
+use Rattle.cover_build.proofs.encode.Encoding.{encode-over-told, encode-over-kept, encode-short-told, encode-short-kept, encode-uneven-told, encode-uneven-kept}
+use Rattle.cover_build.proofs.encode.Encoding.{encode-told, encode-written, columns-even}
 use borrow.Author.Needs.{needs}
 use Rattle.cover_build.proofs.encode.encode_links.Statement.{statement}
 use Rattle.cover_build.proofs.encode.encode_links.Tie as tie
@@ -16,7 +17,9 @@ returns-3 c = (search encode-uneven-told, search encode-uneven-kept)
 write-stored-requires : tie.Need-write-stored-requires
 write-stored-requires c κs = (
   columns-even _ _ _ _ (c .before .before .before .before .before .are-even .ensures) (c .before .before .before .before .if3 .left),
-  four-rooms _ _ _ _ _ (c .before .before .before .before .before .before .before .before .before .four-over .ensures) (c .before .before .before .before .before .before .before .before .if1 .left) _ _ _ _ _ (c .before .before .before .before .before .before .before .four-short .ensures) (c .before .before .before .before .before .before .if2 .left),
+  four-rooms _ _ _ _ _ (c .before .before .before .before .before .before .before .before .before .four-over .ensures)
+      (c .before .before .before .before .before .before .before .before .if1 .left) _ _ _ _ _
+      (c .before .before .before .before .before .before .before .four-short .ensures) (c .before .before .before .before .before .before .if2 .left),
 )
 
 returns-4 : tie.Need-returns-4

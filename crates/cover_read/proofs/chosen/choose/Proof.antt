@@ -9,7 +9,8 @@ use Rattle.cover_read.proofs.chosen.choose.Statement.{statement}
 use Rattle.cover_read.proofs.chosen.choose.Tie as tie
 
 abbrev Inv-loop : tie.InvT-loop
-Inv-loop from chains rows₀ k₀ p₀ i₀ rows k p i = (i ≤ length chains) × (p ≤ length from) × (k ≤ p) × (length rows ≡ length rows₀) × (rowsOf chains 0 from ≡ take k rows ++ rowsOf (drop i chains) p (drop p from))
+Inv-loop from chains rows₀ k₀ p₀ i₀ rows k p i = (i ≤ length chains) × (p ≤ length from) × (k ≤ p) × (length rows ≡ length rows₀)
+    × (rowsOf chains 0 from ≡ take k rows ++ rowsOf (drop i chains) p (drop p from))
 
 abbrev μ-loop : tie.MeasureT-loop
 μ-loop from chains rows₀ k₀ p₀ i₀ rows k p i = length chains - i

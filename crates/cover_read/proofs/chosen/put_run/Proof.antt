@@ -10,7 +10,8 @@ use Rattle.cover_read.proofs.chosen.put_run.Statement.{statement}
 use Rattle.cover_read.proofs.chosen.put_run.Tie as tie
 
 abbrev Inv-loop : tie.InvT-loop
-Inv-loop from start chain rows₀ k at₀ i₀ rows at i = (start ≤ i) × (i ≤ length from) × (at ≡ k + (i - start)) × (length rows ≡ length rows₀) × (start + runOf chain (drop start from) ≡ i + runOf chain (drop i from))
+Inv-loop from start chain rows₀ k at₀ i₀ rows at i = (start ≤ i) × (i ≤ length from) × (at ≡ k + (i - start)) × (length rows ≡ length rows₀)
+    × (start + runOf chain (drop start from) ≡ i + runOf chain (drop i from))
     × (take at rows ≡ take k rows₀ ++ upFrom start (i - start))
 
 abbrev μ-loop : tie.MeasureT-loop

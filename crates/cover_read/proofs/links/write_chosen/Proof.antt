@@ -11,7 +11,10 @@ slice-aggregate-pick-chosen : tie.Need-slice-aggregate-pick-chosen
 slice-aggregate-pick-chosen c = search sums-count
 
 pick-chosen-requires : tie.Need-pick-chosen-requires
-pick-chosen-requires c κs = ((search even-seqs, (search even-chains, search even-ends)), ((search from-level, (search from-room, search needs)), (search from-room, (search from-room, (search from-room, search from-room)))))
+pick-chosen-requires c κs = (
+  (search even-seqs, (search even-chains, search even-ends)),
+  ((search from-level, (search from-room, search needs)), (search from-room, (search from-room, (search from-room, search from-room)))),
+)
 
 returns : tie.Need-returns
 returns c = (search stored-count, search stored-written)

@@ -10,7 +10,8 @@ use Rattle.cover_read.proofs.ranges.in_order.Statement.{statement}
 use Rattle.cover_read.proofs.ranges.in_order.Tie as tie
 
 abbrev Inv-loop : tie.InvT-loop
-Inv-loop ids minima maxima i₀ i = (i ≤ length ids) × (all (λ x. leb (x .least) (x .greatest)) (rangesIn ids minima maxima) ≡ all (λ x. leb (x .least) (x .greatest)) (rangesIn (drop i ids) (drop i minima) (drop i maxima)))
+Inv-loop ids minima maxima i₀ i = (i ≤ length ids) × (all (λ x. leb (x .least) (x .greatest)) (rangesIn ids minima maxima)
+    ≡ all (λ x. leb (x .least) (x .greatest)) (rangesIn (drop i ids) (drop i minima) (drop i maxima)))
 
 abbrev μ-loop : tie.MeasureT-loop
 μ-loop ids minima maxima i₀ i = length ids - i

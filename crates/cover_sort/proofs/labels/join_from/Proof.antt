@@ -9,7 +9,8 @@ use Rattle.cover_sort.proofs.labels.join_from.Statement.{statement}
 use Rattle.cover_sort.proofs.labels.join_from.Tie as tie
 
 abbrev Inv-loop : tie.InvT-loop
-Inv-loop keys start ids₀ minima₀ maxima₀ first₀ last₀ at₀ i₀ ids minima maxima first last at i = (i ≤ length keys) × (at < i) × (length ids ≡ length ids₀) × (length minima ≡ length minima₀) × (length maxima ≡ length maxima₀)
+Inv-loop keys start ids₀ minima₀ maxima₀ first₀ last₀ at₀ i₀ ids minima maxima first last at i = (i ≤ length keys) × (at < i) × (length ids ≡ length ids₀)
+    × (length minima ≡ length minima₀) × (length maxima ≡ length maxima₀)
     × (length (runs start start (drop 1 keys)) ≡ at + length (runs first last (drop i keys)))
     × (putRanges 0 (runs start start (drop 1 keys)) (rangeColumns ids₀ minima₀ maxima₀) ≡ putRanges at (runs first last (drop i keys)) (rangeColumns ids minima maxima))
 

@@ -15,13 +15,16 @@ slice-aggregate-sort-into-2 : tie.Need-slice-aggregate-sort-into-2
 slice-aggregate-sort-into-2 c = sym (long-chains _ _ _ _ _ _ (c .before .before .grow-links .ensures) (c .before .before .before .before .before .before .before .before .before .pre .1 .0))
 
 slice-aggregate-sort-into-3 : tie.Need-slice-aggregate-sort-into-3
-slice-aggregate-sort-into-3 c = sym (long-seqs _ _ _ _ _ _ (c .before .before .before .grow-links .ensures) (c .before .before .before .before .before .before .before .before .before .before .pre .1 .0))
+slice-aggregate-sort-into-3 c = sym (long-seqs _ _ _ _ _ _ (c .before .before .before .grow-links .ensures)
+    (c .before .before .before .before .before .before .before .before .before .before .pre .1 .0))
 
 slice-aggregate-sort-into-4 : tie.Need-slice-aggregate-sort-into-4
-slice-aggregate-sort-into-4 c = sym (long-to-chains _ _ _ _ _ _ (c .before .before .before .before .grow-links .ensures) (c .before .before .before .before .before .before .before .before .before .before .before .pre .1 .0))
+slice-aggregate-sort-into-4 c = sym (long-to-chains _ _ _ _ _ _ (c .before .before .before .before .grow-links .ensures)
+    (c .before .before .before .before .before .before .before .before .before .before .before .pre .1 .0))
 
 slice-aggregate-sort-into-5 : tie.Need-slice-aggregate-sort-into-5
-slice-aggregate-sort-into-5 c = sym (long-to-seqs _ _ _ _ _ _ (c .before .before .before .before .before .grow-links .ensures) (c .before .before .before .before .before .before .before .before .before .before .before .before .pre .1 .0))
+slice-aggregate-sort-into-5 c = sym (long-to-seqs _ _ _ _ _ _ (c .before .before .before .before .before .grow-links .ensures)
+    (c .before .before .before .before .before .before .before .before .before .before .before .before .pre .1 .0))
 
 sort-into-requires : tie.Need-sort-into-requires
 sort-into-requires c κs = ((search links-few, (search needs, search links-level)), (search long-groups, (search long-chains, (search long-seqs, (search long-to-chains, search long-to-seqs)))))

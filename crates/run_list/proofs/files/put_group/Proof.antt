@@ -9,7 +9,8 @@ put-head-requires c κs = search (needs, head-fits)
 
 put-lists-requires : tie.Need-put-lists-requires
 put-lists-requires c κs =
-    let pre = c .before .before .before .before .before .before .before .before .before .before .before .before .before .before .pre in (pre .0 .0, search (needs, forward-fits _ _ _ _ _ _ _ _ _ _ (pre .1) (c .before .before .before .before .put-head .ensures)))
+    let pre = c .before .before .before .before .before .before .before .before .before .before .before .before .before .before .pre in
+    (pre .0 .0, search (needs, forward-fits _ _ _ _ _ _ _ _ _ _ (pre .1) (c .before .before .before .before .put-head .ensures)))
 
 put-lists-requires-2 : tie.Need-put-lists-requires-2
 put-lists-requires-2 c κs =

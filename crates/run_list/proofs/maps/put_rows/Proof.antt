@@ -20,7 +20,13 @@ loop-holds : tie.Need-loop-holds Inv-loop μ-loop
 loop-holds c = search (needs, rows-begin)
 
 loop-again : tie.Need-loop-again Inv-loop μ-loop
-loop-again c = (search needs, search needs, search needs, rows-more _ _ _ _ (c .before .before .before .before .before .before .before .loop .inv .3) (search needs) (c .before .before .put-map .ensures))
+loop-again c = (
+  search needs,
+  search needs,
+  search needs,
+  rows-more _ _ _ _ (c .before .before .before .before .before .before .before .loop .inv .3) (search needs)
+      (c .before .before .put-map .ensures),
+)
 
 returns : tie.Need-returns Inv-loop μ-loop
 returns c = search (needs, rows-done)

@@ -18,13 +18,15 @@ abbrev μ-loop : tie.MeasureT-loop
     n - g
 
 loop-holds : tie.Need-loop-holds Inv-loop μ-loop
-loop-holds c = let ready = c .before .before .before .before .before .before .before .before .before .pre .0 in (refl, omega arith, going-starts _ _ (sym (groups-count _ _ _ _ _ _ _ _ _)) (ready .few .groups-count))
+loop-holds c = let ready = c .before .before .before .before .before .before .before .before .before .pre .0 in
+    (refl, omega arith, going-starts _ _ (sym (groups-count _ _ _ _ _ _ _ _ _)) (ready .few .groups-count))
 
 measure-group-requires : tie.Need-measure-group-requires Inv-loop μ-loop
 measure-group-requires c κs = let pre = c .before .before .before .before .before .before .before .before .before .before .before .pre in (pre .0, (pre .1, c .loop-test .taken))
 
 returns : tie.Need-returns Inv-loop μ-loop
-returns c = all-broken _ _ _ _ (c .before .before .before .measure-group .ensures) (c .before .before .before .before .loop-test .taken) _ (c .before .v .given .1) (c .before .before .before .before .before .loop .inv .2)
+returns c = all-broken _ _ _ _ (c .before .before .before .measure-group .ensures) (c .before .before .before .before .loop-test .taken) _ (c .before .v .given .1)
+    (c .before .before .before .before .before .loop .inv .2)
 
 add-total : tie.Need-add-total Inv-loop μ-loop
 add-total c = total-fits _ _ _ _ (c .before .before .before .measure-group .ensures) (c .before .before .before .before .loop-test .taken) (c .before .before .before .before .before .loop .inv .2)
@@ -36,7 +38,12 @@ loop-less : tie.Need-loop-less Inv-loop μ-loop
 loop-less c = omega (arith, c .before .before .before .before .loop-test .taken)
 
 loop-again : tie.Need-loop-again Inv-loop μ-loop
-loop-again c = (refl, omega (arith, c .before .before .before .before .loop-test .taken), going-on _ _ _ _ (c .before .before .before .measure-group .ensures) (c .before .before .before .before .loop-test .taken) (c .before .enum-told .given .1) (c .before .before .before .before .before .loop .inv .2))
+loop-again c = (
+  refl,
+  omega (arith, c .before .before .before .before .loop-test .taken),
+  going-on _ _ _ _ (c .before .before .before .measure-group .ensures) (c .before .before .before .before .loop-test .taken) (c .before .enum-told .given .1)
+      (c .before .before .before .before .before .loop .inv .2),
+)
 
 returns-2 : tie.Need-returns-2 Inv-loop μ-loop
 returns-2 c = going-ends _ _ _ _ (c .loop-test .left) (c .before .loop .inv .2)

@@ -14,7 +14,11 @@ measure-section-requires c κs =
     let pre = c .before .before .before .before .before .before .before .before .before .before .before .before .pre in (
       (
         section-inside _ _ _ _ _ _ _ _ _ (pre .0) _ (pre .1 .1) _ (c .before .section-of .ensures),
-        (subject-short _ _ _ _ _ _ _ _ _ (pre .0), ranges-few _ _ _ _ _ _ _ _ _ (pre .0) _ (pre .1 .1) _ (c .before .section-of .ensures) (pre .1 .0 .0) _ (pre .1 .0 .1) _ (c .before .before .facts-of .ensures)),
+        (
+          subject-short _ _ _ _ _ _ _ _ _ (pre .0),
+          ranges-few _ _ _ _ _ _ _ _ _ (pre .0) _ (pre .1 .1) _ (c .before .section-of .ensures) (pre .1 .0 .0) _
+              (pre .1 .0 .1) _ (c .before .before .facts-of .ensures),
+        ),
       ),
       both-lists _ _ _ _ _ _ _ _ _ (pre .0) (pre .1 .0 .0),
     )
@@ -22,7 +26,8 @@ measure-section-requires c κs =
 returns : tie.Need-returns
 returns c =
     let pre = c .before .before .before .before .before .before .before .before .before .before .before .before .before .pre in
-    group-measured _ _ _ _ _ _ _ _ _ (pre .0) _ (pre .1 .1) _ (c .before .before .section-of .ensures) (pre .1 .0 .0) _ (pre .1 .0 .1) _ (c .before .before .before .facts-of .ensures) _ (c .measure-section .ensures)
+    group-measured _ _ _ _ _ _ _ _ _ (pre .0) _ (pre .1 .1) _ (c .before .before .section-of .ensures) (pre .1 .0 .0) _ (pre .1 .0 .1) _
+    (c .before .before .before .facts-of .ensures) _ (c .measure-section .ensures)
 
 pub measure-group-spec : {M : Type 1} → statement M
 measure-group-spec = tie.close (tie.spec (λ c κs. search needs) (λ c κs. search needs) sub-measure-section measure-section-requires returns)

@@ -1,5 +1,6 @@
 -- `run_resolve::survivor_sheet::kept_sheet` meets its contract: each column is kept by its own function.
-use Rattle.run_resolve.proofs.survivor_sheet.SheetParts.{part-rows, part-unresolved, part-roots, part-links, part-groups, flags-few, flags-end, children-here, roots-here, children-long, roots-long, links-level}
+use Rattle.run_resolve.proofs.survivor_sheet.SheetParts.{part-rows, part-unresolved, part-roots, part-links, part-groups, flags-few, flags-end, children-here}
+use Rattle.run_resolve.proofs.survivor_sheet.SheetParts.{roots-here, children-long, roots-long, links-level}
 use borrow.Author.Needs.{needs}
 use Rattle.run_resolve.proofs.survivor_sheet.kept_sheet.Statement.{statement}
 use Rattle.run_resolve.proofs.survivor_sheet.kept_sheet.Tie as tie

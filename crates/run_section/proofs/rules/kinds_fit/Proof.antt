@@ -11,7 +11,8 @@ use Rattle.run_section.proofs.rules.kinds_fit.Statement.{statement}
 use Rattle.run_section.proofs.rules.kinds_fit.Tie as tie
 
 abbrev Inv-loop : tie.InvT-loop
-Inv-loop unresolved a n i₀ p₀ i p = (i ≤ n) × (p ≡ a * 3 + i * 3) × (all kindFits (several 3 unresolvedIn n (drop (a * 3) unresolved)) ≡ all kindFits (several 3 unresolvedIn (n - i) (drop p unresolved)))
+Inv-loop unresolved a n i₀ p₀ i p = (i ≤ n) × (p ≡ a * 3 + i * 3)
+    × (all kindFits (several 3 unresolvedIn n (drop (a * 3) unresolved)) ≡ all kindFits (several 3 unresolvedIn (n - i) (drop p unresolved)))
 
 abbrev μ-loop : tie.MeasureT-loop
 μ-loop unresolved a n i₀ p₀ i p = n - i

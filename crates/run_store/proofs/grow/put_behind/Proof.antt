@@ -8,7 +8,8 @@ use Rattle.run_store.proofs.grow.put_behind.Statement.{statement}
 use Rattle.run_store.proofs.grow.put_behind.Tie as tie
 
 returns : tie.Need-returns
-returns c = let a = c .before .before .before .before .before .before .args in part-back _ _ (joined (slotsOf kinds (a .first) (columnsOf (a .count) (a .offsets .now) (a .deltas .now)))) (c .before .before .before .before .before .before .pre .0) (c .before .before .write-csr .ensures .1)
+returns c = let a = c .before .before .before .before .before .before .args in part-back _ _
+    (joined (slotsOf kinds (a .first) (columnsOf (a .count) (a .offsets .now) (a .deltas .now)))) (c .before .before .before .before .before .before .pre .0) (c .before .before .write-csr .ensures .1)
 
 pub put-behind-spec : {M : Type 1} → statement M
 put-behind-spec =

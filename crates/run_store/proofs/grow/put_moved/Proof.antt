@@ -32,7 +32,13 @@ add-p : tie.Need-add-p Inv-loop μ-loop
 add-p c = let h = room-here _ _ _ _ _ (c .before .loop-test .taken) (c .before .before .loop .inv .1) in search needs
 
 loop-again : tie.Need-loop-again Inv-loop μ-loop
-loop-again c = (search needs, search room-next, small-next _ _ _ _ (c .before .before .before .before .args .bytes .now) (c .before .before .loop .p) (c .before .loop-test .taken) (c .before .before .loop .inv .2), moved-put _ _ _ _ (c .before .before .before .before .args .bytes .now) (c .before .before .loop .p) _ (c .before .loop-test .taken) _ _ (c .before .before .loop .inv .3) (c .load-u64 .ensures))
+loop-again c = (
+  search needs,
+  search room-next,
+  small-next _ _ _ _ (c .before .before .before .before .args .bytes .now) (c .before .before .loop .p)
+      (c .before .loop-test .taken) (c .before .before .loop .inv .2),
+  moved-put _ _ _ _ (c .before .before .before .before .args .bytes .now) (c .before .before .loop .p) _ (c .before .loop-test .taken) _ _ (c .before .before .loop .inv .3) (c .load-u64 .ensures),
+)
 
 returns : tie.Need-returns Inv-loop μ-loop
 returns c = search all-put

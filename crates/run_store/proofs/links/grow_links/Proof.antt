@@ -10,7 +10,8 @@ use Rattle.run_store.proofs.links.grow_links.Statement.{statement}
 use Rattle.run_store.proofs.links.grow_links.Tie as tie
 
 abbrev Inv-loop : tie.InvT-loop
-Inv-loop h groups₀ chains₀ seqs₀ tochains₀ toseqs₀ count bytes c₀ k₀ p₀ groups chains seqs tochains toseqs c k p = (p ≤ length bytes) × (k ≤ p) × Walk linksNow h (linksOf c groups chains seqs tochains toseqs) bytes k p
+Inv-loop h groups₀ chains₀ seqs₀ tochains₀ toseqs₀ count bytes c₀ k₀ p₀ groups chains seqs tochains toseqs c k p = (p ≤ length bytes) × (k ≤ p)
+    × Walk linksNow h (linksOf c groups chains seqs tochains toseqs) bytes k p
 
 abbrev μ-loop : tie.MeasureT-loop
 μ-loop h groups₀ chains₀ seqs₀ tochains₀ toseqs₀ count bytes c₀ k₀ p₀ groups chains seqs tochains toseqs c k p = length bytes - p

@@ -10,7 +10,8 @@ use Rattle.run_store.proofs.sets.grow_set.Statement.{statement}
 use Rattle.run_store.proofs.sets.grow_set.Tie as tie
 
 abbrev Inv-loop : tie.InvT-loop
-Inv-loop h side starts₀ targets₀ count rows offsets₀ deltas₀ bytes c₀ n₀ k₀ p₀ starts targets offsets deltas c n k p = (p ≤ length bytes) × (k ≤ p) × Walk (sideNow side) h (edgesOf c starts targets, n) bytes k p
+Inv-loop h side starts₀ targets₀ count rows offsets₀ deltas₀ bytes c₀ n₀ k₀ p₀ starts targets offsets deltas c n k p = (p ≤ length bytes) × (k ≤ p)
+    × Walk (sideNow side) h (edgesOf c starts targets, n) bytes k p
 
 abbrev μ-loop : tie.MeasureT-loop
 μ-loop h side starts₀ targets₀ count rows offsets₀ deltas₀ bytes c₀ n₀ k₀ p₀ starts targets offsets deltas c n k p = length bytes - p

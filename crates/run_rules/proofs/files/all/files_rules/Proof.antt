@@ -8,7 +8,8 @@ use Rattle.archive_read.specs.Sums.{totalsOf}
 use Rattle.archive_read.proofs.AtFiles.{file-fits, file-holds}
 use Rattle.columns.specs.Answers.{ruling}
 use Rattle.run_rules.specs.files.Archive.{rulesOf, Within, seenOf}
-use Rattle.run_rules.proofs.files.FileTurns.{rules-start, within-start, first-look, files-done, no-archive, is-small, still-within, files-stop, files-on, head-holds, fewer-left, count-below, count-on, kept-subject, kept-numbers}
+use Rattle.run_rules.proofs.files.FileTurns.{rules-start, within-start, first-look, files-done, no-archive, is-small, still-within, files-stop, files-on}
+use Rattle.run_rules.proofs.files.FileTurns.{head-holds, fewer-left, count-below, count-on, kept-subject, kept-numbers}
 use borrow.Author.Needs.{needs}
 use Rattle.run_rules.proofs.files.all.files_rules.Statement.{statement}
 use Rattle.run_rules.proofs.files.all.files_rules.Tie as tie
