@@ -10,7 +10,7 @@ mod links;
 mod refusal;
 mod run;
 
-pub use links::{Cover, LINKS_MAX, Link, Range, build_cover, links_from, sort_links, store_links};
+pub use links::{Cover, LINKS_MAX, Link, Range, build_cover, chain_links, links_from, sort_links, store_links};
 pub use refusal::Refusal;
 pub use run::Run;
 

@@ -10,7 +10,7 @@ fn main() {
     });
     if env::var_os("CARGO_FEATURE_PORT").is_some() {
         println!("cargo:rustc-link-search=native={}", folder.display());
-        for name in ["ffi_columns", "ffi_build", "ffi_cover", "cover_links", "ffi_archive", "ffi_clean", "ffi_run"] {
+        for name in ["ffi_columns", "ffi_build", "ffi_cover", "ffi_links", "cover_links", "ffi_archive", "ffi_clean", "ffi_run"] {
             println!("cargo:rerun-if-changed={}", folder.join(format!("lib{name}.a")).display());
             println!("cargo:rustc-link-lib=static={name}");
         }
