@@ -28,6 +28,13 @@ size_t ridgeoven_links_together(const uint32_t *from_chains, size_t from_chains_
                                 const uint32_t *to_chains, size_t to_chains_length, const uint32_t *to_seqs, size_t to_seqs_length,
                                 ridgeoven_link *links, size_t links_room);
 
+/* Links in order at the start of their slice, repeats dropped; answers how many, and what stands behind them stays. More than 1,024 are 42. */
+ridgeoven_answer ridgeoven_links_sort(ridgeoven_link *links, size_t links_length);
+
+/* The links from any of the chains, in their order; out has room for 1,024. Links that do not rise are 22. */
+ridgeoven_answer ridgeoven_links_from(const ridgeoven_link *links, size_t links_length, const uint32_t *chains, size_t chains_length,
+                                      ridgeoven_link *out, size_t out_room);
+
 typedef struct ridgeoven_covered {
     uint64_t refusal;
     size_t ranges;

@@ -52,6 +52,7 @@ static void answered(const char *name, uint64_t refusal, uint64_t expected) {
 static uint64_t numbers[6][4096];
 static int64_t deltas[3][4096];
 static uint32_t records[7][1024];
+static ridgeoven_link links[1024];
 static uint8_t bytes[RIDGEOVEN_LISTING_ROOM];
 static ridgeoven_run run;
 static uint8_t archive[4096];
@@ -94,6 +95,9 @@ static void covers(void) {
     answered("ridgeoven_links_apart", ridgeoven_links_apart(NONE, NONE, NONE, NONE, NONE), 0);
     answered("ridgeoven_links_apart", ridgeoven_links_apart(NONE, RECORDS(0), RECORDS(1), RECORDS(2), RECORDS(3)), 0);
     answered("ridgeoven_links_together", ridgeoven_links_together(NONE, NONE, NONE, NONE, NONE), 0);
+    answered("ridgeoven_links_sort", ridgeoven_links_sort(NONE).refusal, 0);
+    answered("ridgeoven_links_from", ridgeoven_links_from(NONE, NONE, NONE).refusal, 41);
+    answered("ridgeoven_links_from", ridgeoven_links_from(NONE, NONE, links, 1024).refusal, 0);
     answered("ridgeoven_cover_build", ridgeoven_cover_build(NONE, NONE, NONE, NONE, NONE, NONE, NONE, NONE, NONE, NONE, NONE, NONE, NONE).refusal, 41);
     answered("ridgeoven_cover_build", ridgeoven_cover_build(NONE, NONE, NONE, NONE, NONE, NONE, RECORDS(0), RECORDS(1), RECORDS(2), RECORDS(3),
                                                             RECORDS(4), RECORDS(5), RECORDS(6)).refusal, 0);

@@ -15,7 +15,7 @@
 static uint8_t archive[1 << 20], out[RIDGEOVEN_LISTING_ROOM], words[RIDGEOVEN_WORDS_ROOM];
 static size_t length;
 static ridgeoven_run run;
-static ridgeoven_link links[COLUMN];
+static ridgeoven_link links[COLUMN], found[COLUMN];
 static uint32_t from_chains[COLUMN], from_seqs[COLUMN], to_chains[COLUMN], to_seqs[COLUMN], columns[7][COLUMN];
 
 /* Every call answers its refusal. */
@@ -38,6 +38,9 @@ static uint64_t together(void) {
     ridgeoven_links_together(from_chains, COLUMN, from_seqs, COLUMN, to_chains, COLUMN, to_seqs, COLUMN, links, COLUMN);
     return 0;
 }
+
+static uint64_t sort(void) { return ridgeoven_links_sort(links, COLUMN).refusal; }
+static uint64_t from(void) { return ridgeoven_links_from(links, COLUMN, from_chains, COLUMN, found, COLUMN).refusal; }
 
 static uint64_t build(void) {
     return ridgeoven_cover_build(from_chains, COLUMN, from_seqs, COLUMN, to_chains, COLUMN, from_seqs, COLUMN, from_chains, COLUMN,
@@ -69,8 +72,9 @@ static asked of_archives[] = {
     {"ridgeoven_run_new_number", new_number, 0, 0}, {"ridgeoven_run_reparented", reparented, 0, 0},
 };
 static asked of_covers[] = {
-    {"ridgeoven_links_apart", apart, 0, 0}, {"ridgeoven_links_together", together, 0, 0}, {"ridgeoven_cover_build", build, 0, 0},
-    {"ridgeoven_cover_store", store, 0, 0}, {"ridgeoven_chain_links", chain_links, 0, 0},
+    {"ridgeoven_links_apart", apart, 0, 0}, {"ridgeoven_links_together", together, 0, 0}, {"ridgeoven_links_sort", sort, 0, 0},
+    {"ridgeoven_links_from", from, 0, 0}, {"ridgeoven_cover_build", build, 0, 0}, {"ridgeoven_cover_store", store, 0, 0},
+    {"ridgeoven_chain_links", chain_links, 0, 0},
 };
 
 /* The stack, and how far down its paint is gone. */

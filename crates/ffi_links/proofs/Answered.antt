@@ -34,3 +34,9 @@ full = (lit< tt, lit< tt)
 
 pub few-room : (k : ℕ) → k ≤ 1024 → Room u32 k
 few-room k h = (omega arith, omega arith)
+
+pub few-small : (k : ℕ) → k ≤ 1024 → k < 2 ^ 64
+few-small k h = omega arith
+
+pub few-fits : (k : ℕ) (column : List ℕ) → k ≤ 1024 → length column ≡ 1024 → k ≤ length column
+few-fits k column h e = omega arith

@@ -2,5 +2,6 @@ pub mod Loans
 pub mod Four
 pub mod Taken
 pub mod Sorting
+pub mod Asking
 pub mod Meaning
 pub mod Answered

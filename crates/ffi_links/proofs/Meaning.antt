@@ -3,7 +3,8 @@
 --     given-all        a verdict over them is the verdict over all links, where that refuses more than 1,024
 --     answer-few       an answer fits the columns that it was written into
 --     put-means        what the records mean that an answer was put over
-use mathlib.Core.Path.{_≡_, refl, sym, _∙_, ap}
+--     Done, Answered, done-few, done-answered      from what a call over columns does to what the call over records does
+use mathlib.Core.Path.{_≡_, refl, sym, _∙_, ap, subst}
 use mathlib.Core.Bool.{Bool, true, false}
 use mathlib.Core.List.{List, [], _∷_, _++_, map, map-append}
 use Prim.Native.Nat.{ℕ, zero, suc, _≤_, _<_, zero-le}
@@ -24,6 +25,7 @@ use Rattle.cover_links.specs.Links.{meant, over, least, carried, fromChain, fro
 use Rattle.cover_links.specs.declared.Link as records
 use Rattle.cover_links.proofs.Meant.{columns-mean}
 use Rattle.cover_links.proofs.Written.{length-places, place-at}
+use Rattle.ffi.specs.declared.answer.Answer.{Answer}
 use Rattle.ffi_cover.specs.Numbers.{recordsOf}
 use Rattle.ffi_links.specs.Records.{recordsAfter, firstLinks, given}
 use Rattle.ffi_links.proofs.Four.{Quad, Long}
@@ -145,3 +147,31 @@ put-means (refused why) y w ys zs r e long room put = ap (map meant) (put .1
 put-means (accepted ls) y w ys zs r e long room put =
     ap (map meant) (put .1 ∙ ap (λ n. over (map (linkIn (take (length ls) (w .a)) (w .b) (w .c) (w .d)) (places n)) ys) (carried-all (length ls) w ys long (answer-few (accepted ls) y w e long) room))
     ∙ rows-over ls y w e ys
+
+-- ── a call over links that were taken apart ──────────────────────────────────────────────────
+
+module _ (f : List Link → Verdict (List Link)) (ys : List records.Link) where
+  abbrev pub verdict : Quad (List ℕ) → Verdict (List Link)
+  verdict x = given (length ys) (f (firstLinks (length ys) (columns x)))
+
+  -- the columns x became y, and the answer is r
+  abbrev pub Done : Quad (List ℕ) → Answer → Quad (List ℕ) → Type 0
+  Done x r y = (r ≡ recordsOf (counted (λ l. l) (verdict x))) × (columns y ≡ linksAfter (λ l. l) (verdict x) (columns x))
+
+  -- the answer r of the call, and the records zs where os stood
+  abbrev pub Answered : List records.Link → Answer → List records.Link → Type 0
+  Answered os r zs = (r ≡ recordsOf (counted (λ l. l) (f (map meant ys)))) × (map meant zs ≡ recordsAfter (f (map meant ys)) (map meant os))
+
+  pub done-few : (x : Quad (List ℕ)) (r : Answer) (y : Quad (List ℕ)) → Done x r y → Long 1024 y → r .length ≤ 1024
+  done-few x r y e long = subst (λ (a : Answer). a .length ≤ 1024) (sym (e .0)) (answer-few (verdict x) x y (e .1) long)
+
+  pub done-answered : ((ls : List Link) → 1024 < length ls → f ls ≡ refused OverRecords) → (n : ℕ) (w x : Quad (List ℕ)) → Long 1024 w → Taken ys w n x → (r : Answer) (y : Quad (List ℕ)) → Done x r y
+      → Long 1024 y → (k : ℕ) (os zs : List records.Link) → (recordsOf (counted (λ l. l) (f (map meant ys))) .length ≤ 1024 → recordsOf (counted (λ l. l) (f (map meant ys))) .length ≤ length os)
+      → Put (r .length) y os k zs → Answered os r zs
+  done-answered many n w x even taken r y e long k os zs fits put =
+      let same : verdict x ≡ f (map meant ys) = given-all f (length ys) (firstLinks (length ys) (columns x)) (map meant ys) (λ h. taken-links ys w x n even taken h)
+      (λ h. many (map meant ys) (omega (arith, h, length-map ys meant))) in
+      let room : recordsOf (counted (λ l. l) (verdict x)) .length ≤ length os = rw same (fits (rw same at (answer-few (verdict x) x y (e .1) long))) in (
+        e .0 ∙ ap (λ v. recordsOf (counted (λ l. l) v)) same,
+        put-means (verdict x) x y os zs k (e .1) long room (subst (λ (a : Answer). Put (a .length) y os k zs) (e .0) put) ∙ ap (λ v. recordsAfter v (map meant os)) same,
+      )

@@ -8,12 +8,18 @@ use Rattle.columns.specs.Limits.{maxRecords}
 use Rattle.columns.specs.Refusal.{Verdict, refused, accepted, unless, firstOf, limits}
 use Rattle.columns.specs.declared.refusal.Refusal.the-variants.{OverRecords}
 use Rattle.cover.specs.Chains.{Link, sortLinks}
-use Rattle.cover.specs.Cover.{LinkColumns, linksOf}
+use Rattle.cover.specs.Cover.{LinkColumns, linksOf, columnsOf}
+use Rattle.cover.specs.Questions.{chainLinks}
+use Rattle.cover.specs.Answers.{forRecords}
 use Rattle.cover_links.specs.Links.{over}
 
 -- links in any order sorted, repeats dropped: more than 1,024 are refused, as where a cover is built of them
 unfoldable pub sortLent : List Link → Verdict (List Link)
 sortLent ls = unless (firstOf (limits (length ls ∷ []) [] [] ∷ [])) (sortLinks ls)
+
+-- the links question over links and not their stored columns: one slice is lent for the answer
+unfoldable pub chainLent : List Link → List ℕ → ℕ → Verdict (List Link)
+chainLent ls chains room = chainLinks (columnsOf ls) chains (forRecords (room ∷ []))
 
 -- lent links after a call: those that it answers from the start on, or as they were
 unfoldable pub recordsAfter : Verdict (List Link) → List Link → List Link

@@ -12,7 +12,7 @@ mod run;
 #[cfg(test)]
 mod sizes;
 
-pub use links::{Cover, LINKS_MAX, Link, Range, build_cover, links_from, sort_links, store_links};
+pub use links::{Cover, LINKS_MAX, Link, Range, build_cover, chain_links, links_from, sort_links, store_links};
 pub use refusal::Refusal;
 pub use run::Run;
 

@@ -1,4 +1,5 @@
-//! The links of a chain cover as records. Each call takes them apart into columns, hands those to the proved functions and puts the answer together.
+//! The links of a chain cover as records: sorted and asked for by proved functions over them. To build and to store, a call takes them apart into columns,
+//! hands those to the proved functions and puts the answer together.
 
 use crate::boundary::Answer;
 use crate::refusal::{Refusal, accepted, length};
@@ -47,6 +48,10 @@ unsafe extern "C" {
         a: *const u32, a_length: usize, b: *const u32, b_length: usize, c: *const u32, c_length: usize, d: *const u32, d_length: usize,
         links: *mut Link, links_room: usize,
     ) -> usize;
+    fn ridgeoven_links_sort(links: *mut Link, links_length: usize) -> Answer;
+    fn ridgeoven_links_from(
+        links: *const Link, links_length: usize, chains: *const u32, chains_length: usize, out: *mut Link, out_room: usize,
+    ) -> Answer;
     fn ridgeoven_cover_build(
         chains: *const u32, chains_length: usize, seqs: *const u32, seqs_length: usize, e: *const u32, e_length: usize, f: *const u32,
         f_length: usize, g: *const u32, g_length: usize, h: *const u32, h_length: usize, ids: *mut u32, ids_room: usize, minima: *mut u32,
@@ -138,8 +143,17 @@ pub fn build_cover(labels: &[(u32, u32)], links: &[Link]) -> Result<Cover, Refus
 
 /// Puts links in order at the start of their slice, repeats dropped, and answers how many they are; what stands behind them stays.
 pub fn sort_links(links: &mut [Link]) -> Result<usize, Refusal> {
-    let (_, sorted) = built(&[], links)?;
-    Ok(sorted.together(links))
+    length(unsafe { ridgeoven_links_sort(links.as_mut_ptr(), links.len()) })
+}
+
+/// The links from any of the chains, in their order. Links that do not rise are refused, as a cover has them rising.
+pub fn chain_links(links: &[Link], chains: &[u32]) -> Result<Vec<Link>, Refusal> {
+    let mut out = vec![Link::default(); LINKS_MAX];
+    let found = length(unsafe {
+        ridgeoven_links_from(links.as_ptr(), links.len(), chains.as_ptr(), chains.len(), out.as_mut_ptr(), out.len())
+    })?;
+    out.truncate(found);
+    Ok(out)
 }
 
 /// The stored columns of links: differences of from chains, from seqs, to chains, to seqs.

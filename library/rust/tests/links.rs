@@ -1,6 +1,6 @@
 //! Links as records: sorted in place, built into a cover, stored and asked for.
 
-use ridgeoven::{Link, Range, Refusal, build_cover, links_from, sort_links, store_links};
+use ridgeoven::{Link, Range, Refusal, build_cover, chain_links, links_from, sort_links, store_links};
 
 fn link(numbers: [u32; 4]) -> Link {
     let [from_chain, from_seq, to_chain, to_seq] = numbers;
@@ -47,6 +47,21 @@ fn a_cover_is_built_stored_and_asked() {
 }
 
 #[test]
+fn links_of_chains_are_found() {
+    let links = [[3, 4, 5, 1], [5, 1, 7, 2], [5, 2, 3, 4], [8, 0, 3, 4]].map(link);
+    assert_eq!(chain_links(&links, &[8, 5, 5, 1]), Ok(links[1..].to_vec()));
+    assert_eq!(chain_links(&links, &[]), Ok(vec![]));
+    assert_eq!(chain_links(&[links[1], links[0]], &[5]), Err(Refusal(22)));
+    assert_eq!(chain_links(&[links[0], links[0]], &[5]), Err(Refusal(22)));
+    assert_eq!(chain_links(&links, &[5; 4097]), Err(Refusal(43)));
+}
+
+#[test]
 fn too_many_links_are_refused() {
-    assert_eq!(sort_links(&mut vec![Link::default(); 1025]), Err(Refusal(42)));
+    let mut links = vec![Link::default(); 1025];
+    links[0].to_seq = 1;
+    let given = links.clone();
+    assert_eq!(sort_links(&mut links), Err(Refusal(42)));
+    assert_eq!(links, given);
+    assert_eq!(chain_links(&links, &[]), Err(Refusal(42)));
 }

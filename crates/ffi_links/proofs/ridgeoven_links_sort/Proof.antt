@@ -1,8 +1,8 @@
 -- `ffi_links::ridgeoven_links_sort` meets its contract: a walk of its MIR, by hand, with three calls and no loop. The four columns are its own arrays: they are lent for each call, all together,
 -- and come back. The links are lent as a `&` for the first call, and given to the last. What the calls make of the links is in `Meaning.antt`.
 -- Assumes nothing.
-use mathlib.Core.Path.{_≡_, refl, sym, _∙_, ap, subst}
-use Prim.Native.Nat.{ℕ, _≤_, _<_, _^_}
+use mathlib.Core.Path.{_≡_, refl}
+use Prim.Native.Nat.{ℕ, _≤_}
 use native.Mathlib.Omega.{arith}
 use mathlib.Core.List.{List, [], _∷_, map}
 use lib.Dec.{lit<}
@@ -19,8 +19,7 @@ use prog.Wp.{Heap, Calls, Loops, WpFn, Tables}
 use ghost.Atoms.{Atoms}
 use contract.Monad.{Fun, fact}
 use contract.Running.{givenOf, tables, tablesOf}
-use types.Kit.{Given, Item, Goal, Soaks, Seq, ‵, raw, some, later, _⊛_, ⋆, _$_, _∵_, !, qed, by as hence, cut, move, keep, drop, use1, split, join, pick, rewrite, fsplit}
-use types.Kit.{fjoin, suffices, frame, await, done}
+use types.Kit.{Given, Item, Goal, Soaks, Seq, ‵, raw, some, later, _⊛_, ⋆, _$_, _∵_, !, qed, by as hence, cut, move, keep, drop, use1, split, join, pick, rewrite, fsplit, fjoin, suffices, frame, await, done}
 use types.Part.{agg, rep, whole, sub, look-in}
 use types.Run.{look, store, init, forget, stop, hop, fld, from, load, lit, addr, no-more, and-then, land, of-opd, assigns, returns, enter, alloc1, alloc0, params1, pass1, pass0, free1, free0}
 use sound.WpLaws.{FmC, fmOf, WpFn-mono}
@@ -40,9 +39,6 @@ use denote.Triple.Entry.{Vals, onEntry}
 use denote.Triple.Spec.{Meets, tripleOf}
 use denote.Triple.Table.{entered, cited}
 use denote.Triple.Walked.{says, Stays, gave-slice, walkOf, ends-at, walked, goes-gave-slice, walk-meets}
-use Rattle.columns.specs.Refusal.{Verdict}
-use Rattle.cover.specs.Chains as chains
-use Rattle.cover.specs.Answers.{counted, linksAfter}
 use Rattle.cover_links.specs.Links.{meant}
 use Rattle.cover_links.specs.declared.Link.{Link}
 use Rattle.cover_links.proofs.Elements.{Lent, lent, ref}
@@ -54,14 +50,13 @@ use Rattle.cover_links.proofs.ridgeoven_links_together.Met as together-thm
 use Rattle.ffi.specs.declared.answer.Answer.{Answer}
 use Rattle.ffi.proofs.answer.Answer as Q
 use Rattle.ffi.proofs.answer.Answer.Laws as Q′
-use Rattle.ffi_cover.specs.Numbers.{recordsOf}
-use Rattle.ffi_links.specs.Records.{sortLent, recordsAfter, firstLinks, given}
+use Rattle.ffi_links.specs.Records.{sortLent}
 use Rattle.ffi_links.proofs.Loans.{Loan, life, by, reshare, unshare, big-lit, zeros-typed, zeros-row}
 use Rattle.ffi_links.proofs.Four.{Quad, quad, Four, Long, Loaned, Tokens, TokensOf, Writers, open-tokens, join-tokens, open-lasts, join-four, lend-four, back-four, four-room}
 use Rattle.ffi_links.proofs.Taken.{Taken, Put, Apart, Together, to-apart, to-together, lend-apart, back-apart, lend-together, back-together}
 use Rattle.ffi_links.proofs.Sorting.{many-sorts, sort-room}
-use Rattle.ffi_links.proofs.Meaning.{columns, taken-links, given-all, answer-few, put-means}
-use Rattle.ffi_links.proofs.Answered.{answer-spelled, answer-is, zeros, even, full, few-room}
+use Rattle.ffi_links.proofs.Meaning.{Done, Answered, done-few, done-answered}
+use Rattle.ffi_links.proofs.Answered.{answer-spelled, answer-is, zeros, even, full, few-small, few-fits, few-room}
 use Rattle.ffi_links.proofs.sort_taken as sort-taken
 use Rattle.ffi_links.proofs.sort_taken.Symbol as sort-taken-def
 use Rattle.ffi_links.proofs.sort_taken.Met as sort-taken-thm
@@ -77,28 +72,6 @@ stayed = (gave-slice (0 ∷ []) tt (plain (λ _. T.the-row)), tt)
 abbrev SortTaken : {M : Type 1} (𝓤 : URA M) (H : Heap 𝓤) (A : Atoms 𝓤) → (Memory → SProp 𝓤) → (Routine → Fun 𝓤) → Contract 𝓤
 SortTaken 𝓤 H A mem run = tripleOf 𝓤 H A sort-taken.signature (sort-taken.spec 𝓤 H A mem run)
 
--- ---- what the calls make of the links
-module _ (ys : List Link) where
-  abbrev verdict : Quad (List ℕ) → Verdict (List chains.Link)
-  verdict x = given (length ys) (sortLent (firstLinks (length ys) (columns x)))
-
-  -- the columns x, sorted
-  abbrev Sorted : Quad (List ℕ) → Answer → Quad (List ℕ) → Type 0
-  Sorted x r y = (r ≡ recordsOf (counted (λ l. l) (verdict x))) × (columns y ≡ linksAfter (λ l. l) (verdict x) (columns x))
-
-  few : (x : Quad (List ℕ)) (r : Answer) (y : Quad (List ℕ)) → Sorted x r y → Long 1024 y → r .length ≤ 1024
-  few x r y e long = subst (λ (a : Answer). a .length ≤ 1024) (sym (e .0)) (answer-few (verdict x) x y (e .1) long)
-
-  told : (n : ℕ) (x : Quad (List ℕ)) → Taken ys zeros n x → (r : Answer) (y : Quad (List ℕ)) → Sorted x r y → Long 1024 y → (k : ℕ) (zs : List Link) → Put (r .length) y ys k zs
-      → (r ≡ recordsOf (counted (λ l. l) (sortLent (map meant ys)))) × (map meant zs ≡ recordsAfter (sortLent (map meant ys)) (map meant ys))
-  told n x taken r y e long k zs put =
-      let same : verdict x ≡ sortLent (map meant ys) = given-all sortLent (length ys) (firstLinks (length ys) (columns x)) (map meant ys) (λ h. taken-links ys zeros x n even taken h)
-      (λ h. many-sorts (map meant ys) (omega (arith, h, length-map ys meant))) in
-      let fits : recordsOf (counted (λ l. l) (verdict x)) .length ≤ length ys = rw same (omega (arith, sort-room (map meant ys), length-map ys meant)) in (
-        e .0 ∙ ap (λ v. recordsOf (counted (λ l. l) v)) same,
-        put-means (verdict x) x y ys zs k (e .1) long fits (subst (λ (a : Answer). Put (a .length) y ys k zs) (e .0) put) ∙ ap (λ v. recordsAfter v (map meant ys)) same,
-      )
-
 module _ {M : Type 1} (𝓤 : URA M) (H : Heap 𝓤) (A : Atoms 𝓤) (W : Given 𝓤 H A) (mem : Memory → SProp 𝓤) (run : Routine → Fun 𝓤) (s : Lent) (ys : List Link) (room : Room T.the-row (length ys)) where
   -- the slice's machine value
   abbrev v : Val
@@ -110,8 +83,7 @@ module _ {M : Type 1} (𝓤 : URA M) (H : Heap 𝓤) (A : Atoms 𝓤) (W : Given
   abbrev Post : Val → SProp 𝓤
   Post = walkOf 𝓤 H A sort.ended stayed (sort.clauses 𝓤 H A mem run) .post (((s .lft, tt), (s .share, tt), tt, (ref s ys, tt), at), tt)
 
-  exits : (r : Answer) (zs : List Link) → Is Q.the-row r (LL.vals Q.the-type Q′.the-laws r)
-      → (r ≡ recordsOf (counted (λ l. l) (sortLent (map meant ys)))) × (map meant zs ≡ recordsAfter (sortLent (map meant ys)) (map meant ys)) → length zs ≡ length ys
+  exits : (r : Answer) (zs : List Link) → Is Q.the-row r (LL.vals Q.the-type Q′.the-laws r) → Answered sortLent ys ys r zs → length zs ≡ length ys
       → ent 𝓤 (⋆ 𝓤 H A (‵ (flft (s .lft) (s .share)) ∷ ‵ (finally T.the-row (s .name) zs) ∷ [])) (Post (Q′.lowered r))
   exits r zs is e l =
       qed W (‵ (flft (s .lft) (s .share)) ∷ ‵ (finally T.the-row (s .name) zs) ∷ []) ∵
@@ -147,30 +119,26 @@ module _ {M : Type 1} (𝓤 : URA M) (H : Heap 𝓤) (A : Atoms 𝓤) (W : Given
           cut (Tokens z (Writers ℓs 1024 z l x [])) (raw (SortTaken 𝓤 H A mem run .pre (to-sort z)) ∷ []) (‵ (Loaned 1024 z l) ∷ Γ) (goes-sort long z) $ k z)
 
       back-sort : K → Soaks G → (z : Quad Loan) (u : Val)
-          → ((r : Answer) (y : Quad (List ℕ)) → Sorted ys x r y → Long 1024 y → Seq K W (‵ (Q.the-row .own r (u ∷ [])) ∷ ‵ (Four l y) ∷ Γ) G)
+          → ((r : Answer) (y : Quad (List ℕ)) → Done sortLent ys x r y → Long 1024 y → Seq K W (‵ (Q.the-row .own r (u ∷ [])) ∷ ‵ (Four l y) ∷ Γ) G)
           → Seq K W (raw (SortTaken 𝓤 H A mem run .post (to-sort z) u) ∷ ‵ (Loaned 1024 z l) ∷ Γ) G
       back-sort t so z u k =
           use1 W (later (some (λ (r : Answer). (TokensOf z (‵ ftrue) ⊛ ‵ (Q.the-row .own r (u ∷ [])))
           ⊛ raw (ensured 𝓤 H A sort-taken.ended (sort-taken.clauses 𝓤 H A mem run) (to-sort z .0 .0) (to-sort z .0 .3) tt r)))) (id⊢ 𝓤 _) $ await t so $ pick t (λ r. split t $ move t (1 ∷ []) $
-          use1 W (some (λ (ws : Unit {0} × (List ℕ × (List ℕ × (List ℕ × (List ℕ × Unit {0}))))). ‵ (lasts sort-taken.ended (to-sort z .0 .0) (to-sort z .0 .3) ws) ⊛ raw
-          (fact 𝓤 (Sorted ys x r (left ws)))))
-          (id⊢ 𝓤 _) $ pick t (λ ws. split t $ move t (1 ∷ []) $ heard t (Sorted ys x r (left ws)) (λ e. fsplit t $ drop t $ open-lasts t z x (left ws) $
+          use1 W (some (λ (ws : Unit {0} × (List ℕ × (List ℕ × (List ℕ × (List ℕ × Unit {0}))))). ‵ (lasts sort-taken.ended (to-sort z .0 .0) (to-sort z .0 .3) ws) ⊛ raw (fact 𝓤 (Done sortLent ys x r (left ws)))))
+          (id⊢ 𝓤 _) $ pick t (λ ws. split t $ move t (1 ∷ []) $ heard t (Done sortLent ys x r (left ws)) (λ e. fsplit t $ drop t $ open-lasts t z x (left ws) $
           move t (4 ∷ []) $ split t $ open-tokens t z $ move t (0 ∷ 1 ∷ 2 ∷ 3 ∷ 6 ∷ 7 ∷ 8 ∷ 9 ∷ 10 ∷ []) $ back-four t so 1024 z l (left ws) (λ long.
           move t (1 ∷ []) $ drop t $ move t (1 ∷ 0 ∷ []) $ k r (left ws) e long))))
         where
           left : Unit {0} × (List ℕ × (List ℕ × (List ℕ × (List ℕ × Unit {0})))) → Quad (List ℕ)
           left ws = quad (ws .1 .0) (ws .1 .1 .0) (ws .1 .1 .1 .0) (ws .1 .1 .1 .1 .0)
 
-  -- the answer fits its places
-  module _ (r : Answer) (x y : Quad (List ℕ)) (e : Sorted ys x r y) (long : Long 1024 y) where
-    small : r .length < 2 ^ 64
-    small = omega (arith, few ys x r y e long)
+  -- the answer fits the columns
+  few : (x : Quad (List ℕ)) (r : Answer) (y : Quad (List ℕ)) → Done sortLent ys x r y → Long 1024 y → r .length ≤ 1024
+  few = done-few sortLent ys
 
-    fitting : r .length ≤ length (y .a)
-    fitting = omega (arith, few ys x r y e long, long)
-
-    roomy : Room u32 (r .length)
-    roomy = few-room (r .length) (few ys x r y e long)
+  told : (n : ℕ) (x : Quad (List ℕ)) → Taken ys zeros n x → (r : Answer) (y : Quad (List ℕ)) → Done sortLent ys x r y → Long 1024 y → (k : ℕ) (zs : List Link) → Put (r .length) y ys k zs
+      → Answered sortLent ys ys r zs
+  told n x taken r y e long k zs put = done-answered sortLent ys many-sorts n zeros x even taken r y e long k ys zs (λ _. omega (arith, sort-room (map meant ys), length-map ys meant)) put
 
   module _ (C : Calls 𝓤 H) (Λ : Loops 𝓤 H) (fm : FmC 𝓤 H (W .laws) C) (known-apart : Triple 𝓤 (C apart-def.name) (Apart 𝓤 H A mem run))
       (known-sort : Triple 𝓤 (C sort-taken-def.name) (SortTaken 𝓤 H A mem run)) (known-together : Triple 𝓤 (C together-def.name) (Together 𝓤 H A mem run)) where
@@ -191,75 +159,49 @@ module _ {M : Type 1} (𝓤 : URA M) (H : Heap 𝓤) (A : Atoms 𝓤) (W : Given
         fjoin ! $
         -- the links go over into the columns: a `&` of them, and the columns, are lent for the call
         assigns ! (addr ! (from ! (fld ! refl (hop ! (look-in ! 67 (sub ! 0 refl (whole !))) (stop !))))) (from ! (stop !)) (init ! 55 refl (tt, tt)) $
-        assigns ! (agg ! (and-then ! (load ! (from ! (stop !)) (look ! 55 refl))
-        (and-then ! (load ! (from ! (fld ! refl (stop !))) (look-in ! 67 (sub ! 1 refl (whole !)))) (no-more !)))) (from ! (stop !)) (init ! 53 refl (tt, (tt, (record { fits = room .0 }, tt)))) $
+        assigns ! (agg ! (and-then ! (load ! (from ! (stop !)) (look ! 55 refl)) (and-then ! (load ! (from ! (fld ! refl (stop !))) (look-in ! 67 (sub ! 1 refl (whole !)))) (no-more !)))) (from ! (stop !)) (init ! 53 refl (tt, (tt, (record { fits = room .0 }, tt)))) $
         assigns ! (addr ! (from ! (stop !))) (from ! (stop !)) (init ! 51 refl (tt, tt)) $
-        assigns ! (agg ! (and-then ! (load ! (from ! (stop !)) (look ! 51 refl)) (and-then ! (big-lit ! (record { fits = lit< tt })) (no-more !)))) (from ! (stop !))
-        (init ! 49 refl (tt, (tt, (record { fits = lit< tt }, tt)))) $
+        assigns ! (agg ! (and-then ! (load ! (from ! (stop !)) (look ! 51 refl)) (and-then ! (big-lit ! (record { fits = lit< tt })) (no-more !)))) (from ! (stop !)) (init ! 49 refl (tt, (tt, (record { fits = lit< tt }, tt)))) $
         assigns ! (addr ! (from ! (stop !))) (from ! (stop !)) (init ! 47 refl (tt, tt)) $
-        assigns ! (agg ! (and-then ! (load ! (from ! (stop !)) (look ! 47 refl)) (and-then ! (big-lit ! (record { fits = lit< tt })) (no-more !)))) (from ! (stop !))
-        (init ! 45 refl (tt, (tt, (record { fits = lit< tt }, tt)))) $
+        assigns ! (agg ! (and-then ! (load ! (from ! (stop !)) (look ! 47 refl)) (and-then ! (big-lit ! (record { fits = lit< tt })) (no-more !)))) (from ! (stop !)) (init ! 45 refl (tt, (tt, (record { fits = lit< tt }, tt)))) $
         assigns ! (addr ! (from ! (stop !))) (from ! (stop !)) (init ! 43 refl (tt, tt)) $
-        assigns ! (agg ! (and-then ! (load ! (from ! (stop !)) (look ! 43 refl)) (and-then ! (big-lit ! (record { fits = lit< tt })) (no-more !)))) (from ! (stop !))
-        (init ! 41 refl (tt, (tt, (record { fits = lit< tt }, tt)))) $
+        assigns ! (agg ! (and-then ! (load ! (from ! (stop !)) (look ! 43 refl)) (and-then ! (big-lit ! (record { fits = lit< tt })) (no-more !)))) (from ! (stop !)) (init ! 41 refl (tt, (tt, (record { fits = lit< tt }, tt)))) $
         assigns ! (addr ! (from ! (stop !))) (from ! (stop !)) (init ! 39 refl (tt, tt)) $
-        assigns ! (agg ! (and-then ! (load ! (from ! (stop !)) (look ! 39 refl)) (and-then ! (big-lit ! (record { fits = lit< tt })) (no-more !)))) (from ! (stop !))
-        (init ! 37 refl (tt, (tt, (record { fits = lit< tt }, tt)))) $
+        assigns ! (agg ! (and-then ! (load ! (from ! (stop !)) (look ! 39 refl)) (and-then ! (big-lit ! (record { fits = lit< tt })) (no-more !)))) (from ! (stop !)) (init ! 37 refl (tt, (tt, (record { fits = lit< tt }, tt)))) $
         move ! (71 ∷ 72 ∷ []) $ reshare ! tt (named 0) (named 0) T.the-row s ys room (λ z₀. move ! (3 ∷ 1 ∷ 0 ∷ []) $
         lend-apart 𝓤 H A mem run (by z₀ (s .block) (s .from)) ys 1024 (quad l₂ l₃ l₄ l₅) zeros ! tt full even (λ z₁.
-        calls-at ! fm (Apart 𝓤 H A mem run) known-apart (to-apart 𝓤 H A mem run (by z₀ (s .block) (s .from)) ys 1024 (quad l₂ l₃ l₄ l₅) zeros z₁)
-        (and-then ! (load ! (from ! (stop !)) (look ! 55 refl))
-        (and-then ! (load ! (from ! (stop !)) (look ! 51 refl))
-        (and-then ! (load ! (from ! (stop !)) (look ! 47 refl))
-        (and-then ! (load ! (from ! (stop !)) (look ! 43 refl)) (and-then ! (load ! (from ! (stop !)) (look ! 39 refl)) (no-more !)))))) (λ v₁.
+        calls-at ! fm (Apart 𝓤 H A mem run) known-apart (to-apart 𝓤 H A mem run (by z₀ (s .block) (s .from)) ys 1024 (quad l₂ l₃ l₄ l₅) zeros z₁) (and-then ! (load ! (from ! (stop !)) (look ! 55 refl)) (and-then ! (load ! (from ! (stop !)) (look ! 51 refl)) (and-then ! (load ! (from ! (stop !)) (look ! 47 refl)) (and-then ! (load ! (from ! (stop !)) (look ! 43 refl)) (and-then ! (load ! (from ! (stop !)) (look ! 39 refl)) (no-more !)))))) (λ v₁.
         back-apart 𝓤 H A mem run (by z₀ (s .block) (s .from)) ys 1024 (quad l₂ l₃ l₄ l₅) zeros ! tt z₁ v₁ (λ n₁ x taken long. peeks ! usize (Is usize) (shows 𝓤 H A usize) n₁ (v₁ ∷ []) (λ is₁.
         land ! (from ! (stop !)) (init ! 60 refl (uint-lawful 𝓤 H A W w64 .typed n₁ _ is₁ .0)) $ drop ! $ move ! (1 ∷ 2 ∷ []) $ unshare ! tt (named 0) T.the-row z₀ s ys room $
         -- the columns are sorted
         assigns ! (of-opd ! (load ! (from ! (fld ! refl (stop !))) (look-in ! 69 (sub ! 1 refl (whole !))))) (from ! (stop !)) (store ! 59 refl (tt, record { fits = room .0 })) $
         assigns ! (addr ! (from ! (stop !))) (from ! (stop !)) (init ! 37 refl (tt, tt)) $
-        assigns ! (agg ! (and-then ! (load ! (from ! (stop !)) (look ! 37 refl)) (and-then ! (big-lit ! (record { fits = lit< tt })) (no-more !)))) (from ! (stop !))
-        (init ! 35 refl (tt, (tt, (record { fits = lit< tt }, tt)))) $
+        assigns ! (agg ! (and-then ! (load ! (from ! (stop !)) (look ! 37 refl)) (and-then ! (big-lit ! (record { fits = lit< tt })) (no-more !)))) (from ! (stop !)) (init ! 35 refl (tt, (tt, (record { fits = lit< tt }, tt)))) $
         assigns ! (addr ! (from ! (stop !))) (from ! (stop !)) (init ! 33 refl (tt, tt)) $
-        assigns ! (agg ! (and-then ! (load ! (from ! (stop !)) (look ! 33 refl)) (and-then ! (big-lit ! (record { fits = lit< tt })) (no-more !)))) (from ! (stop !))
-        (init ! 31 refl (tt, (tt, (record { fits = lit< tt }, tt)))) $
+        assigns ! (agg ! (and-then ! (load ! (from ! (stop !)) (look ! 33 refl)) (and-then ! (big-lit ! (record { fits = lit< tt })) (no-more !)))) (from ! (stop !)) (init ! 31 refl (tt, (tt, (record { fits = lit< tt }, tt)))) $
         assigns ! (addr ! (from ! (stop !))) (from ! (stop !)) (init ! 29 refl (tt, tt)) $
-        assigns ! (agg ! (and-then ! (load ! (from ! (stop !)) (look ! 29 refl)) (and-then ! (big-lit ! (record { fits = lit< tt })) (no-more !)))) (from ! (stop !))
-        (init ! 27 refl (tt, (tt, (record { fits = lit< tt }, tt)))) $
+        assigns ! (agg ! (and-then ! (load ! (from ! (stop !)) (look ! 29 refl)) (and-then ! (big-lit ! (record { fits = lit< tt })) (no-more !)))) (from ! (stop !)) (init ! 27 refl (tt, (tt, (record { fits = lit< tt }, tt)))) $
         assigns ! (addr ! (from ! (stop !))) (from ! (stop !)) (init ! 25 refl (tt, tt)) $
-        assigns ! (agg ! (and-then ! (load ! (from ! (stop !)) (look ! 25 refl)) (and-then ! (big-lit ! (record { fits = lit< tt })) (no-more !)))) (from ! (stop !))
-        (init ! 23 refl (tt, (tt, (record { fits = lit< tt }, tt)))) $
+        assigns ! (agg ! (and-then ! (load ! (from ! (stop !)) (look ! 25 refl)) (and-then ! (big-lit ! (record { fits = lit< tt })) (no-more !)))) (from ! (stop !)) (init ! 23 refl (tt, (tt, (record { fits = lit< tt }, tt)))) $
         move ! (2 ∷ []) $ lend-sort (quad l₂ l₃ l₄ l₅) x long ! tt (λ z₂.
-        calls-at ! fm (SortTaken 𝓤 H A mem run) known-sort (to-sort (quad l₂ l₃ l₄ l₅) x z₂)
-        (and-then ! (load ! (from ! (stop !)) (look ! 60 refl))
-        (and-then ! (load ! (from ! (stop !)) (look ! 36 refl))
-        (and-then ! (load ! (from ! (stop !)) (look ! 32 refl))
-        (and-then ! (load ! (from ! (stop !)) (look ! 28 refl)) (and-then ! (load ! (from ! (stop !)) (look ! 24 refl)) (no-more !)))))) (λ v₂.
+        calls-at ! fm (SortTaken 𝓤 H A mem run) known-sort (to-sort (quad l₂ l₃ l₄ l₅) x z₂) (and-then ! (load ! (from ! (stop !)) (look ! 60 refl)) (and-then ! (load ! (from ! (stop !)) (look ! 36 refl)) (and-then ! (load ! (from ! (stop !)) (look ! 32 refl)) (and-then ! (load ! (from ! (stop !)) (look ! 28 refl)) (and-then ! (load ! (from ! (stop !)) (look ! 24 refl)) (no-more !)))))) (λ v₂.
         back-sort (quad l₂ l₃ l₄ l₅) x ! tt z₂ v₂ (λ answer y sorted long′. peeks ! Q.the-row (Is Q.the-row) (shows 𝓤 H A Q.the-row) answer (v₂ ∷ []) (λ is₂.
         land ! (from ! (stop !)) (init ! 64 refl (LL.lawful Q.the-type Q′.the-laws 𝓤 H A W .typed answer _ is₂ .0)) $
         rewrite ! 64 (λ (u : Val). ‵ (fat fullShare Q′.mir l₆ 0 u)) (answer-spelled answer v₂ is₂) refl $ drop ! $
-        assigns ! (of-opd ! (load ! (from ! (fld ! refl (stop !))) (look-in ! 63 (sub ! 1 refl (whole !))))) (from ! (stop !)) (init ! 61 refl (tt, record { fits = small answer x y sorted long′ })) $
+        assigns ! (of-opd ! (load ! (from ! (fld ! refl (stop !))) (look-in ! 63 (sub ! 1 refl (whole !))))) (from ! (stop !)) (init ! 61 refl (tt, record { fits = few-small (answer .length) (few x answer y sorted long′) })) $
         -- the answer's links go over the first of the records, which are given to the call
         assigns ! (addr ! (from ! (stop !))) (from ! (stop !)) (init ! 21 refl (tt, tt)) $
-        assigns ! (agg ! (and-then ! (load ! (from ! (stop !)) (look ! 21 refl)) (and-then ! (load ! (from ! (stop !)) (look ! 61 refl)) (no-more !)))) (from ! (stop !))
-        (init ! 19 refl (tt, (tt, (record { fits = small answer x y sorted long′ }, tt)))) $
+        assigns ! (agg ! (and-then ! (load ! (from ! (stop !)) (look ! 21 refl)) (and-then ! (load ! (from ! (stop !)) (look ! 61 refl)) (no-more !)))) (from ! (stop !)) (init ! 19 refl (tt, (tt, (record { fits = few-small (answer .length) (few x answer y sorted long′) }, tt)))) $
         assigns ! (addr ! (from ! (stop !))) (from ! (stop !)) (init ! 17 refl (tt, tt)) $
-        assigns ! (agg ! (and-then ! (load ! (from ! (stop !)) (look ! 17 refl)) (and-then ! (big-lit ! (record { fits = lit< tt })) (no-more !)))) (from ! (stop !))
-        (init ! 15 refl (tt, (tt, (record { fits = lit< tt }, tt)))) $
+        assigns ! (agg ! (and-then ! (load ! (from ! (stop !)) (look ! 17 refl)) (and-then ! (big-lit ! (record { fits = lit< tt })) (no-more !)))) (from ! (stop !)) (init ! 15 refl (tt, (tt, (record { fits = lit< tt }, tt)))) $
         assigns ! (addr ! (from ! (stop !))) (from ! (stop !)) (init ! 13 refl (tt, tt)) $
-        assigns ! (agg ! (and-then ! (load ! (from ! (stop !)) (look ! 13 refl)) (and-then ! (big-lit ! (record { fits = lit< tt })) (no-more !)))) (from ! (stop !))
-        (init ! 11 refl (tt, (tt, (record { fits = lit< tt }, tt)))) $
+        assigns ! (agg ! (and-then ! (load ! (from ! (stop !)) (look ! 13 refl)) (and-then ! (big-lit ! (record { fits = lit< tt })) (no-more !)))) (from ! (stop !)) (init ! 11 refl (tt, (tt, (record { fits = lit< tt }, tt)))) $
         assigns ! (addr ! (from ! (stop !))) (from ! (stop !)) (init ! 9 refl (tt, tt)) $
-        assigns ! (agg ! (and-then ! (load ! (from ! (stop !)) (look ! 9 refl)) (and-then ! (big-lit ! (record { fits = lit< tt })) (no-more !)))) (from ! (stop !))
-        (init ! 7 refl (tt, (tt, (record { fits = lit< tt }, tt)))) $
+        assigns ! (agg ! (and-then ! (load ! (from ! (stop !)) (look ! 9 refl)) (and-then ! (big-lit ! (record { fits = lit< tt })) (no-more !)))) (from ! (stop !)) (init ! 7 refl (tt, (tt, (record { fits = lit< tt }, tt)))) $
         assigns ! (addr ! (from ! (fld ! refl (hop ! (look-in ! 69 (sub ! 0 refl (whole !))) (stop !))))) (from ! (stop !)) (init ! 5 refl (tt, tt)) $
-        assigns ! (agg ! (and-then ! (load ! (from ! (stop !)) (look ! 5 refl))
-        (and-then ! (load ! (from ! (fld ! refl (stop !))) (look-in ! 69 (sub ! 1 refl (whole !)))) (no-more !)))) (from ! (stop !)) (init ! 3 refl (tt, (tt, (record { fits = room .0 }, tt)))) $
-        lend-together 𝓤 H A mem run s ys 1024 (quad l₂ l₃ l₄ l₅) y ! tt (answer .length) (roomy answer x y sorted long′) full long′ (fitting answer x y sorted long′) (λ z₃.
-        calls-at ! fm (Together 𝓤 H A mem run) known-together (to-together 𝓤 H A mem run s ys 1024 (quad l₂ l₃ l₄ l₅) y (answer .length) z₃)
-        (and-then ! (load ! (from ! (stop !)) (look ! 18 refl))
-        (and-then ! (load ! (from ! (stop !)) (look ! 14 refl))
-        (and-then ! (load ! (from ! (stop !)) (look ! 10 refl))
-        (and-then ! (load ! (from ! (stop !)) (look ! 6 refl)) (and-then ! (load ! (from ! (stop !)) (look ! 2 refl)) (no-more !)))))) (λ v₃.
+        assigns ! (agg ! (and-then ! (load ! (from ! (stop !)) (look ! 5 refl)) (and-then ! (load ! (from ! (fld ! refl (stop !))) (look-in ! 69 (sub ! 1 refl (whole !)))) (no-more !)))) (from ! (stop !)) (init ! 3 refl (tt, (tt, (record { fits = room .0 }, tt)))) $
+        lend-together 𝓤 H A mem run s ys 1024 (quad l₂ l₃ l₄ l₅) y ! tt (answer .length) (few-room (answer .length) (few x answer y sorted long′)) full long′ (few-fits (answer .length) (y .a) (few x answer y sorted long′) (long′ .0)) (λ z₃.
+        calls-at ! fm (Together 𝓤 H A mem run) known-together (to-together 𝓤 H A mem run s ys 1024 (quad l₂ l₃ l₄ l₅) y (answer .length) z₃) (and-then ! (load ! (from ! (stop !)) (look ! 18 refl)) (and-then ! (load ! (from ! (stop !)) (look ! 14 refl)) (and-then ! (load ! (from ! (stop !)) (look ! 10 refl)) (and-then ! (load ! (from ! (stop !)) (look ! 6 refl)) (and-then ! (load ! (from ! (stop !)) (look ! 2 refl)) (no-more !)))))) (λ v₃.
         back-together 𝓤 H A mem run s ys 1024 (quad l₂ l₃ l₄ l₅) y ! tt (answer .length) z₃ v₃ (λ n₃ zs put same. peeks ! usize (Is usize) (shows 𝓤 H A usize) n₃ (v₃ ∷ []) (λ is₃.
         land ! (from ! (stop !)) (store ! 60 refl (uint-lawful 𝓤 H A W w64 .typed n₃ _ is₃ .0)) $ drop ! $
         assigns ! (of-opd ! (load ! (from ! (stop !)) (look ! 63 refl))) (from ! (stop !)) (init ! 71 refl (LL.lawful Q.the-type Q′.the-laws 𝓤 H A W .typed answer _ (answer-is answer v₂ is₂) .0)) $
@@ -269,7 +211,7 @@ module _ {M : Type 1} (𝓤 : URA M) (H : Heap 𝓤) (A : Atoms 𝓤) (W : Given
         forget ! 18 refl $ forget ! 16 refl $ forget ! 14 refl $ forget ! 12 refl $ forget ! 10 refl $ forget ! 8 refl $ forget ! 6 refl $
         move ! (74 ∷ 75 ∷ 72 ∷ 73 ∷ 0 ∷ 71 ∷ 1 ∷ 70 ∷ 2 ∷ 69 ∷ 3 ∷ 68 ∷ 66 ∷ 67 ∷ 64 ∷ 65 ∷ 62 ∷ 63 ∷ 60 ∷ 61 ∷ 58 ∷ 59 ∷ 56 ∷ 57 ∷ 54 ∷ 55 ∷ 52 ∷ 53 ∷ 50 ∷ 51 ∷ 48 ∷ 49 ∷ 46 ∷ 47 ∷ 44 ∷ 45 ∷ 42 ∷ 43 ∷ 40 ∷ 41 ∷ 38 ∷ 39 ∷ 36 ∷ 37 ∷ 34 ∷ 35 ∷ 32 ∷ 33 ∷ 30 ∷ 31 ∷ 28 ∷ 29 ∷ 26 ∷ 27 ∷ 24 ∷ 25 ∷ 22 ∷ 23 ∷ 20 ∷ 21 ∷ 18 ∷ 19 ∷ 16 ∷ 17 ∷ 14 ∷ 15 ∷ 12 ∷ 13 ∷ 10 ∷ 11 ∷ 8 ∷ 9 ∷ 6 ∷ 7 ∷ []) $
         free1 ! $ free1 ! $ free1 ! $ free1 ! $ free1 ! $ free1 ! $ free1 ! $ free1 ! $ free1 ! $ free1 ! $ free1 ! $ free1 ! $ free1 ! $ free1 ! $ free1 ! $ free1 ! $ free1 ! $ free1 ! $ free1 ! $ free1 ! $ free1 ! $ free1 ! $ free1 ! $ free1 ! $ free1 ! $ free1 ! $ free1 ! $ free1 ! $ free1 ! $ free1 ! $ free1 ! $ free1 ! $ free1 ! $ free1 ! $ free1 ! $ free1 ! $ free1 ! $ free0 ! $
-        keep ! (1 ∷ 0 ∷ []) $ hence ! (exits answer zs (answer-is answer v₂ is₂) (told ys n₁ x taken answer y sorted long′ n₃ zs put) same)))))))))))))))))))))))))))))))))))))))))))))))))))
+        keep ! (1 ∷ 0 ∷ []) $ hence ! (exits answer zs (answer-is answer v₂ is₂) (told n₁ x taken answer y sorted long′ n₃ zs put) same)))))))))))))))))))))))))))))))))))))))))))))))))))
 
 ridgeoven-links-sort-meets : {M : Type 1} (𝓤 : URA M) (H : Heap 𝓤) (A : Atoms 𝓤) → Given 𝓤 H A → (mem : Memory → SProp 𝓤) (run : Routine → Fun 𝓤) (𝓣 : Tables 𝓤 H)
     → Triple 𝓤 (𝓣 .C apart-def.name) (Apart 𝓤 H A mem run) → Triple 𝓤 (𝓣 .C sort-taken-def.name) (SortTaken 𝓤 H A mem run) → Triple 𝓤 (𝓣 .C together-def.name) (Together 𝓤 H A mem run)

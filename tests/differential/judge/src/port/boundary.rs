@@ -1,4 +1,4 @@
-//! The functions of the proved library's crates `ffi_columns`, `ffi_build`, `ffi_cover`, `cover_links`, `ffi_archive`, `ffi_clean` and `ffi_run`. A slice is two
+//! The functions of the proved library's crates `ffi_columns`, `ffi_build`, `ffi_cover`, `cover_links`, `ffi_links`, `ffi_archive`, `ffi_clean` and `ffi_run`. A slice is two
 //! parameters, its pointer and its length. Every function answers a record whose first part is a refusal's number, or 0; outputs are
 //! lent. The README beside the workspace says what each is given.
 
@@ -191,6 +191,12 @@ unsafe extern "C" {
         a: *const u32, a_len: usize, b: *const u32, b_len: usize, c: *const u32, c_len: usize, d: *const u32, d_len: usize,
         links: *mut Link, links_len: usize,
     ) -> usize;
+
+    pub fn ridgeoven_links_sort(links: *mut Link, links_len: usize) -> Answer;
+
+    pub fn ridgeoven_links_from(
+        links: *const Link, links_len: usize, chains: *const u32, chains_len: usize, out: *mut Link, out_len: usize,
+    ) -> Answer;
 
     pub fn ridgeoven_cover_store(
         from_chains: *const u32, from_chains_len: usize, from_seqs: *const u32, from_seqs_len: usize,

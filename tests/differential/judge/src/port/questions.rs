@@ -2,7 +2,7 @@
 
 use super::boundary::{
     self, ridgeoven_ancestor, ridgeoven_build, ridgeoven_chain_links, ridgeoven_children, ridgeoven_cover_build, ridgeoven_cover_read,
-    ridgeoven_cover_store, ridgeoven_label, ridgeoven_links_apart, ridgeoven_links_together, ridgeoven_next, ridgeoven_parents, ridgeoven_read_granule, ridgeoven_read_set, ridgeoven_roots,
+    ridgeoven_cover_store, ridgeoven_label, ridgeoven_links_apart, ridgeoven_links_from, ridgeoven_links_sort, ridgeoven_links_together, ridgeoven_next, ridgeoven_parents, ridgeoven_read_granule, ridgeoven_read_set, ridgeoven_roots,
     ridgeoven_walk, ridgeoven_window,
 };
 use super::lent::{Lent, NUMBERS, OFFSETS, Pattern, RECORDS};
@@ -279,6 +279,40 @@ fn through_records([a, b, c, d]: [&[u32]; 4]) -> Result<(), String> {
     if taken == n && same { Ok(()) } else { Err("records are taken apart into other columns".into()) }
 }
 
+/// The records of columns that are equally long.
+fn as_records([a, b, c, d]: [&[u32]; 4]) -> Option<Vec<boundary::Link>> {
+    let link = |at: usize| boundary::Link { from_chain: a[at], from_seq: b[at], to_chain: c[at], to_seq: d[at] };
+    [b, c, d].iter().all(|column| column.len() == a.len()).then(|| (0..a.len()).map(link).collect())
+}
+
+/// Records sorted in place are the links that the columns' call answers, before what stood behind them; too many stay as they are.
+fn sorted_records(given: [&[u32]; 4], links: Option<[&[u32]; 4]>) -> Result<(), String> {
+    let Some(records) = as_records(given) else { return Ok(()) };
+    let mut sorted = records.clone();
+    let answer = unsafe { ridgeoven_links_sort(sorted.as_mut_ptr(), sorted.len()) };
+    if RECORDS < records.len() {
+        return if answer.refusal == 42 && sorted == records { Ok(()) } else { Err("too many records are sorted".into()) };
+    }
+    let rest = records.get(answer.length..) == sorted.get(answer.length..);
+    let wanted = links.and_then(as_records).is_none_or(|wanted| wanted[..] == sorted[..answer.length]);
+    if answer.refusal == 0 && rest && wanted { Ok(()) } else { Err("records are sorted otherwise than columns".into()) }
+}
+
+/// Records asked for the links of chains answer what stored columns do, where these are the columns of records.
+fn asked_records([a, b, c, d]: [&[u32]; 4], chains: &[u32], answer: &boundary::Answer, out: &[Lent<u32>]) -> Result<(), String> {
+    let mut sum = 0u32;
+    let from: Option<Vec<u32>> = a.iter().map(|less| { sum = sum.checked_add(*less)?; Some(sum) }).collect();
+    let Some(records) = from.and_then(|from| as_records([&from, b, c, d])) else { return Ok(()) };
+    let mut found = Lent::<boundary::Link>::new(RECORDS);
+    let asked = unsafe {
+        ridgeoven_links_from(records.as_ptr(), records.len(), chains.as_ptr(), chains.len(), found.at(), found.len())
+    };
+    let numbers = |of: fn(&boundary::Link) -> u32| found.taken(asked.length).map(|links| links.iter().map(of).collect::<Vec<_>>());
+    let columns = [numbers(|l| l.from_chain)?, numbers(|l| l.from_seq)?, numbers(|l| l.to_chain)?, numbers(|l| l.to_seq)?];
+    let same = out.iter().zip(&columns).all(|(column, found)| column.taken(asked.length).is_ok_and(|numbers| numbers == found));
+    if (asked.refusal, asked.length) == (answer.refusal, answer.length) && same { Ok(()) } else { Err("records are asked otherwise than columns".into()) }
+}
+
 fn cover(p: &[Part]) -> Asked {
     let [chains, seqs, a, b, c, d] = columns(p);
     through_records([&a, &b, &c, &d])?;
@@ -293,8 +327,11 @@ fn cover(p: &[Part]) -> Asked {
         )
     };
     if built.refusal != 0 {
+        sorted_records([&a, &b, &c, &d], None)?;
         return refused(built.refusal, &[all_kept(&ranges), all_kept(&links)].concat());
     }
+    let answers: Vec<&[u32]> = links.iter().map(|column| column.taken(built.links)).collect::<Result<_, _>>()?;
+    sorted_records([&a, &b, &c, &d], answers.try_into().ok())?;
     Ok(Ok([taken(&ranges, built.ranges)?, taken(&links, built.links)?].concat()))
 }
 
@@ -346,6 +383,7 @@ fn chain_links(p: &[Part]) -> Asked {
             w.at(), w.len(), x.at(), x.len(), y.at(), y.len(), z.at(), z.len(),
         )
     };
+    asked_records([&a, &b, &c, &d], &chains, &answer, &out)?;
     records(&answer, &out)
 }
 
