@@ -62,7 +62,7 @@ head-back =
 
 -- ── 2 edges ──────────────────────────────────────────────────────────────────────────────────
 
-set-back : (K : ℕ) → (rows : ℕ) → Back (edgeSet K rows) (Said setBytes (SetFits K rows))
+set-back : (K rows : ℕ) → Back (edgeSet K rows) (Said setBytes (SetFits K rows))
 unfolding edgeSet setBytes
 set-back K rows =
     then-back (number 4) _ (number-back 4) (λ n. then-back (numbers 8 (K * rows + 1)) _ (numbers-back 8 (K * rows + 1)) (λ offsets.
@@ -82,7 +82,7 @@ pub record SetsFit (K : ℕ) (rows : ℕ) (s : Sets) : Type 0 where
   pub reverse : SetFits K rows (s .reverse)
   pub inbound : SetFits K rows (s .inbound)
 
-pub sets-back : (K : ℕ) → (rows : ℕ) → Back (Parse.sets K rows) (Said bytesOfSets (SetsFit K rows))
+pub sets-back : (K rows : ℕ) → Back (Parse.sets K rows) (Said bytesOfSets (SetsFit K rows))
 unfolding Parse.sets
 sets-back K rows =
     then-back (edgeSet K rows) _ (set-back K rows) (λ f. then-back (edgeSet K rows) _ (set-back K rows) (λ r. then-back (edgeSet K rows) _ (set-back K rows) (λ i.

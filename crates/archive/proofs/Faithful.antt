@@ -71,7 +71,7 @@ file-inside K =
 -- ── the laws ─────────────────────────────────────────────────────────────────────────────────
 
 -- files from a place on are all the bytes from there on
-files-back : (K : ℕ) → (n : ℕ) (l : List ℕ) → AllBytes l → (p : ℕ) (fs : List File) (q : ℕ) → p ≤ length l → files K n l p ≡ got fs q
+files-back : (K n : ℕ) (l : List ℕ) → AllBytes l → (p : ℕ) (fs : List File) (q : ℕ) → p ≤ length l → files K n l p ≡ got fs q
     → Said encode (Each (FileFits K)) fs (drop p l) × (q ≡ length l)
 unfolding files encode _>>=_
 files-back K n l h = go n
@@ -103,9 +103,9 @@ module _ (K : ℕ) (l : List ℕ) (fs : List File) (q : ℕ) (h : AllBytes l) (e
   parsed = files-back K (length l) l h 0 fs q (omega arith) e
 
 -- the bytes of what was parsed are the bytes that came in
-pub encode-parse : (K : ℕ) → (l : List ℕ) (fs : List File) (q : ℕ) → Each (λ b. b < 256) l → parse K l ≡ got fs q → (encode fs ≡ l) × (q ≡ length l)
+pub encode-parse : (K : ℕ) (l : List ℕ) (fs : List File) (q : ℕ) → Each (λ b. b < 256) l → parse K l ≡ got fs q → (encode fs ≡ l) × (q ≡ length l)
 encode-parse K l fs q h e = let r = parsed K l fs q h e in (r .0 .bytes, r .1)
 
 -- what was parsed fits its fields
-pub parse-fits : (K : ℕ) → (l : List ℕ) (fs : List File) (q : ℕ) → Each (λ b. b < 256) l → parse K l ≡ got fs q → Each (FileFits K) fs
+pub parse-fits : (K : ℕ) (l : List ℕ) (fs : List File) (q : ℕ) → Each (λ b. b < 256) l → parse K l ≡ got fs q → Each (FileFits K) fs
 parse-fits K l fs q h e = parsed K l fs q h e .0 .fits

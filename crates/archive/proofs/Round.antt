@@ -55,20 +55,20 @@ unfolding depthBytes bytesOf
 depth-length none = refl
 depth-length (some d) = refl
 
-head-short : (K : ℕ) → (f : File) → FileFits K f → Short (headBytes f)
+head-short : (K : ℕ) (f : File) → FileFits K f → Short (headBytes f)
 unfolding headBytes
 head-short K f k = simp (length-append, length-bytesOf, depth-length) (omega (arith, k .subject))
 
 -- ── 2 edges ──────────────────────────────────────────────────────────────────────────────────
 
-set-reads : (K : ℕ) → {post : List ℕ} (rows : ℕ) (s : EdgeSet) → SetFits K rows s → Reads post (edgeSet K rows) (setBytes s) s
+set-reads : (K : ℕ) {post : List ℕ} (rows : ℕ) (s : EdgeSet) → SetFits K rows s → Reads post (edgeSet K rows) (setBytes s) s
 unfolding edgeSet setBytes
 set-reads K rows s f =
     then-reads (number 4) _ (number-reads 4 (s .count) (f .count)) (then-reads (numbers 8 (K * rows + 1)) _ (numbers-read 8 (K * rows + 1) (s .offsets) (f .slots) (f .offsets))
     (end-reads (numbers 8 (s .count)) _ (numbers-read 8 (s .count) (map unsignedOf (s .deltas)) (length-map (s .deltas) unsignedOf ∙ sym (f .counted)) (unsigned-all (s .deltas) (f .deltas)))
     (λ l p k. rw (signed-all (s .deltas) (f .deltas)))))
 
-pub sets-read : (K : ℕ) → (n : ℕ) (a b c : EdgeSet) → SetFits K n a → SetFits K n b → SetFits K n c → Reads [] (Parse.sets K n) (setsBytes a b c) (record { forward = a; reverse = b; inbound = c })
+pub sets-read : (K n : ℕ) (a b c : EdgeSet) → SetFits K n a → SetFits K n b → SetFits K n c → Reads [] (Parse.sets K n) (setsBytes a b c) (record { forward = a; reverse = b; inbound = c })
 unfolding Parse.sets
 sets-read K n a b c f r i =
     then-reads (edgeSet K n) _ (set-reads K n a f) (then-reads (edgeSet K n) _ (set-reads K n b r) (end-reads (edgeSet K n) _ (set-reads K n c i) (λ l p h. refl)))
@@ -174,7 +174,7 @@ cover-record-reads rows (some c) k g = found-reads 6 (Parse.cover rows) (k .shor
 -- ── files ────────────────────────────────────────────────────────────────────────────────────
 
 -- a file is read where no cover of another stands behind it
-file-reads : (K : ℕ) → {post : List ℕ} (f : File) → FileFits K f → eqb (getD post 5 0) 6 ≡ false → Reads post (Parse.file K) (fileBytes f) f
+file-reads : (K : ℕ) {post : List ℕ} (f : File) → FileFits K f → eqb (getD post 5 0) 6 ≡ false → Reads post (Parse.file K) (fileBytes f) f
 unfolding Parse.file fileBytes headBytes edgesBytes
 file-reads K f k g =
     let n = length (f .rows) in
@@ -195,7 +195,7 @@ unfolding encode fileBytes
 no-cover-first [] = refl
 no-cover-first (f ∷ fs) = rw (append-assoc, record-kind 1)
 
-files-read : (K : ℕ) → (fs : List File) (n : ℕ) (pre : List ℕ) → length fs ≤ n → Each (FileFits K) fs → files K n (pre ++ encode fs) (length pre) ≡ got fs (length pre + length (encode fs))
+files-read : (K : ℕ) (fs : List File) (n : ℕ) (pre : List ℕ) → length fs ≤ n → Each (FileFits K) fs → files K n (pre ++ encode fs) (length pre) ≡ got fs (length pre + length (encode fs))
 unfolding encode files _>>=_
 files-read K [] zero pre h k = stops-at-end [] broken pre
 files-read K [] (suc n) pre h k = stops-at-end [] _ pre
@@ -212,6 +212,6 @@ files-no-more-than-bytes [] = omega arith
 files-no-more-than-bytes (f ∷ fs) = let h = files-no-more-than-bytes fs in let q = file-long f in simp length-append (omega arith)
 
 -- parsing the bytes of files that fit their fields gives those files
-pub parse-encode : (K : ℕ) → (fs : List File) → Each (FileFits K) fs → parse K (encode fs) ≡ got fs (length (encode fs))
+pub parse-encode : (K : ℕ) (fs : List File) → Each (FileFits K) fs → parse K (encode fs) ≡ got fs (length (encode fs))
 unfolding parse
 parse-encode K fs k = files-read K fs (length (encode fs)) [] (files-no-more-than-bytes fs) k ∙ rw (zero-add (length (encode fs)))

@@ -30,7 +30,7 @@ again K S = record { sources = map (sourceOf K) (outputs K S) }
 abbrev pub sourceAt : (K : ℕ) → Summary → ℕ → Source
 sourceAt K S g = sourceOf K (outputOf K S g)
 
-pub sources-again : (K : ℕ) (served : Served K) → (S : Summary) → again K S .sources ≡ map (sourceAt K S) (groupNumbers S)
+pub sources-again : (K : ℕ) (served : Served K) (S : Summary) → again K S .sources ≡ map (sourceAt K S) (groupNumbers S)
 unfolding outputs
 sources-again K served S = map-map (sourceOf K) (outputOf K S) (groupNumbers S)
 

@@ -67,7 +67,7 @@ module _ (K : ℕ) (served : Served K) (set first end : ℕ) where
       )
 
 -- the targets of a slot of such lists
-pub allowed-at : (K : ℕ) (served : Served K) → (set first end slot : ℕ) (lists : List (List ℕ)) (j : ℕ)
+pub allowed-at : (K : ℕ) (served : Served K) (set first end slot : ℕ) (lists : List (List ℕ)) (j : ℕ)
     → AllowedFrom K set first end slot lists → OnSide set end (eventOf K first (slot + j)) (getD lists j [])
 allowed-at K served set first end slot [] j h = tt
 allowed-at K served set first end slot (ts ∷ lists) zero h = subst (λ m. OnSide set end (eventOf K first m) ts) {x = slot} {y = slot + 0} (omega arith) (h .1)

@@ -81,7 +81,7 @@ module _ (K : ℕ) (served : Served K) (t : Taken) (gs : List Group) (s : Source
   bodies-in : Each (λ e. GoodBody (map groupSummary gs) (e .body)) (eventsIn K t s)
   bodies-in = bodies-from 0 (s .rows) (omega arith) (f .tags)
 
-pub good-bodies : (K : ℕ) (served : Served K) → (t : Taken) (gs : List Group) (ss : List Source) → Each (λ s. Covered gs s × (Sound K s × Fitting s)) ss
+pub good-bodies : (K : ℕ) (served : Served K) (t : Taken) (gs : List Group) (ss : List Source) → Each (λ s. Covered gs s × (Sound K s × Fitting s)) ss
     → Each (λ e. GoodBody (map groupSummary gs) (e .body)) (flat (eventsIn K t) ss)
 good-bodies K served t gs ss h =
     each-flat (λ e. GoodBody (map groupSummary gs) (e .body)) (eventsIn K t) ss

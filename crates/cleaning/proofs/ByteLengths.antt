@@ -32,7 +32,7 @@ short-roots rs l = omega (arith, length-counted rootBytes 16 wide-root rs)
 abbrev pub FewEdges : (K : ℕ) → EdgeSet → Type 0
 FewEdges K s = (length (s .offsets) ≤ K * maxRecords + 1) × (length (s .deltas) ≤ maxNumbers)
 
-pub short-edges : (K : ℕ) (served : Served K) → (f : File) → FewEdges K (f .forward) → FewEdges K (f .reverse) → FewEdges K (f .inbound) → Short (edgesBytes f)
+pub short-edges : (K : ℕ) (served : Served K) (f : File) → FewEdges K (f .forward) → FewEdges K (f .reverse) → FewEdges K (f .inbound) → Short (edgesBytes f)
 unfolding edgesBytes
 short-edges K served f a b c =
     simp length-append (omega (arith, length-set (f .forward), length-set (f .reverse), length-set (f .inbound)))

@@ -33,7 +33,7 @@ use Rattle.cleaning.proofs.Holding.{hold, holdOutcome, run-step}
 -- ── a write gives the cleaned archive ────────────────────────────────────────────────────────
 
 -- what an accepted write of a summary wrote is its bytes
-bytes-of : (K : ℕ) (served : Served K) → (room : ℕ) (S : Summary) → Each (λ w. w ≡ allOf (bytesOf K S)) (bytesWritten (did (writes room) (writeInto room (written K S))))
+bytes-of : (K : ℕ) (served : Served K) (room : ℕ) (S : Summary) → Each (λ w. w ≡ allOf (bytesOf K S)) (bytesWritten (did (writes room) (writeInto room (written K S))))
 unfolding written unless
 bytes-of K served room S = go (writeRules K S)
   where
@@ -45,7 +45,7 @@ bytes-of K served room S = go (writeRules K S)
     go none = fits (leb (length (bytesOf K S)) room)
     go (some r) = tt
 
-resolved-cleaned : (K : ℕ) (served : Served K) → (t : Taken) (ts : List (List (List ℕ))) (ss : List Source) → Inv K (resolved t ts) ss
+resolved-cleaned : (K : ℕ) (served : Served K) (t : Taken) (ts : List (List (List ℕ))) (ss : List Source) → Inv K (resolved t ts) ss
     → bytesOf K (tabled (archiveOf K t) ts) ≡ cleaned K (archiveFrom K ss)
 unfolding Inv cleaned
 resolved-cleaned K served t ts ss i = rw (i .2, i .0) (ap (bytesOf K) (tabled-summary K served (archiveFrom K ss) (valid-sources K served ss (i .1))))
@@ -62,14 +62,14 @@ each-call : (cs : List Call) → Each AnyCall cs
 each-call [] = tt
 each-call (c ∷ cs) = (tt, each-call cs)
 
-writes-cleaned : (K : ℕ) (served : Served K) → (t : Taken) (ts : List (List (List ℕ))) (ss : List Source) (room : ℕ) → Inv K (resolved t ts) ss
+writes-cleaned : (K : ℕ) (served : Served K) (t : Taken) (ts : List (List (List ℕ))) (ss : List Source) (room : ℕ) → Inv K (resolved t ts) ss
     → Each (Cleaned K ss) (bytesWritten (did (writes room) (writeInto room (written K (tabled (archiveOf K t) ts)))))
 writes-cleaned K served t ts ss room i =
     let S : Summary = tabled (archiveOf K t) ts in
     each-imp (λ w. w ≡ allOf (bytesOf K S)) (Cleaned K ss) (bytesWritten (did (writes room) (writeInto room (written K S))))
     (λ w d. d ∙ ap allOf (resolved-cleaned K served t ts ss i)) (bytes-of K served room S)
 
-pub write-cleaned : (K : ℕ) (served : Served K) → (cs : List Call) → Cleans K (history K fresh cs)
+pub write-cleaned : (K : ℕ) (served : Served K) (cs : List Call) → Cleans K (history K fresh cs)
 unfolding Wrote archiveIn Inv
 write-cleaned K served cs w m =
     each-mem (λ w. Cleaned K (flat (took K) (history K fresh cs)) w) (flat bytesWritten (history K fresh cs)) w
@@ -78,7 +78,7 @@ write-cleaned K served cs w m =
 -- ── the claim ────────────────────────────────────────────────────────────────────────────────
 
 -- archives that are alike are cleaned to the same bytes
-pub cleaned-alike : (K : ℕ) (served : Served K) → (A B : Archive) → Alike K A B → cleaned K A ≡ cleaned K B
+pub cleaned-alike : (K : ℕ) (served : Served K) (A B : Archive) → Alike K A B → cleaned K A ≡ cleaned K B
 unfolding cleaned
 cleaned-alike K served A B l = ap (bytesOf K) (summary-alike K served A B l)
 
@@ -117,7 +117,7 @@ module _ (K : ℕ) (served : Served K) (Run Reply : Type 0) (view : Run → RunS
       subst (λ x. Claimed K x g) (sym (fresh-history er t)) (subst (λ x. Claimed K (history K fresh (map callOf h)) x) (sym (fresh-history es u)) (claim K served (map callOf h) (map callOf g)))
 
 -- not empty: where the runs are what they hold, every list of calls has its trace from a fresh run
-own-from : (K : ℕ) (served : Served K) → (s : State) (cs : List Call) (ss : List Source) → Inv K s ss → Trace K RunState Answer (λ x. x) (λ a. a) (hold K s) (history K s cs)
+own-from : (K : ℕ) (served : Served K) (s : State) (cs : List Call) (ss : List Source) → Inv K s ss → Trace K RunState Answer (λ x. x) (λ a. a) (hold K s) (history K s cs)
 unfolding history
 own-from K served s [] ss i = ended
 own-from K served s (c ∷ cs) ss i =
@@ -125,6 +125,6 @@ own-from K served s (c ∷ cs) ss i =
     called (hold K ((step K s c) .state)) c ((step K s c) .answer) (record { state = ap (λ o. o .state) (sym e); answer = ap (λ o. o .answer) (sym e) })
     (own-from K served ((step K s c) .state) cs (ss ++ took K (did c ((step K s c) .answer))) (step-after K served s c ss i))
 
-pub own-trace : (K : ℕ) (served : Served K) → (cs : List Call) → Trace K RunState Answer (λ x. x) (λ a. a) freshRun (history K fresh cs)
+pub own-trace : (K : ℕ) (served : Served K) (cs : List Call) → Trace K RunState Answer (λ x. x) (λ a. a) freshRun (history K fresh cs)
 unfolding Inv hold heldOf
 own-trace K served cs = own-from K served fresh cs [] (refl, tt)

@@ -27,12 +27,12 @@ use Rattle.cleaning.proofs.Taken.{Sound, Followed}
 abbrev pub eventsIn : (K : ℕ) → Taken → Source → List Event
 eventsIn K t s = eventsFrom K t s 0 (s .rows)
 
-length-eventsFrom : (K : ℕ) → (t : Taken) (s : Source) (i : ℕ) (rows : List Row) → length (eventsFrom K t s i rows) ≡ length rows
+length-eventsFrom : (K : ℕ) (t : Taken) (s : Source) (i : ℕ) (rows : List Row) → length (eventsFrom K t s i rows) ≡ length rows
 unfolding eventsFrom
 length-eventsFrom K t s i [] = refl
 length-eventsFrom K t s i (row ∷ rows) = rw (length-eventsFrom K t s (suc i) rows)
 
-pub length-eventsIn : (K : ℕ) → (t : Taken) (s : Source) → length (eventsIn K t s) ≡ length (s .rows)
+pub length-eventsIn : (K : ℕ) (t : Taken) (s : Source) → length (eventsIn K t s) ≡ length (s .rows)
 length-eventsIn K t s = length-eventsFrom K t s 0 (s .rows)
 
 -- ── one source after the other ───────────────────────────────────────────────────────────────
@@ -59,13 +59,13 @@ module _ (K : ℕ) (served : Served K) (t : Taken) (P : ℕ → Event → Type 0
 abbrev pub ParentsBelow : ℕ → Event → Type 0
 ParentsBelow n e = (k : ℕ) → AllBelow n (parentsOf k e)
 
-getD-below : (K : ℕ) → (first slot : ℕ) (lists : List (List ℕ)) (i : ℕ) → EachFrom (SlotBelow K first) slot lists → AllBelow (eventOf K first (slot + i)) (getD lists i [])
+getD-below : (K first slot : ℕ) (lists : List (List ℕ)) (i : ℕ) → EachFrom (SlotBelow K first) slot lists → AllBelow (eventOf K first (slot + i)) (getD lists i [])
 getD-below K first slot lists i h = elim (tested (ltb i (length lists))) [
   | inl e ↦ from-getD (SlotBelow K first) slot lists i [] h (ltb-true i (length lists) e)
   | inr e ↦ rw (List·getD-eq-default lists [] {n = i} (ltb-false i (length lists) e)) tt
 ]
 
-pub part-below : (K : ℕ) (served : Served K) → (first i k : ℕ) (lists : List (List ℕ)) → EachFrom (SlotBelow K first) 0 lists → AllBelow (first + i) (getD (part (K * i) K lists) k [])
+pub part-below : (K : ℕ) (served : Served K) (first i k : ℕ) (lists : List (List ℕ)) → EachFrom (SlotBelow K first) 0 lists → AllBelow (first + i) (getD (part (K * i) K lists) k [])
 unfolding part
 part-below K served first i k lists h = elim (tested (ltb k K)) [
   | inl e ↦ let l = ltb-true k K e in
@@ -75,7 +75,7 @@ part-below K served first i k lists h = elim (tested (ltb k K)) [
   | inr e ↦ let l = ltb-false k K e in rw (List·getD-eq-default (take K (drop (K * i) lists)) [] {n = k} (simp length-take (omega arith))) tt
 ]
 
-events-below : (K : ℕ) (served : Served K) → (t : Taken) (s : Source) → Sound K s → (i : ℕ) (rows : List Row) → EachFrom ParentsBelow (s .first + i) (eventsFrom K t s i rows)
+events-below : (K : ℕ) (served : Served K) (t : Taken) (s : Source) → Sound K s → (i : ℕ) (rows : List Row) → EachFrom ParentsBelow (s .first + i) (eventsFrom K t s i rows)
 unfolding eventsFrom parentsOf
 events-below K served t s h i [] = tt
 events-below K served t s h i (row ∷ rows) = (
@@ -83,12 +83,12 @@ events-below K served t s h i (row ∷ rows) = (
   from-eq ParentsBelow (s .first + suc i) (suc (s .first + i)) (eventsFrom K t s (suc i) rows) (omega arith) (events-below K served t s h (suc i) rows),
 )
 
-each-below : (K : ℕ) (served : Served K) → (t : Taken) (before : Option Source) (ss : List Source) → Followed K before ss → Each (λ s. EachFrom ParentsBelow (s .first) (eventsIn K t s)) ss
+each-below : (K : ℕ) (served : Served K) (t : Taken) (before : Option Source) (ss : List Source) → Followed K before ss → Each (λ s. EachFrom ParentsBelow (s .first) (eventsIn K t s)) ss
 each-below K served t before [] f = tt
 each-below K served t before (s ∷ ss) f =
     (from-eq ParentsBelow (s .first + 0) (s .first) (eventsIn K t s) (omega arith) (events-below K served t s (f .0) 0 (s .rows)), each-below K served t (some s) ss (f .2))
 
-pub valid-sources : (K : ℕ) (served : Served K) → (ss : List Source) → Followed K none ss → Valid (archiveOf K (record { sources = ss }))
+pub valid-sources : (K : ℕ) (served : Served K) (ss : List Source) → Followed K none ss → Valid (archiveOf K (record { sources = ss }))
 unfolding Valid archiveOf at parentsOf
 valid-sources K served ss f k p l = elim (tested (ltb i (length es))) [
   | inl e ↦ subst (λ n. AllBelow n (parentsOf k (getD es i blank))) {x = startOf ss + i} {y = p} (omega arith)

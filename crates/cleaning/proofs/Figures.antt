@@ -114,7 +114,7 @@ length-references : (us : List Unresolved) (n : ℕ) → length (referencesIn us
 unfolding referencesIn
 length-references us n = length-map {B = Reference} (filter (λ u. eqb (u .child) n) us) (λ u. record { kind = u .kind; handle = u .handle })
 
-references-from : (K : ℕ) (served : Served K) → (t : Taken) (s : Source) (i : ℕ) (rows : List Row)
+references-from : (K : ℕ) (served : Served K) (t : Taken) (s : Source) (i : ℕ) (rows : List Row)
     → sum (λ e. length (e .body .unresolved)) (eventsFrom K t s i rows) ≡ sum (recordsOf (s .unresolved)) (upFrom (s .first + i) (length rows))
 unfolding sum upFrom eventsFrom bodyOf
 references-from K served t s i [] = refl
@@ -122,7 +122,7 @@ references-from K served t s i (row ∷ rows) =
     let n : s .first + suc i ≡ suc (s .first + i) = omega arith in
     rw (length-references (s .unresolved) (s .first + i), references-from K served t s (suc i) rows, n)
 
-pub few-references : (K : ℕ) (served : Served K) → (t : Taken) (ss : List Source) → sum (λ e. length (e .body .unresolved)) (flat (eventsIn K t) ss) ≤ sum (λ s. length (s .unresolved)) ss
+pub few-references : (K : ℕ) (served : Served K) (t : Taken) (ss : List Source) → sum (λ e. length (e .body .unresolved)) (flat (eventsIn K t) ss) ≤ sum (λ s. length (s .unresolved)) ss
 few-references K served t ss =
     rw (sum-flat (λ e. length (e .body .unresolved)) (eventsIn K t) ss)
     (sum-le (λ s. sum (λ e. length (e .body .unresolved)) (eventsIn K t s)) (λ s. length (s .unresolved)) ss

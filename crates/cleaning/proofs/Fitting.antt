@@ -92,7 +92,7 @@ same-links rows (some c) e f = stored-read (c .links) (links-ok c e) (f .links) 
 
 -- ── files ────────────────────────────────────────────────────────────────────────────────────
 
-fitting-source : (K : ℕ) (served : Served K) → (before : Option Source) (f : File) → fileRules K before f ≡ none → FileFits K f → Fitting (sourceOf K f)
+fitting-source : (K : ℕ) (served : Served K) (before : Option Source) (f : File) → fileRules K before f ≡ none → FileFits K f → Fitting (sourceOf K f)
 unfolding sourceOf
 fitting-source K served before f e h = record {
   subject = h .subjectBytes;
@@ -103,7 +103,7 @@ fitting-source K served before f e h = record {
   cover = cover-fitting (length (f .rows)) (f .cover) (cover-rules K served before f e) (h .cover);
 }
 
-pub fitting-taken : (K : ℕ) (served : Served K) → (before : Option Source) (fs : List File) → filesRules K before fs ≡ none → Each (FileFits K) fs → Each Fitting (map (sourceOf K) fs)
+pub fitting-taken : (K : ℕ) (served : Served K) (before : Option Source) (fs : List File) → filesRules K before fs ≡ none → Each (FileFits K) fs → Each Fitting (map (sourceOf K) fs)
 unfolding filesRules
 fitting-taken K served before [] e h = tt
 fitting-taken K served before (f ∷ fs) e h =
@@ -119,7 +119,7 @@ pub record Limited (ss : List Source) : Type 0 where
   pub groups : length (once (map (λ s. s .group) ss)) ≤ maxGroups
 
 -- as many links as were stored
-links-taken : (K : ℕ) (served : Served K) → (before : Option Source) (fs : List File) → filesRules K before fs ≡ none → Each (FileFits K) fs
+links-taken : (K : ℕ) (served : Served K) (before : Option Source) (fs : List File) → filesRules K before fs ≡ none → Each (FileFits K) fs
     → Each (λ f. linkCount ((sourceOf K f) .cover) ≡ storedLinkCount (f .cover)) fs
 unfolding filesRules sourceOf
 links-taken K served before [] e h = tt
@@ -128,7 +128,7 @@ links-taken K served before (f ∷ fs) e h =
     (same-links (length (f .rows)) (f .cover) (cover-rules K served before f (r .0)) (h .0 .cover), links-taken K served (some (sourceOf K f)) fs (r .1 .0) (h .1))
 
 -- of the sources of a run and the files that it takes
-pub limited-more : (K : ℕ) (served : Served K) → (ss : List Source) (fs : List File) → filesRules K (last ss) fs ≡ none → Each (FileFits K) fs → overRecords ss fs ≡ false
+pub limited-more : (K : ℕ) (served : Served K) (ss : List Source) (fs : List File) → filesRules K (last ss) fs ≡ none → Each (FileFits K) fs → overRecords ss fs ≡ false
     → Limited (ss ++ map (sourceOf K) fs)
 unfolding overRecords total groupCount sourceOf
 limited-more K served ss fs r h e =
@@ -166,6 +166,6 @@ limited-more K served ss fs r h e =
       groups = rw (map-append (λ s. s .group) ss (map (sourceOf K) fs), map-map (λ s. s .group) (sourceOf K) fs) (ltb-false maxGroups (groupCount ss fs) (t5 .1));
     }
 
-pub limited-taken : (K : ℕ) (served : Served K) → (fs : List File) → filesRules K none fs ≡ none → Each (FileFits K) fs → overRecords [] fs ≡ false → Limited (map (sourceOf K) fs)
+pub limited-taken : (K : ℕ) (served : Served K) (fs : List File) → filesRules K none fs ≡ none → Each (FileFits K) fs → overRecords [] fs ≡ false → Limited (map (sourceOf K) fs)
 unfolding last
 limited-taken K served fs r h e = limited-more K served [] fs r h e

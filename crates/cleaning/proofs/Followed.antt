@@ -29,7 +29,7 @@ use Rattle.cleaning.proofs.Numbers.{Counted, counted-append, counted-wi
 abbrev pub EachKind : (K : ℕ) → Numbered → Type 0
 EachKind K r = length (r .row .parents) ≡ K
 
-pub length-slots : (K : ℕ) (served : Served K) → (rs : List Numbered) → Each (EachKind K) rs → length (slotsOfRows rs) ≡ K * length rs
+pub length-slots : (K : ℕ) (served : Served K) (rs : List Numbered) → Each (EachKind K) rs → length (slotsOfRows rs) ≡ K * length rs
 unfolding slotsOfRows
 length-slots K served [] h = sym (mul-zero K)
 length-slots K served (r ∷ rs) h = omega (arith, length-append (r .row .parents) (slotsOfRows rs), h .0, length-slots K served rs (h .1))

@@ -84,7 +84,7 @@ cover-links rows (some c) h = h .2
 abbrev Unsorted : Group → Type 0
 Unsorted g = GoodDepth (g .depth) × LinksIn32 (g .links)
 
-pub good-groups : (K : ℕ) (served : Served K) → (ss : List Source) → Each (λ s. Sound K s × Fitting s) ss → Each GoodGroup (map groupSummary (groupsOf ss))
+pub good-groups : (K : ℕ) (served : Served K) (ss : List Source) → Each (λ s. Sound K s × Fitting s) ss → Each GoodGroup (map groupSummary (groupsOf ss))
 unfolding groupsOf
 good-groups K served ss h =
     each-map GoodGroup groupSummary (groupsOf ss)

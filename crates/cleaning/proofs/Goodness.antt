@@ -31,11 +31,11 @@ use Rattle.cleaning.proofs.Bodies.{good-bodies}
 use Rattle.cleaning.proofs.Figures.{length-events, ends-before, groups-level, few-references}
 use Rattle.cleaning.proofs.NewLists.{lists-good, entries-within}
 
-each-sound : (K : ℕ) (served : Served K) → (before : Option Source) (ss : List Source) → Followed K before ss → Each (Sound K) ss
+each-sound : (K : ℕ) (served : Served K) (before : Option Source) (ss : List Source) → Followed K before ss → Each (Sound K) ss
 each-sound K served before [] f = tt
 each-sound K served before (s ∷ ss) f = (f .0, each-sound K served (some s) ss (f .2))
 
-subject-good : (K : ℕ) (served : Served K) → (ss : List Source) → isEmpty ss ≡ false → Each (λ s. Sound K s × Fitting s) ss → (subjectOk (subjectOf ss) ≡ true) × Each (λ b. b < 256) (subjectOf ss)
+subject-good : (K : ℕ) (served : Served K) (ss : List Source) → isEmpty ss ≡ false → Each (λ s. Sound K s × Fitting s) ss → (subjectOk (subjectOf ss) ≡ true) × Each (λ b. b < 256) (subjectOf ss)
 unfolding isEmpty
 subject-good K served [] e h = absurd (false≢true (sym e))
 subject-good K served (s ∷ ss) e h = (h .0 .0 .subject, h .0 .1 .subject)
@@ -55,14 +55,14 @@ count-le (e ∷ es) = go (e .erased) (count-le es)
     go true h = omega arith
     go false h = omega arith
 
-row-count : (K : ℕ) (served : Served K) → (A : Archive) → length ((summary K A) .rows) ≤ length (A .events)
+row-count : (K : ℕ) (served : Served K) (A : Archive) → length ((summary K A) .rows) ≤ length (A .events)
 unfolding summary
 row-count K served A = omega (arith, length-map (survivors A) (keptBy K A), length-survivors A, count-le (A .events))
 
 abbrev archiveFrom : (K : ℕ) → List Source → Archive
 archiveFrom K ss = archiveOf K (record { sources = ss })
 
-pub good-sources : (K : ℕ) (served : Served K) → (ss : List Source) → isEmpty ss ≡ false → Followed K none ss → Each Fitting ss → Limited ss
+pub good-sources : (K : ℕ) (served : Served K) (ss : List Source) → isEmpty ss ≡ false → Followed K none ss → Each Fitting ss → Limited ss
     → entries (tables K (archiveFrom K ss)) ≤ maxNumbers → groupsSurvive (archiveFrom K ss) ≡ true → Good K (summary K (archiveFrom K ss))
 unfolding summary archiveOf
 good-sources K served ss e f h l n g =
@@ -89,12 +89,12 @@ good-sources K served ss e f h l n g =
       references = omega (arith, sum-rows K served A (λ b. length (b .unresolved)), few-references K served t ss, l .references);
     }
 
-pub not-empty : (K : ℕ) (served : Served K) → (fs : List File) → isEmpty fs ≡ false → isEmpty (map (sourceOf K) fs) ≡ false
+pub not-empty : (K : ℕ) (served : Served K) (fs : List File) → isEmpty fs ≡ false → isEmpty (map (sourceOf K) fs) ≡ false
 unfolding isEmpty
 not-empty K served [] e = e
 not-empty K served (f ∷ fs) e = refl
 
-pub good : (K : ℕ) (served : Served K) → (fs : List File) → Cleanable K fs → Good K (summary K (archiveOfFiles K fs))
+pub good : (K : ℕ) (served : Served K) (fs : List File) → Cleanable K fs → Good K (summary K (archiveOfFiles K fs))
 good K served fs c =
     good-sources K served (map (sourceOf K) fs) (not-empty K served fs (c .files)) (taken-followed K served none fs (c .rules)) (fitting-taken K served none fs (c .rules) (c .fits))
     (limited-taken K served fs (c .rules) (c .fits) (c .records)) (c .newLists) (c .survivors)

@@ -121,21 +121,21 @@ module _ (gs : List Group) (s : Source) (n : Next gs s) where
 
 -- ── the groups of all sources ────────────────────────────────────────────────────────────────
 
-covered-fold : (K : ℕ) (served : Served K) → (before : Option Source) (gs : List Group) (ss : List Source) → GroupsUpTo before gs → Followed K before ss
+covered-fold : (K : ℕ) (served : Served K) (before : Option Source) (gs : List Group) (ss : List Source) → GroupsUpTo before gs → Followed K before ss
     → (q : Source) → Covered gs q → Covered (foldl addSource gs ss) q
 covered-fold K served before gs [] g f q c = c
 covered-fold K served before gs (s ∷ ss) g f q c =
     let n = next before gs s g (f .1) in
     covered-fold K served (some s) (addSource gs s) ss (grown gs s n) (f .2) q (covered-add gs s n q c)
 
-each-covered-from : (K : ℕ) (served : Served K) → (before : Option Source) (gs : List Group) (ss : List Source) → GroupsUpTo before gs → Followed K before ss
+each-covered-from : (K : ℕ) (served : Served K) (before : Option Source) (gs : List Group) (ss : List Source) → GroupsUpTo before gs → Followed K before ss
     → Each (Covered (foldl addSource gs ss)) ss
 each-covered-from K served before gs [] g f = tt
 each-covered-from K served before gs (s ∷ ss) g f =
     let n = grown gs s (next before gs s g (f .1)) in
     (covered-fold K served (some s) (addSource gs s) ss n (f .2) s (n .1), each-covered-from K served (some s) (addSource gs s) ss n (f .2))
 
-pub each-covered : (K : ℕ) (served : Served K) → (ss : List Source) → Followed K none ss → Each (Covered (groupsOf ss)) ss
+pub each-covered : (K : ℕ) (served : Served K) (ss : List Source) → Followed K none ss → Each (Covered (groupsOf ss)) ss
 unfolding groupsOf
 each-covered K served ss f = each-covered-from K served none [] ss refl f
 
@@ -146,7 +146,7 @@ unfolding mem
 others-not-mem n [] h = refl
 others-not-mem n (x ∷ xs) h = rw (ne-eqb n x (h .0)) (others-not-mem n xs (h .1))
 
-fewer-groups : (K : ℕ) (served : Served K) → (before : Option Source) (gs : List Group) (ss : List Source) (ns : List ℕ) → GroupsUpTo before gs → Followed K before ss
+fewer-groups : (K : ℕ) (served : Served K) (before : Option Source) (gs : List Group) (ss : List Source) (ns : List ℕ) → GroupsUpTo before gs → Followed K before ss
     → length gs ≤ length ns → Each (λ n. n < length gs) ns → length (foldl addSource gs ss) ≤ length (foldl add ns (map (λ s. s .group) ss))
 fewer-groups K served before gs [] ns g f l h = l
 fewer-groups K served before gs (s ∷ ss) ns g f l h =
@@ -163,6 +163,6 @@ fewer-groups K served before gs (s ∷ ss) ns g f l h =
     (each-add (λ n. n < length (addSource gs s)) ns (s .group)
     (each-imp (λ x. x < length gs) (λ x. x < length (addSource gs s)) ns (λ x b. omega (arith, m .0, n .last)) h) (omega (arith, m .0)))
 
-pub groups-once : (K : ℕ) (served : Served K) → (ss : List Source) → Followed K none ss → length (groupsOf ss) ≤ length (once (map (λ s. s .group) ss))
+pub groups-once : (K : ℕ) (served : Served K) (ss : List Source) → Followed K none ss → length (groupsOf ss) ≤ length (once (map (λ s. s .group) ss))
 unfolding groupsOf once
 groups-once K served ss f = fewer-groups K served none [] ss [] refl f (omega arith) tt

@@ -17,7 +17,7 @@ use Rattle.cleaning.proofs.HeldRows.{HeldLast, HeldTo, ready, held-with
 use Rattle.cleaning.proofs.HeldEvents.{events-with}
 use Rattle.cleaning.proofs.HeldGroups.{groups-with}
 
-events-after : (K : ℕ) (served : Served K) → (t : Taken) (before : Option Source) (h : Held) (ss : List Source) → HeldTo K before h → Followed K before ss
+events-after : (K : ℕ) (served : Served K) (t : Taken) (before : Option Source) (h : Held) (ss : List Source) → HeldTo K before h → Followed K before ss
     → (archiveHeld K (foldl heldWith h ss)) .events ≡ (archiveHeld K h) .events ++ flat (eventsIn K t) ss
 events-after K served t before h [] e f = sym (append-nil ((archiveHeld K h) .events))
 events-after K served t before h (s ∷ ss) e f =
@@ -25,7 +25,7 @@ events-after K served t before h (s ∷ ss) e f =
     events-after K served t (some s) (heldWith h s) ss (held-with K served h s q (f .0)) (f .2)
     ∙ ap (λ es. es ++ flat (eventsIn K t) ss) (events-with K served h s q (f .0) t) ∙ append-assoc ((archiveHeld K h) .events) (eventsIn K t s) (flat (eventsIn K t) ss)
 
-groups-after : (K : ℕ) (served : Served K) → (before : Option Source) (h : Held) (ss : List Source) → HeldTo K before h → Followed K before ss
+groups-after : (K : ℕ) (served : Served K) (before : Option Source) (h : Held) (ss : List Source) → HeldTo K before h → Followed K before ss
     → groupsOfSheet ((foldl heldWith h ss) .sheet) ≡ foldl addSource (groupsOfSheet (h .sheet)) ss
 groups-after K served before h [] e f = refl
 groups-after K served before h (s ∷ ss) e f =
@@ -33,7 +33,7 @@ groups-after K served before h (s ∷ ss) e f =
     groups-after K served (some s) (heldWith h s) ss (held-with K served h s q (f .0)) (f .2) ∙ ap (λ gs. foldl addSource gs ss) (groups-with K served h s q)
 
 -- start and subject are those of the first source
-heads-after : (K : ℕ) (served : Served K) → (r : Source) (h : Held) (ss : List Source) → HeldLast K r h → Followed K (some r) ss
+heads-after : (K : ℕ) (served : Served K) (r : Source) (h : Held) (ss : List Source) → HeldLast K r h → Followed K (some r) ss
     → ((foldl heldWith h ss) .sheet .start ≡ h .sheet .start) × ((foldl heldWith h ss) .sheet .subject ≡ h .sheet .subject)
 unfolding heldWith
 heads-after K served r h [] e f = (refl, refl)
@@ -43,12 +43,12 @@ heads-after K served r h (s ∷ ss) e f =
     (g .0 ∙ start-stays h s l, g .1 ∙ subject-stays h s l)
 
 -- with a source at all
-heads-held : (K : ℕ) (served : Served K) → (s : Source) (ss : List Source) → Followed K none (s ∷ ss)
+heads-held : (K : ℕ) (served : Served K) (s : Source) (ss : List Source) → Followed K none (s ∷ ss)
     → ((heldOf (s ∷ ss)) .sheet .start ≡ s .first) × ((heldOf (s ∷ ss)) .sheet .subject ≡ s .subject)
 unfolding heldOf heldWith sheetWith nothing isEmpty
 heads-held K served s ss f = heads-after K served s (heldWith nothing s) ss (held-with K served nothing s (ready K served none nothing s refl (f .1)) (f .0)) (f .2)
 
-pub archive-held : (K : ℕ) (served : Served K) → (ss : List Source) → Followed K none ss → archiveHeld K (heldOf ss) ≡ archiveOf K (record { sources = ss })
+pub archive-held : (K : ℕ) (served : Served K) (ss : List Source) → Followed K none ss → archiveHeld K (heldOf ss) ≡ archiveOf K (record { sources = ss })
 unfolding archiveHeld archiveOf heldOf nothing groupsOf groupsOfSheet groupsFrom upFrom
 archive-held K served [] f = refl
 archive-held K served (s ∷ ss) f = let t : Taken = record { sources = s ∷ ss } in λ i. record {

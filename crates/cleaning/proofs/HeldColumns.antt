@@ -50,7 +50,7 @@ module _ (K : ℕ) (served : Served K) (h : Held) (r : Rows K h) where
 
 -- ── tables, slot by slot ─────────────────────────────────────────────────────────────────────
 
-pub tables-length : (K : ℕ) (served : Served K) → (A : Archive) → length (tables K A) ≡ K
+pub tables-length : (K : ℕ) (served : Served K) (A : Archive) → length (tables K A) ≡ K
 unfolding tables
 tables-length K served A = length-map-upFrom (λ k. memo A k (length (A .events))) 0 K
 

@@ -85,7 +85,7 @@ noRow = record { erased = false; tag = 0 }
 eventIn : (K : ℕ) → Source → ℕ → Row → Event
 eventIn K s i row = record { erased = row .erased; body = bodyOf s i row; parents = part (K * i) K (s .forward) }
 
-getD-events : (K : ℕ) → (t : Taken) (s : Source) (i : ℕ) (rows : List Row) (j : ℕ) → j < length rows → getD (eventsFrom K t s i rows) j blank ≡ eventIn K s (i + j) (getD rows j noRow)
+getD-events : (K : ℕ) (t : Taken) (s : Source) (i : ℕ) (rows : List Row) (j : ℕ) → j < length rows → getD (eventsFrom K t s i rows) j blank ≡ eventIn K s (i + j) (getD rows j noRow)
 unfolding eventsFrom isErased eventIn
 getD-events K t s i [] j l = absurd (not-suc-le-zero l)
 getD-events K t s i (row ∷ rows) zero l = rw (add-zero i)

@@ -74,7 +74,7 @@ module _ (s : Source) (ls : List GroupLink) where
       (groups-from m (1 + k) n fs (omega arith) (le-of-suc-le-suc l) (λ i. c (omega arith))
       (each-imp (λ l. l .group < k + suc (length fs)) (λ l. l .group < 1 + k + length fs) ls (λ l a. omega arith) b))
 
-pub groups-with : (K : ℕ) (served : Served K) → (h : Held) (s : Source) → Ready K h s → groupsOfSheet ((heldWith h s) .sheet) ≡ addSource (groupsOfSheet (h .sheet)) s
+pub groups-with : (K : ℕ) (served : Served K) (h : Held) (s : Source) → Ready K h s → groupsOfSheet ((heldWith h s) .sheet) ≡ addSource (groupsOfSheet (h .sheet)) s
 unfolding groupsOfSheet heldWith sheetWith addSource
 groups-with K served h s q =
     groups-from s (h .sheet .links) (s .group) 0 (s .group) (h .sheet .groups) (omega arith) (q .within) (q .covered)

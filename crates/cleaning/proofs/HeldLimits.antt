@@ -91,7 +91,7 @@ add-number n g l m = elim (tested (ltb g n)) [
       ∙ ap (λ k. upFrom 0 k ++ (g ∷ [])) b ∙ sym (upFrom-snoc 0 g ∙ ap (λ k. upFrom 0 g ++ (k ∷ [])) (zero-add g))
 ]
 
-counted-after : (K : ℕ) (served : Served K) → (before : Option Source) (h : Held) (ss : List Source) → HeldTo K before h → Followed K before ss
+counted-after : (K : ℕ) (served : Served K) (before : Option Source) (h : Held) (ss : List Source) → HeldTo K before h → Followed K before ss
     → foldl add (upFrom 0 (length (h .sheet .groups))) (map (λ s. s .group) ss) ≡ upFrom 0 (length ((foldl heldWith h ss) .sheet .groups))
 counted-after K served before h [] e f = refl
 counted-after K served before h (s ∷ ss) e f =
@@ -141,7 +141,7 @@ pub there-cond : (b : Bool) (c : SourceCover) → isThere (cond b (some c) none)
 there-cond true c = refl
 there-cond false c = refl
 
-looks-at : (K : ℕ) (served : Served K) → (before : Option Source) (h : Held) → HeldTo K before h → (fs : List File) → filesRules K (lookBack (h .sheet)) fs ≡ filesRules K before fs
+looks-at : (K : ℕ) (served : Served K) (before : Option Source) (h : Held) → HeldTo K before h → (fs : List File) → filesRules K (lookBack (h .sheet)) fs ≡ filesRules K before fs
 unfolding lookBack nothing isEmpty ending
 looks-at K served none h e fs = rw e
 looks-at K served (some r) h e fs =
@@ -153,6 +153,6 @@ looks-at K served (some r) h e fs =
     (omega (arith, e .end, e .rows .tags))
     (there-cond c (record { labels = []; ranges = 0; links = [] }) ∙ ap (λ j. (getD (h .sheet .groups) j noFacts) .covered) last ∙ e .covered) fs)
 
-pub hold-rules : (K : ℕ) (served : Served K) → (ss : List Source) → Followed K none ss → (fs : List File) → holdRules K (heldOf ss) fs ≡ takeRules K ss fs
+pub hold-rules : (K : ℕ) (served : Served K) (ss : List Source) → Followed K none ss → (fs : List File) → holdRules K (heldOf ss) fs ≡ takeRules K ss fs
 unfolding holdRules takeRules
 hold-rules K served ss f fs = rw (records-over K served ss f fs, numbers-over K served ss f fs, looks-at K served (last ss) (heldOf ss) (held-to K served ss f) fs)

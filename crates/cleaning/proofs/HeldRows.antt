@@ -65,7 +65,7 @@ rows-nothing : (K : ℕ) (served : Served K) → Rows K nothing
 unfolding nothing
 rows-nothing K served = record { groups = refl; tags = refl; labels = refl; lists = sym (mul-zero K); roots = tt; unresolved = tt }
 
-pub ready : (K : ℕ) (served : Served K) → (before : Option Source) (h : Held) (s : Source) → HeldTo K before h → FollowsLast before s → Ready K h s
+pub ready : (K : ℕ) (served : Served K) (before : Option Source) (h : Held) (s : Source) → HeldTo K before h → FollowsLast before s → Ready K h s
 unfolding nothing sheetWith isEmpty
 ready K served none h s e f = rw e (record {
   rows = rows-nothing K served;
@@ -164,7 +164,7 @@ abbrev lastAfter : Option Source → List Source → Option Source
 lastAfter before [] = before
 lastAfter before (s ∷ ss) = lastAfter (some s) ss
 
-held-after : (K : ℕ) (served : Served K) → (before : Option Source) (h : Held) (ss : List Source) → HeldTo K before h → Followed K before ss → HeldTo K (lastAfter before ss) (foldl heldWith h ss)
+held-after : (K : ℕ) (served : Served K) (before : Option Source) (h : Held) (ss : List Source) → HeldTo K before h → Followed K before ss → HeldTo K (lastAfter before ss) (foldl heldWith h ss)
 held-after K served before h [] e f = e
 held-after K served before h (s ∷ ss) e f = held-after K served (some s) (heldWith h s) ss (held-with K served h s (ready K served before h s e (f .1)) (f .0)) (f .2)
 
@@ -173,14 +173,14 @@ unfolding last
 last-after s [] = refl
 last-after s (r ∷ rs) = last-after r rs
 
-pub held-to : (K : ℕ) (served : Served K) → (ss : List Source) → Followed K none ss → HeldTo K (last ss) (heldOf ss)
+pub held-to : (K : ℕ) (served : Served K) (ss : List Source) → Followed K none ss → HeldTo K (last ss) (heldOf ss)
 unfolding heldOf last
 held-to K served [] f = refl
 held-to K served (s ∷ ss) f = rw (last-after s ss) (held-after K served none nothing (s ∷ ss) refl f)
 
-rows-to : (K : ℕ) (served : Served K) → (before : Option Source) (h : Held) → HeldTo K before h → Rows K h
+rows-to : (K : ℕ) (served : Served K) (before : Option Source) (h : Held) → HeldTo K before h → Rows K h
 rows-to K served none h e = rw e (rows-nothing K served)
 rows-to K served (some s) h e = e .rows
 
-pub rows-held : (K : ℕ) (served : Served K) → (ss : List Source) → Followed K none ss → Rows K (heldOf ss)
+pub rows-held : (K : ℕ) (served : Served K) (ss : List Source) → Followed K none ss → Rows K (heldOf ss)
 rows-held K served ss f = rows-to K served (last ss) (heldOf ss) (held-to K served ss f)

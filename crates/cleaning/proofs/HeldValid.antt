@@ -30,7 +30,7 @@ SlotsBelow K h = EachFrom (SlotBelow K (h .sheet .start)) 0 (h .sheet .lists)
 
 -- ── valid archives ───────────────────────────────────────────────────────────────────────────
 
-pub valid-held : (K : ℕ) (served : Served K) → (h : Held) → Rows K h → SlotsBelow K h → Valid (archiveHeld K h)
+pub valid-held : (K : ℕ) (served : Served K) (h : Held) → Rows K h → SlotsBelow K h → Valid (archiveHeld K h)
 unfolding Valid archiveHeld at parentsOf eventAt parentsAt
 valid-held K served h r b k p l = elim (tested (ltb i (length (h .erased)))) [
   | inl e ↦ rw (event-held K served h r i (ltb-true i (length (h .erased)) e))
@@ -45,7 +45,7 @@ valid-held K served h r b k p l = elim (tested (ltb i (length (h .erased)))) [
 -- ── a source more ────────────────────────────────────────────────────────────────────────────
 
 -- slots of events whose numbers count from n events before
-shift-slots : (K : ℕ) (served : Served K) → (start first n i : ℕ) (lists : List (List ℕ)) → start + n ≡ first → EachFrom (SlotBelow K first) i lists
+shift-slots : (K : ℕ) (served : Served K) (start first n i : ℕ) (lists : List (List ℕ)) → start + n ≡ first → EachFrom (SlotBelow K first) i lists
     → EachFrom (SlotBelow K start) (K * n + i) lists
 shift-slots K served start first n i [] e h = tt
 shift-slots K served start first n i (ps ∷ lists) e h = (
@@ -53,11 +53,11 @@ shift-slots K served start first n i (ps ∷ lists) e h = (
   from-eq (SlotBelow K start) (K * n + suc i) (suc (K * n + i)) lists (omega arith) (shift-slots K served start first n (suc i) lists e (h .1)),
 )
 
-no-slots : (K : ℕ) (served : Served K) → (start : ℕ) (lists : List (List ℕ)) → length lists ≡ 0 → EachFrom (SlotBelow K start) 0 lists
+no-slots : (K : ℕ) (served : Served K) (start : ℕ) (lists : List (List ℕ)) → length lists ≡ 0 → EachFrom (SlotBelow K start) 0 lists
 no-slots K served start [] e = tt
 no-slots K served start (ps ∷ lists) e = absurd (omega (arith, e))
 
-pub below-with : (K : ℕ) (served : Served K) → (h : Held) (s : Source) → Ready K h s → Sound K s → SlotsBelow K h → SlotsBelow K (heldWith h s)
+pub below-with : (K : ℕ) (served : Served K) (h : Held) (s : Source) → Ready K h s → Sound K s → SlotsBelow K h → SlotsBelow K (heldWith h s)
 unfolding heldWith sheetWith
 below-with K served h s q d b =
     let start = (sheetWith (h .sheet) s) .start in

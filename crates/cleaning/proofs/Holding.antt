@@ -51,7 +51,7 @@ holdOutcome K o = runOutcome (hold K (o .state)) (o .answer)
 
 -- ── taking ───────────────────────────────────────────────────────────────────────────────────
 
-take-held : (K : ℕ) (served : Served K) → (t : Taken) (x : Parsed (List File)) → Followed K none (t .sources)
+take-held : (K : ℕ) (served : Served K) (t : Taken) (x : Parsed (List File)) → Followed K none (t .sources)
     → takeInto (heldOf (t .sources)) (holdMore K (heldOf (t .sources)) x) ≡ holdOutcome K (takeMore t (takenFrom K (t .sources) x))
 unfolding hold unless heldOf
 take-held K served t broken f = refl
@@ -64,7 +64,7 @@ take-held K served t (got fs end) f = rw (hold-rules K served (t .sources) f fs)
 
 -- ── resolving ────────────────────────────────────────────────────────────────────────────────
 
-no-groups : (K : ℕ) (served : Served K) → (before : Option Source) (h : Held) → HeldTo K before h → isEmpty (h .sheet .groups) ≡ not (isThere before)
+no-groups : (K : ℕ) (served : Served K) (before : Option Source) (h : Held) → HeldTo K before h → isEmpty (h .sheet .groups) ≡ not (isThere before)
 unfolding nothing isEmpty
 no-groups K served none h e = rw e
 no-groups K served (some s) h e = not-empty (h .sheet .groups) (omega (arith, e .groups))
@@ -98,14 +98,14 @@ module _ (K : ℕ) (served : Served K) (t : Taken) (f : Followed K none (t .sour
 
 -- ── every call ───────────────────────────────────────────────────────────────────────────────
 
-followed-of : (K : ℕ) (served : Served K) → (t : Taken) (ss : List Source) → t .sources ≡ ss → Followed K none ss → Followed K none (t .sources)
+followed-of : (K : ℕ) (served : Served K) (t : Taken) (ss : List Source) → t .sources ≡ ss → Followed K none ss → Followed K none (t .sources)
 followed-of K served t ss e f = subst (Followed K none) (sym e) f
 
-surviving-sheet : (K : ℕ) (served : Served K) → (t : Taken) (ts : List (List (List ℕ))) (ss : List Source) → t .sources ≡ ss → Followed K none ss → ts ≡ tables K (archiveOf K t)
+surviving-sheet : (K : ℕ) (served : Served K) (t : Taken) (ts : List (List (List ℕ))) (ss : List Source) → t .sources ≡ ss → Followed K none ss → ts ≡ tables K (archiveOf K t)
     → summaryOf K (surviving K t ts) ≡ tabled (archiveOf K t) ts
 surviving-sheet K served t ts ss e f k = ap (λ us. summaryOf K (surviving K t us)) k ∙ surviving-tabled K served t (followed-of K served t ss e f) ∙ ap (tabled (archiveOf K t)) (sym k)
 
-pub run-step : (K : ℕ) (served : Served K) → (s : State) (c : Call) (ss : List Source) → Inv K s ss → runStep K (hold K s) c ≡ holdOutcome K (step K s c)
+pub run-step : (K : ℕ) (served : Served K) (s : State) (c : Call) (ss : List Source) → Inv K s ss → runStep K (hold K s) c ≡ holdOutcome K (step K s c)
 unfolding runStep step hold Inv
 run-step K served (taking t) (takes b) ss i = take-held K served t (parse K b) (followed-of K served t ss (i .0) (i .1))
 run-step K served (taking t) resolves ss i = resolve-held K served t (followed-of K served t ss (i .0) (i .1))

@@ -32,16 +32,16 @@ abbrev After : (K : ℕ) → Call → Outcome → List Source → Type 0
 After K c o ss = Inv K (o .state) (ss ++ took K (did c (o .answer)))
 
 -- a call that takes nothing and leaves the state
-quiet : (K : ℕ) (served : Served K) → (s : State) (ss : List Source) → Inv K s ss → Inv K s (ss ++ [])
+quiet : (K : ℕ) (served : Served K) (s : State) (ss : List Source) → Inv K s ss → Inv K s (ss ++ [])
 quiet K served s ss i = rw (append-nil ss) i
 
 -- ── taking ───────────────────────────────────────────────────────────────────────────────────
 
-rules-of-files : (K : ℕ) (served : Served K) → (ss : List Source) (fs : List File) → takeRules K ss fs ≡ none → filesRules K (last ss) fs ≡ none
+rules-of-files : (K : ℕ) (served : Served K) (ss : List Source) (fs : List File) → takeRules K ss fs ≡ none → filesRules K (last ss) fs ≡ none
 unfolding takeRules
 rules-of-files K served ss fs e = (each-none (refuse OverRecords (overRecords ss fs) ∷ refuse OverNumbers (overNumbers ss fs) ∷ filesRules K (last ss) fs ∷ []) e) .1 .1 .0
 
-take-after : (K : ℕ) (served : Served K) → (t : Taken) (b : List ℕ) (x : Parsed (List File)) → parse K b ≡ x → (ss : List Source) → Inv K (taking t) ss
+take-after : (K : ℕ) (served : Served K) (t : Taken) (b : List ℕ) (x : Parsed (List File)) → parse K b ≡ x → (ss : List Source) → Inv K (taking t) ss
     → After K (takes b) (takeMore t (takenFrom K (t .sources) x)) ss
 unfolding Inv unless
 take-after K served t b broken e ss i = quiet K served (taking t) ss i
@@ -56,14 +56,14 @@ take-after K served t b (got fs q) e ss i = go (takeRules K (t .sources) fs) ref
 
 -- ── resolving ────────────────────────────────────────────────────────────────────────────────
 
-resolve-after : (K : ℕ) (served : Served K) → (t : Taken) (r : Option Refusal) (ss : List Source) → Inv K (taking t) ss → After K resolves (resolveBy t (tables K (archiveOf K t)) r) ss
+resolve-after : (K : ℕ) (served : Served K) (t : Taken) (r : Option Refusal) (ss : List Source) → Inv K (taking t) ss → After K resolves (resolveBy t (tables K (archiveOf K t)) r) ss
 unfolding Inv
 resolve-after K served t none ss i = rw (append-nil ss) (i .0, i .1, refl)
 resolve-after K served t (some r) ss i = quiet K served (taking t) ss i
 
 -- ── every call ───────────────────────────────────────────────────────────────────────────────
 
-pub step-after : (K : ℕ) (served : Served K) → (s : State) (c : Call) (ss : List Source) → Inv K s ss → Inv K ((step K s c) .state) (ss ++ took K (did c ((step K s c) .answer)))
+pub step-after : (K : ℕ) (served : Served K) (s : State) (c : Call) (ss : List Source) → Inv K s ss → Inv K ((step K s c) .state) (ss ++ took K (did c ((step K s c) .answer)))
 unfolding Inv step resolve
 step-after K served (taking t) (takes b) ss i = take-after K served t b (parse K b) refl ss i
 step-after K served (taking t) resolves ss i = resolve-after K served t (resolveRules t (archiveOf K t) (tables K (archiveOf K t))) ss i
@@ -80,7 +80,7 @@ step-after K served (resolved t ts) (lists room) ss i = quiet K served (resolved
 step-after K served spoiled c ss i = absurd i
 
 -- once resolved, nothing is taken
-pub no-more : (K : ℕ) (served : Served K) → (t : Taken) (ts : List (List (List ℕ))) (cs : List Call) → flat (took K) (history K (resolved t ts) cs) ≡ []
+pub no-more : (K : ℕ) (served : Served K) (t : Taken) (ts : List (List (List ℕ))) (cs : List Call) → flat (took K) (history K (resolved t ts) cs) ≡ []
 unfolding history step
 no-more K served t ts [] = refl
 no-more K served t ts (takes b ∷ cs) = no-more K served t ts cs

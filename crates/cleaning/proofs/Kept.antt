@@ -65,14 +65,14 @@ each-of-map P f [] h = tt
 each-of-map P f (x ∷ xs) h = (h .0, each-of-map P f xs (h .1))
 
 -- what each event's body has, each row's has
-pub each-row : (K : ℕ) (served : Served K) → (A : Archive) (P : Body → Type 0) → Each (λ e. P (e .body)) (A .events) → Each (λ r. P (r .body)) ((summary K A) .rows)
+pub each-row : (K : ℕ) (served : Served K) (A : Archive) (P : Body → Type 0) → Each (λ e. P (e .body)) (A .events) → Each (λ r. P (r .body)) ((summary K A) .rows)
 unfolding keptEvents
 each-row K served A P h =
     each-of-map P (λ r. r .body) ((summary K A) .rows)
     (rw (map-rows K served A (λ b. b)) (each-map P (λ e. e .body) (keptEvents (A .events)) (each-filter (λ e. not (e .erased)) (λ e. P (e .body)) (A .events) h)))
 
 -- a figure of the rows' bodies sums to no more than that of all events' bodies
-pub sum-rows : (K : ℕ) (served : Served K) → (A : Archive) (f : Body → ℕ) → sum (λ r. f (r .body)) ((summary K A) .rows) ≤ sum (λ e. f (e .body)) (A .events)
+pub sum-rows : (K : ℕ) (served : Served K) (A : Archive) (f : Body → ℕ) → sum (λ r. f (r .body)) ((summary K A) .rows) ≤ sum (λ e. f (e .body)) (A .events)
 unfolding keptEvents
 sum-rows K served A f =
     let e = ap (sum (λ n. n)) (map-rows K served A f) in
@@ -101,7 +101,7 @@ level-kept low (e ∷ es) h =
     go true h g = h
     go false h g = g
 
-pub rows-level : (K : ℕ) (served : Served K) → (A : Archive) → notFalling (map groupNumber (A .events)) ≡ true → notFalling (map (λ r. r .body .group) ((summary K A) .rows)) ≡ true
+pub rows-level : (K : ℕ) (served : Served K) (A : Archive) → notFalling (map groupNumber (A .events)) ≡ true → notFalling (map (λ r. r .body .group) ((summary K A) .rows)) ≡ true
 unfolding notFalling
 rows-level K served A h = rw (map-rows K served A (λ b. b .group)) (level-kept 0 (A .events) h)
 
@@ -117,7 +117,7 @@ survivor-kept g (e ∷ es) h = go (not (e .erased)) (tested (eqb (groupNumber e)
     go true (inr t) h ih = List·Memᴰ·tail (ih (rw t at h))
     go false t h ih = ih h
 
-pub group-has-row : (K : ℕ) (served : Served K) → (A : Archive) → groupsSurvive A ≡ true → (g : ℕ) → g < length (A .groups) → List·Memᴰ g (map (λ r. r .body .group) ((summary K A) .rows))
+pub group-has-row : (K : ℕ) (served : Served K) (A : Archive) → groupsSurvive A ≡ true → (g : ℕ) → g < length (A .groups) → List·Memᴰ g (map (λ r. r .body .group) ((summary K A) .rows))
 unfolding groupsSurvive
 group-has-row K served A h g l =
     let n = length (A .groups) in

@@ -73,10 +73,10 @@ neat-nothing K served = record {
   below = tt;
 }
 
-neat-with : (K : ℕ) (served : Served K) → (h : Held) (s : Source) → Ready K h s → Sound K s → Orderly s → Neat K h → Neat K (heldWith h s)
+neat-with : (K : ℕ) (served : Served K) (h : Held) (s : Source) → Ready K h s → Sound K s → Orderly s → Neat K h → Neat K (heldWith h s)
 neat-with K served h s q d o n = record { rows = (held-with K served h s q d) .rows; tidy = tidy-with K served h s q d o (n .tidy); below = below-with K served h s q d (n .below) }
 
-neat-after : (K : ℕ) (served : Served K) → (before : Source) (h : Held) (ss : List Source) → HeldLast K before h → Neat K h → Followed K (some before) ss → Each Orderly ss
+neat-after : (K : ℕ) (served : Served K) (before : Source) (h : Held) (ss : List Source) → HeldLast K before h → Neat K h → Followed K (some before) ss → Each Orderly ss
     → Neat K (foldl heldWith h ss)
 neat-after K served before h [] e n f o = n
 neat-after K served before h (s ∷ ss) e n f o =
@@ -149,7 +149,7 @@ module _ (K : ℕ) (served : Served K) (h : Held) (n : Neat K h) where
       }
 
 -- a neat run with an accepted archive more is neat
-pub neat-more : (K : ℕ) (served : Served K) → (h : Held) (fs : List File) → Neat K h → holdRules K h fs ≡ none → Each (FileFits K) fs → Neat K (foldl heldWith h (map (sourceOf K) fs))
+pub neat-more : (K : ℕ) (served : Served K) (h : Held) (fs : List File) → Neat K h → holdRules K h fs ≡ none → Each (FileFits K) fs → Neat K (foldl heldWith h (map (sourceOf K) fs))
 unfolding holdRules
 neat-more K served h fs n e k =
     let before = lookBack (h .sheet) in
@@ -167,7 +167,7 @@ neat-more K served h fs n e k =
 
 -- ── resolved ─────────────────────────────────────────────────────────────────────────────────
 
-pub neat-valid : (K : ℕ) (served : Served K) → (h : Held) → Neat K h → Valid (archiveHeld K h)
+pub neat-valid : (K : ℕ) (served : Served K) (h : Held) → Neat K h → Valid (archiveHeld K h)
 neat-valid K served h n = valid-held K served h (n .rows) (n .below)
 
 -- the sheet of the survivors of a neat run that is not refused is tidy, and every group has a row in it

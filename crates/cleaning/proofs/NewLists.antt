@@ -25,7 +25,7 @@ use Rattle.lists.proofs.Counting.{sum-below, sum-swap}
 
 -- ── rows and their numbers ───────────────────────────────────────────────────────────────────
 
-rows-from : (K : ℕ) (served : Served K) → (f : ℕ → ℕ) (g : ℕ → Kept) (n : ℕ) (ps : List ℕ) → map f ps ≡ upFrom n (length ps) → Each (λ p. GoodLists K (f p) ((g p) .parents)) ps
+rows-from : (K : ℕ) (served : Served K) (f : ℕ → ℕ) (g : ℕ → Kept) (n : ℕ) (ps : List ℕ) → map f ps ≡ upFrom n (length ps) → Each (λ p. GoodLists K (f p) ((g p) .parents)) ps
     → RowsFrom K n (map g ps)
 unfolding upFrom
 rows-from K served f g n [] e h = tt

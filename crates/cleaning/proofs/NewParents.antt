@@ -63,7 +63,7 @@ unfolding all
 each-true p [] h = refl
 each-true p (x ∷ xs) h = rw (h .0) (each-true p xs (h .1))
 
-spans-fit : (K : ℕ) (served : Served K) → (S : Summary) (g : ℕ) → buildRules K (graphOf S g) ≡ none → spansFit K (graphOf S g) ≡ true
+spans-fit : (K : ℕ) (served : Served K) (S : Summary) (g : ℕ) → buildRules K (graphOf S g) ≡ none → spansFit K (graphOf S g) ≡ true
 unfolding buildRules spansFit
 spans-fit K served S g e =
     let G = graphOf S g in
@@ -178,7 +178,7 @@ none-taken : Few []
 unfolding sum once
 none-taken = record { fitting = tt; limited = record { events = omega arith; references = omega arith; links = omega arith; groups = omega arith } }
 
-more : (K : ℕ) (served : Served K) → (ss : List Source) (fs : List File) → takeRules K ss fs ≡ none → Each (FileFits K) fs → Few ss → Few (ss ++ map (sourceOf K) fs)
+more : (K : ℕ) (served : Served K) (ss : List Source) (fs : List File) → takeRules K ss fs ≡ none → Each (FileFits K) fs → Few ss → Few (ss ++ map (sourceOf K) fs)
 unfolding takeRules
 more K served ss fs e h few =
     let r = each-none (refuse OverRecords (overRecords ss fs) ∷ refuse OverNumbers (overNumbers ss fs) ∷ filesRules K (last ss) fs ∷ []) e in record {
@@ -186,7 +186,7 @@ more K served ss fs e h few =
       limited = limited-more K served ss fs (r .1 .1 .0) h (not-refused OverRecords (overRecords ss fs) (r .0));
     }
 
-take-few : (K : ℕ) (served : Served K) → (t : Taken) (b : List ℕ) (x : Parsed (List File)) → parse K b ≡ x → Each (λ x. x < 256) b → (ss : List Source) → t .sources ≡ ss → Few ss
+take-few : (K : ℕ) (served : Served K) (t : Taken) (b : List ℕ) (x : Parsed (List File)) → parse K b ≡ x → Each (λ x. x < 256) b → (ss : List Source) → t .sources ≡ ss → Few ss
     → Also K ((takeMore t (takenFrom K (t .sources) x)) .state) (ss ++ took K (did (takes b) ((takeMore t (takenFrom K (t .sources) x)) .answer)))
 unfolding unless
 take-few K served t b broken e bytes ss i few = rw (append-nil ss) few
@@ -199,7 +199,7 @@ take-few K served t b (got fs q) e bytes ss i few = go (takeRules K (t .sources)
         rw e (more K served ss fs k (parse-fits K b fs q bytes e) few)
     go (some r) h = rw (append-nil ss) few
 
-resolve-few : (K : ℕ) (served : Served K) → (t : Taken) (r : Option Refusal) → resolveRules t (archiveOf K t) (tables K (archiveOf K t)) ≡ r → (ss : List Source) → t .sources ≡ ss → Few ss
+resolve-few : (K : ℕ) (served : Served K) (t : Taken) (r : Option Refusal) → resolveRules t (archiveOf K t) (tables K (archiveOf K t)) ≡ r → (ss : List Source) → t .sources ≡ ss → Few ss
     → Also K ((resolveBy t (tables K (archiveOf K t)) r) .state) (ss ++ [])
 unfolding resolveRules
 resolve-few K served t none e ss i few =
@@ -215,7 +215,7 @@ resolve-few K served t none e ss i few =
     )
 resolve-few K served t (some x) e ss i few = rw (append-nil ss) few
 
-also-after : (K : ℕ) (served : Served K) → (s : State) (c : Call) (ss : List Source) → OfBytes c → Inv K s ss → Also K s ss → Also K ((step K s c) .state) (ss ++ took K (did c ((step K s c) .answer)))
+also-after : (K : ℕ) (served : Served K) (s : State) (c : Call) (ss : List Source) → OfBytes c → Inv K s ss → Also K s ss → Also K ((step K s c) .state) (ss ++ took K (did c ((step K s c) .answer)))
 unfolding Inv step resolve
 also-after K served (taking t) (takes b) ss o i a = take-few K served t b (parse K b) refl o ss (i .0) a
 also-after K served (taking t) resolves ss o i a = resolve-few K served t (resolveRules t (archiveOf K t) (tables K (archiveOf K t))) refl ss (i .0) a
@@ -235,7 +235,7 @@ also-after K served spoiled c ss o i a = absurd a
 abbrev Written : (K : ℕ) → List Source → Bytes → Type 0
 Written K ss w = Renewed K (archiveFrom K ss) (cleaned K (archiveFrom K ss))
 
-write-renews : (K : ℕ) (served : Served K) → (t : Taken) (ts : List (List (List ℕ))) (ss : List Source) (room : ℕ) → Both K (resolved t ts) ss
+write-renews : (K : ℕ) (served : Served K) (t : Taken) (ts : List (List (List ℕ))) (ss : List Source) (room : ℕ) → Both K (resolved t ts) ss
     → Each (Written K ss) (bytesWritten (did (writes room) (writeInto room (written K (tabled (archiveOf K t) ts)))))
 unfolding Inv written unless
 write-renews K served t ts ss room ((i, f, g), (few, r)) =

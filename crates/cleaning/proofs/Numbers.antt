@@ -42,7 +42,7 @@ unfolding numberedFrom
 each-numbered P n [] h = tt
 each-numbered P n (r ∷ rs) h = (h .0, each-numbered P (suc n) rs (h .1))
 
-pub lists-numbered : (K : ℕ) (served : Served K) → (n : ℕ) (rs : List Kept) → RowsFrom K n rs → Each (λ r. GoodLists K (r .number) (r .row .parents)) (numberedFrom n rs)
+pub lists-numbered : (K : ℕ) (served : Served K) (n : ℕ) (rs : List Kept) → RowsFrom K n rs → Each (λ r. GoodLists K (r .number) (r .row .parents)) (numberedFrom n rs)
 unfolding numberedFrom
 lists-numbered K served n [] h = tt
 lists-numbered K served n (r ∷ rs) h = (h .0, lists-numbered K served (suc n) rs (h .1))

@@ -38,7 +38,7 @@ label-each : (rows : ℕ) (c : Option SourceCover) → CoverFitting rows c → L
 label-each rows none f = tt
 label-each rows (some c) f = f .0
 
-orderly-files : (K : ℕ) (served : Served K) → (fs : List File) → Each (FileFits K) fs → Each Fitting (map (sourceOf K) fs) → Each Orderly (map (sourceOf K) fs)
+orderly-files : (K : ℕ) (served : Served K) (fs : List File) → Each (FileFits K) fs → Each Fitting (map (sourceOf K) fs) → Each Orderly (map (sourceOf K) fs)
 unfolding sourceOf
 orderly-files K served [] h g = tt
 orderly-files K served (f ∷ fs) h g = (
@@ -46,7 +46,7 @@ orderly-files K served (f ∷ fs) h g = (
   orderly-files K served fs (h .1) (g .1),
 )
 
-pub orderly-taken : (K : ℕ) (served : Served K) → (before : Option Source) (fs : List File) → filesRules K before fs ≡ none → Each (FileFits K) fs → Each Orderly (map (sourceOf K) fs)
+pub orderly-taken : (K : ℕ) (served : Served K) (before : Option Source) (fs : List File) → filesRules K before fs ≡ none → Each (FileFits K) fs → Each Orderly (map (sourceOf K) fs)
 orderly-taken K served before fs e h = orderly-files K served fs h (fitting-taken K served before fs e h)
 
 -- ── labels ───────────────────────────────────────────────────────────────────────────────────

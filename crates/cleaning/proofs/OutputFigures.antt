@@ -101,7 +101,7 @@ pub once-few : (s xs : List ℕ) → length (foldl add s xs) ≤ length s + leng
 once-few s [] = omega arith
 once-few s (x ∷ xs) = omega (arith, once-few (add s x) xs, add-few s x)
 
-pub length-deltas : (K : ℕ) (served : Served K) → (first : ℕ) (lists : List (List ℕ)) → length (setOf K first lists .deltas) ≡ sum length lists
+pub length-deltas : (K : ℕ) (served : Served K) (first : ℕ) (lists : List (List ℕ)) → length (setOf K first lists .deltas) ≡ sum length lists
 unfolding setOf
 length-deltas K served first lists = set-count K first lists ∙ length-joined lists
 

@@ -143,7 +143,7 @@ module _ (K : ℕ) (served : Served K) (S : Summary) (good : Good K S) (g : ℕ)
       few-roots-here : length (rootsFrom 0 rs) ≤ maxRecords
       few-roots-here = one-file maxRecords (λ f. length (f .roots)) (few-roots K served S good)
 
-pub files-fit : (K : ℕ) (served : Served K) → (S : Summary) → Good K S → all (λ g. spansFit K (graphOf S g)) (groupNumbers S) ≡ true → Each (FileFits K) (outputs K S)
+pub files-fit : (K : ℕ) (served : Served K) (S : Summary) → Good K S → all (λ g. spansFit K (graphOf S g)) (groupNumbers S) ≡ true → Each (FileFits K) (outputs K S)
 unfolding outputs
 files-fit K served S good h =
     let fit : ℕ → Type 0 = λ g. spansFit K (graphOf S g) ≡ true in

@@ -114,7 +114,7 @@ module _ (P : ℕ → Type 0) where
       (each-map (λ e. P (e .child)) (edge child k) (filter (inFile first end) ps) (each-all (λ p. P child) (λ p. h) (filter (inFile first end) ps)))
       (each-edges first end child (suc k) lists h)
 
-pub inbound-side : (K : ℕ) (served : Served K) → (first rows end : ℕ) (e : InboundColumns) → first + rows ≤ end64 → Each (λ c. (end ≤ c) × (c < end64)) (e .children)
+pub inbound-side : (K : ℕ) (served : Served K) (first rows end : ℕ) (e : InboundColumns) → first + rows ≤ end64 → Each (λ c. (end ≤ c) × (c < end64)) (e .children)
     → AllowedFrom K inbound first end 0 (inboundLists K first rows e)
 unfolding inboundLists allowed
 inbound-side K served first rows end e b h =

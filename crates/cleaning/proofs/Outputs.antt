@@ -48,7 +48,7 @@ pub record Holds (s : Source) (g : ℕ) (group : Group) (rs : List Numbered) : T
   pub cover : s .cover ≡ keptCover (group .links) rs
 
 -- the parents of rows, as building is given them, are those of the one granule
-pub forward-part : (K : ℕ) (served : Served K) → (S : Summary) (g : ℕ) (group : Group) (rs : List Numbered) → Each (EachKind K) rs → forwardPart K (graphOfRows S g group rs) ≡ slotsOfRows rs
+pub forward-part : (K : ℕ) (served : Served K) (S : Summary) (g : ℕ) (group : Group) (rs : List Numbered) → Each (EachKind K) rs → forwardPart K (graphOfRows S g group rs) ≡ slotsOfRows rs
 unfolding forwardPart graphOfRows part
 forward-part K served S g group rs h = rw (cut-joined (slotsOfRows rs), mul-zero K) (take-all (K * length rs) (slotsOfRows rs) (omega (arith, length-slots K served rs h)))
 
@@ -57,7 +57,7 @@ cover-back none rs h = refl
 cover-back (some links) rs h =
     ap some (λ i. record { labels = labels-columns (labelsIn rs) i; ranges = length (rangesOf (labelsIn rs)); links = stored-back links (h .0) (h .1) i })
 
-row-kinds : (K : ℕ) (served : Served K) → (S : Summary) (g : ℕ) (r : Numbered) → GoodRow K S g r → EachKind K r
+row-kinds : (K : ℕ) (served : Served K) (S : Summary) (g : ℕ) (r : Numbered) → GoodRow K S g r → EachKind K r
 row-kinds K served S g r h = h .lists .each-kind
 
 module _ (K : ℕ) (served : Served K) (S : Summary) (good : Good K S) (g : ℕ) where

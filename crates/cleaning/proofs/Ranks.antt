@@ -64,7 +64,7 @@ keep-flat q g i (b ∷ es) h =
     go false e r = rw (e, r)
 
 -- the lists of the kept rows
-pub keep-slots : (K : ℕ) (served : Served K) → (es : List Bool) (ls : List (List ℕ)) → keepSlots K es ls ≡ flat (λ i. part (K * i) K ls) (keep es (upFrom 0 (length es)))
+pub keep-slots : (K : ℕ) (served : Served K) (es : List Bool) (ls : List (List ℕ)) → keepSlots K es ls ≡ flat (λ i. part (K * i) K ls) (keep es (upFrom 0 (length es)))
 unfolding keepSlots
 keep-slots K served es ls = keep-flat (λ i. getD es i false) (λ i. part (K * i) K ls) 0 es (λ j l. ap (λ i. getD es i false) {x = 0 + j} {y = j} (omega arith))
 

@@ -49,7 +49,7 @@ unfolding fits63
 fits-signed (pos n) e = record { sfits = ltb-true n (2 ^ 63) e }
 fits-signed (negsuc n) e = record { sfits = ltb-true n (2 ^ 63) e }
 
-pub set-fits : (K : ℕ) (served : Served K) → (first rows : ℕ) (lists : List (List ℕ)) → length lists ≡ K * rows → length (setOf K first lists .deltas) ≤ maxNumbers
+pub set-fits : (K : ℕ) (served : Served K) (first rows : ℕ) (lists : List (List ℕ)) → length lists ≡ K * rows → length (setOf K first lists .deltas) ≤ maxNumbers
     → deltasFit K first lists ≡ true → SetFits K rows (setOf K first lists)
 unfolding setOf deltasFit
 set-fits K served first rows lists full few fit = record {

@@ -42,7 +42,7 @@ survivor-of g (r ∷ rs) m = elim (List·Memᴰ·cases-cons m) [
   | inr t ↦ rw (survivor-of g rs t) (or-true (eqb (r .body .group) g))
 ]
 
-pub groups-survive : (K : ℕ) (served : Served K) → (S : Summary) → Good K S → groupsSurvive (unerased S) ≡ true
+pub groups-survive : (K : ℕ) (served : Served K) (S : Summary) → Good K S → groupsSurvive (unerased S) ≡ true
 unfolding groupsSurvive
 groups-survive K served S good =
     all-of (λ g. any (survivesIn g) (map eventOf (S .rows))) (groupNumbers S)
@@ -54,11 +54,11 @@ groups-survive K served S good =
 abbrev list : ℕ → Kept → List ℕ
 list k r = getD (r .parents) k []
 
-rows-wide : (K : ℕ) (served : Served K) → (n : ℕ) (rs : List Kept) → RowsFrom K n rs → Each (λ r. length (r .parents) ≡ K) rs
+rows-wide : (K : ℕ) (served : Served K) (n : ℕ) (rs : List Kept) → RowsFrom K n rs → Each (λ r. length (r .parents) ≡ K) rs
 rows-wide K served n [] h = tt
 rows-wide K served n (r ∷ rs) h = (h .0 .each-kind, rows-wide K served (suc n) rs (h .1))
 
-kind-by-kind : (K : ℕ) (served : Served K) → (r : Kept) → length (r .parents) ≡ K → sum (λ k. length (list k r)) (upFrom 0 K) ≡ sum length (r .parents)
+kind-by-kind : (K : ℕ) (served : Served K) (r : Kept) → length (r .parents) ≡ K → sum (λ k. length (list k r)) (upFrom 0 K) ≡ sum length (r .parents)
 kind-by-kind K served r e =
     sym (sum-map length (λ k. list k r) (upFrom 0 K))
     ∙ ap (λ n. sum length (map (λ k. list k r) (upFrom 0 n))) (sym e)

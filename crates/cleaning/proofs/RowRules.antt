@@ -67,13 +67,13 @@ unseen (p ∷ ps) = (refl, unseen ps)
 abbrev SlotPasses : (K : ℕ) → ℕ → ℕ → List ℕ → Type 0
 SlotPasses K first slot ps = parentRules (eventOf K first slot) [] ps ≡ none
 
-slots-none : (K : ℕ) (served : Served K) → (first slot : ℕ) (lists : List (List ℕ)) → EachFrom (SlotPasses K first) slot lists → slotRules K first slot lists ≡ none
+slots-none : (K : ℕ) (served : Served K) (first slot : ℕ) (lists : List (List ℕ)) → EachFrom (SlotPasses K first) slot lists → slotRules K first slot lists ≡ none
 unfolding slotRules
 slots-none K served first slot [] h = refl
 slots-none K served first slot (ps ∷ lists) h =
     none-of (parentRules (eventOf K first slot) [] ps ∷ slotRules K first (suc slot) lists ∷ []) (h .0, (slots-none K served first (suc slot) lists (h .1), tt))
 
-rows-pass : (K : ℕ) (served : Served K) → (first i : ℕ) (rs : List Numbered) → Counted (first + i) rs → Each (λ r. GoodLists K (r .number) (r .row .parents)) rs
+rows-pass : (K : ℕ) (served : Served K) (first i : ℕ) (rs : List Numbered) → Counted (first + i) rs → Each (λ r. GoodLists K (r .number) (r .row .parents)) rs
     → EachFrom (SlotPasses K first) (K * i) (slotsOfRows rs)
 unfolding slotsOfRows
 rows-pass K served first i [] c h = tt
@@ -87,7 +87,7 @@ rows-pass K served first i (r ∷ rs) c h =
     (from-eq (SlotPasses K first) (K * suc i) (K * i + length (r .row .parents)) (slotsOfRows rs) (omega (arith, h .0 .each-kind))
     (rows-pass K served first (suc i) rs (rw (add-suc first i) (c .1)) (h .1)))
 
-pub row-slots-none : (K : ℕ) (served : Served K) → (first : ℕ) (rs : List Numbered) → Counted first rs → Each (λ r. GoodLists K (r .number) (r .row .parents)) rs
+pub row-slots-none : (K : ℕ) (served : Served K) (first : ℕ) (rs : List Numbered) → Counted first rs → Each (λ r. GoodLists K (r .number) (r .row .parents)) rs
     → slotRules K first 0 (slotsOfRows rs) ≡ none
 row-slots-none K served first rs c h = slots-none K served first 0 (slotsOfRows rs) (rw (mul-zero K) at (rows-pass K served first 0 rs (rw (add-zero first) c) h))
 

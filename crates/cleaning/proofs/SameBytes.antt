@@ -17,7 +17,7 @@ use Rattle.cleaning.proofs.Again.{summary-again}
 use Rattle.cleaning.proofs.TakenAgain.{cleanable-again}
 
 -- the output files of a good summary, cleaned, are their own bytes
-pub cleaned-again : (K : ℕ) (served : Served K) → (S : Summary) → Good K S → cleaned K (archiveOfFiles K (outputs K S)) ≡ bytesOf K S
+pub cleaned-again : (K : ℕ) (served : Served K) (S : Summary) → Good K S → cleaned K (archiveOfFiles K (outputs K S)) ≡ bytesOf K S
 unfolding cleaned
 cleaned-again K served S g = ap (bytesOf K) (summary-again K served S g)
 

@@ -60,7 +60,7 @@ module _ (K : ℕ) (served : Served K) (A B : Archive) (s : A .start ≡ B .star
 
 -- ── the whole ────────────────────────────────────────────────────────────────────────────────
 
-pub summary-alike : (K : ℕ) (served : Served K) → (A B : Archive) → Alike K A B → summary K A ≡ summary K B
+pub summary-alike : (K : ℕ) (served : Served K) (A B : Archive) → Alike K A B → summary K A ≡ summary K B
 unfolding summary
 summary-alike K served A B l = λ i. record {
   start = l .same-start i;

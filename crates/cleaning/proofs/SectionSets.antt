@@ -299,7 +299,7 @@ module _ (K : ℕ) (served : Served K) (s : Sheet) (t : Tidy K s) (g : ℕ) wher
       rw (joined-part (K * sectionStart s g) (K * sectionRows s g) all inside) (simp (length-take, length-drop) (omega arith))
 
 -- all children are no more than all parents
-pub children-few : (K : ℕ) (served : Served K) → (s : Sheet) → Tidy K s → length (joined (childLists K s)) ≤ length (joined (s .lists))
+pub children-few : (K : ℕ) (served : Served K) (s : Sheet) → Tidy K s → length (joined (childLists K s)) ≤ length (joined (s .lists))
 unfolding childLists
 children-few K served s t =
     let turned = reverseLists K (s .start) (rowCount s) (s .lists) in

@@ -62,7 +62,7 @@ module _ (event : ℕ) where
       let r = parents-earlier (p ∷ seen) ps (k .2) in
       ((k .0, r .0), rw (unseen p (p ∷ seen) ps (k .2) (rw (eq-eqb p p refl))) (r .1))
 
-slots-earlier : (K : ℕ) (served : Served K) → (first slot : ℕ) (lists : List (List ℕ)) → slotRules K first slot lists ≡ none → EachFrom (λ i. Earlier (eventOf K first i)) slot lists
+slots-earlier : (K : ℕ) (served : Served K) (first slot : ℕ) (lists : List (List ℕ)) → slotRules K first slot lists ≡ none → EachFrom (λ i. Earlier (eventOf K first i)) slot lists
 unfolding slotRules
 slots-earlier K served first slot [] e = tt
 slots-earlier K served first slot (ps ∷ lists) e =

@@ -35,7 +35,7 @@ numbered-places start f i (suc n) =
     let e : suc (start + i) ≡ start + suc i = omega arith in
     rw e (ap (λ rs. record { number = start + i; row = f i } ∷ rs) (numbered-places start f (suc i) n))
 
-pub numbered-sheet : (K : ℕ) (served : Served K) → (s : Sheet) → numbered (summaryOf K s) ≡ map (rowAt K s) (upFrom 0 (rowCount s))
+pub numbered-sheet : (K : ℕ) (served : Served K) (s : Sheet) → numbered (summaryOf K s) ≡ map (rowAt K s) (upFrom 0 (rowCount s))
 unfolding numbered summaryOf
 numbered-sheet K served s =
     ap (λ n. numberedFrom n (map (λ i. kept (bodyAt s i) (parentsAt K s i)) (upFrom 0 (rowCount s)))) (sym (add-zero (s .start)))

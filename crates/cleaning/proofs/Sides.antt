@@ -31,7 +31,7 @@ SlotBelow K first slot ps = AllBelow (eventOf K first slot) ps
 
 -- ── a list for each slot ─────────────────────────────────────────────────────────────────────
 
-length-slots : (K : ℕ) (served : Served K) → (first rows count : ℕ) (offsets : List ℕ) (deltas : List ℤ) → offsetsForm K rows count offsets ≡ true
+length-slots : (K : ℕ) (served : Served K) (first rows count : ℕ) (offsets : List ℕ) (deltas : List ℤ) → offsetsForm K rows count offsets ≡ true
     → length (targetsFrom K first 0 (cut offsets deltas)) ≡ K * rows
 unfolding offsetsForm fromTo cut targetsFrom
 length-slots K served first rows count [] deltas e = absurd (omega (arith, eqb-true 0 (K * rows + 1) (both (eqb 0 (K * rows + 1)) false e .0)))
@@ -41,7 +41,7 @@ length-slots K served first rows count (a ∷ bs) deltas e =
 
 -- ── parents below ────────────────────────────────────────────────────────────────────────────
 
-sound-below : (K : ℕ) (served : Served K) → (first end slot : ℕ) (lists : List (List ℤ)) → soundFrom K forward first end slot lists ≡ true
+sound-below : (K : ℕ) (served : Served K) (first end slot : ℕ) (lists : List (List ℤ)) → soundFrom K forward first end slot lists ≡ true
     → EachFrom (SlotBelow K first) slot (targetsFrom K first slot lists)
 unfolding soundFrom targetsFrom sound allowed
 sound-below K served first end slot [] e = tt
@@ -57,7 +57,7 @@ sound-below K served first end slot (ds ∷ lists) e =
     )
 
 -- without edges every list is empty
-empty-below : (K : ℕ) (served : Served K) → (first slot : ℕ) (bs : List ℕ) (deltas : List ℤ) → climbsTo 0 0 bs ≡ true
+empty-below : (K : ℕ) (served : Served K) (first slot : ℕ) (bs : List ℕ) (deltas : List ℤ) → climbsTo 0 0 bs ≡ true
     → EachFrom (SlotBelow K first) slot (targetsFrom K first slot (cutFrom 0 bs deltas))
 unfolding climbsTo cutFrom targetsFrom
 empty-below K served first slot [] deltas e = tt
@@ -66,7 +66,7 @@ empty-below K served first slot (b ∷ bs) deltas e =
     let z : b ≡ 0 = omega (arith, low-high 0 b bs (p .1)) in
     rw z (tt, empty-below K served first (suc slot) bs deltas (rw z at (p .1)))
 
-cut-below : (K : ℕ) (served : Served K) → (first : ℕ) (offsets : List ℕ) (deltas : List ℤ) → fromTo 0 0 offsets ≡ true
+cut-below : (K : ℕ) (served : Served K) (first : ℕ) (offsets : List ℕ) (deltas : List ℤ) → fromTo 0 0 offsets ≡ true
     → EachFrom (SlotBelow K first) 0 (targetsFrom K first 0 (cut offsets deltas))
 unfolding fromTo cut
 cut-below K served first [] deltas e = absurd (false≢true e)
@@ -101,7 +101,7 @@ module _ (K : ℕ) (served : Served K) (set first rows end : ℕ) (s : EdgeSet) 
       let z : s .count ≡ 0 = omega (arith, ltb-false 0 (s .count) l) in
       inr (rw z at (both (eqb (length (s .offsets)) (K * rows + 1)) (fromTo 0 (s .count) (s .offsets)) form .1))
 
-pub forward-below : (K : ℕ) (served : Served K) → (first rows end : ℕ) (s : EdgeSet) → setRules K forward first rows end s ≡ none → EachFrom (SlotBelow K first) 0 (slotsOf K first s)
+pub forward-below : (K : ℕ) (served : Served K) (first rows end : ℕ) (s : EdgeSet) → setRules K forward first rows end s ≡ none → EachFrom (SlotBelow K first) 0 (slotsOf K first s)
 unfolding slotsOf
 forward-below K served first rows end s e = elim (sound-or-empty K served forward first rows end s e (ltb 0 (s .count)) refl) [
   | inl h ↦ sound-below K served first end 0 (cut (s .offsets) (s .deltas)) h

@@ -59,7 +59,7 @@ module _ (K : ℕ) (served : Served K) (f : ℕ → ℕ → List ℕ) where
       (λ n w. map-ext (f n) (g n) (upFrom 0 K) (each-below (λ k. f n k ≡ g n k) K (λ k l. h n k (w .0) (w .1) l))) (each-upFrom first rows))
 
 -- the list of a number out of the part that starts at some number before it
-pub list-part : (K : ℕ) (served : Served K) → (start a n : ℕ) (lists : List (List ℕ)) (k e : ℕ) → k < K → start + a ≤ e → e < start + a + n
+pub list-part : (K : ℕ) (served : Served K) (start a n : ℕ) (lists : List (List ℕ)) (k e : ℕ) → k < K → start + a ≤ e → e < start + a + n
     → listOf K (start + a) (part (K * a) (K * n) lists) k e ≡ listOf K start lists k e
 unfolding listOf part
 list-part K served start a n lists k e j l h =

@@ -83,12 +83,12 @@ survivors-say (x ∷ es) (f ∷ fs) e =
 
 -- ── slots ────────────────────────────────────────────────────────────────────────────────────
 
-pub slots-length : (K : ℕ) (served : Served K) → (es : List Event) → Each (λ e. length (e .parents) ≡ K) es → length (flat listsOf es) ≡ K * length es
+pub slots-length : (K : ℕ) (served : Served K) (es : List Event) → Each (λ e. length (e .parents) ≡ K) es → length (flat listsOf es) ≡ K * length es
 slots-length K served [] w = sym (mul-zero K)
 slots-length K served (x ∷ es) w = omega (arith, length-append (x .parents) (flat listsOf es), w .0, slots-length K served es (w .1))
 
 -- the slots of an event are its lists
-pub event-slots : (K : ℕ) (served : Served K) → (es : List Event) (i : ℕ) → Each (λ e. length (e .parents) ≡ K) es → i < length es
+pub event-slots : (K : ℕ) (served : Served K) (es : List Event) (i : ℕ) → Each (λ e. length (e .parents) ≡ K) es → i < length es
     → part (K * i) K (flat listsOf es) ≡ (getD es i blank) .parents
 unfolding part
 event-slots K served [] i w h = absurd (not-suc-le-zero h)
@@ -97,7 +97,7 @@ event-slots K served (x ∷ es) (suc i) w h =
     let e : K * suc i ≡ length (x .parents) + K * i = omega (arith, w .0) in
     rw (e, drop-append-add (x .parents) (flat listsOf es) (K * i)) (event-slots K served es i (w .1) (le-of-suc-le-suc h))
 
-slot-says : (K : ℕ) (served : Served K) → (es : List Event) (i k : ℕ) → Each (λ e. length (e .parents) ≡ K) es → i < length es → k < K
+slot-says : (K : ℕ) (served : Served K) (es : List Event) (i k : ℕ) → Each (λ e. length (e .parents) ≡ K) es → i < length es → k < K
     → getD (flat listsOf es) (K * i + k) [] ≡ getD ((getD es i blank) .parents) k []
 unfolding part
 slot-says K served es i k w h l =
@@ -115,7 +115,7 @@ pub record Columns (K : ℕ) (A : Archive) (flags : List ℕ) (slots : List (Lis
 abbrev pub slotList : (K : ℕ) → Archive → ℕ → List ℕ
 slotList K A s = listOf A (s % K) (s / K)
 
-pub slot-list : (K : ℕ) (served : Served K) → (A : Archive) (j k : ℕ) → k < K → slotList K A (K * j + k) ≡ listOf A k j
+pub slot-list : (K : ℕ) (served : Served K) (A : Archive) (j k : ℕ) → k < K → slotList K A (K * j + k) ≡ listOf A k j
 slot-list K served A j k l =
     ap₂ (listOf A) (slot-kind K j k l) (slot-row K j k l)
 
@@ -123,7 +123,7 @@ fold-same : (f g : List ℕ → ℕ → List ℕ) (acc ps : List ℕ) → Each (
 fold-same f g acc [] h = refl
 fold-same f g acc (p ∷ ps) h = rw (h .0 acc) (fold-same f g (g acc p) ps (h .1))
 
-lists-snoc : (K : ℕ) (served : Served K) → (start : ℕ) (flags numbers : List ℕ) (ls xs : List (List ℕ)) (y : List ℕ)
+lists-snoc : (K : ℕ) (served : Served K) (start : ℕ) (flags numbers : List ℕ) (ls xs : List (List ℕ)) (y : List ℕ)
     → newListsFrom K start flags numbers ls (xs ++ (y ∷ []))
     ≡ newListsFrom K start flags numbers ls xs
     ++ (newList K start flags numbers (length (newListsFrom K start flags numbers ls xs) % K) (newListsFrom K start flags numbers ls xs) y ∷ [])
@@ -143,7 +143,7 @@ sum-block f g (suc n) a b h =
     omega (arith, e, sum-block f g n (suc a) (suc b) (λ k l. rw (suc-add, suc-add, ← add-suc, ← add-suc) (h (suc k) (omega arith))))
 
 -- a figure of each kind and place, summed slot by slot or kind by kind
-sum-slots : (K : ℕ) (served : Served K) → (f : ℕ → ℕ → ℕ) (n : ℕ) → sum (λ s. f (s % K) (s / K)) (upFrom 0 (K * n)) ≡ sum (λ k. sum (f k) (upFrom 0 n)) (upFrom 0 K)
+sum-slots : (K : ℕ) (served : Served K) (f : ℕ → ℕ → ℕ) (n : ℕ) → sum (λ s. f (s % K) (s / K)) (upFrom 0 (K * n)) ≡ sum (λ k. sum (f k) (upFrom 0 n)) (upFrom 0 K)
 unfolding sum upFrom
 sum-slots K served f zero = rw (mul-zero K) (sym (sum-zero (upFrom 0 K)))
 sum-slots K served f (suc n) = whole (sum-slots K served f n)

@@ -134,7 +134,7 @@ module _ (K : ℕ) (served : Served K) (h : Held) (r : Rows K h) where
         ∙ map-ext (λ p. f (rank A p)) (keptIn A ts) (survivors A)
         (each-imp (Survives (A .start) (A .events)) (λ p. f (rank A p) ≡ keptIn A ts p) (survivors A) survivor-row (survive-from (A .start) (A .events)))
 
-pub summary-held : (K : ℕ) (served : Served K) → (h : Held) (ts : List (List (List ℕ))) → Rows K h → length ts ≡ K
+pub summary-held : (K : ℕ) (served : Served K) (h : Held) (ts : List (List (List ℕ))) → Rows K h → length ts ≡ K
     → summaryOf K (survivorSheet K h (slotted (length ((archiveHeld K h) .events)) ts)) ≡ tabled (archiveHeld K h) ts
 unfolding summaryOf tabled survivorSheet archiveHeld groupsOfSheet new
 summary-held K served h ts r w =

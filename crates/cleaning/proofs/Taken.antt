@@ -58,13 +58,13 @@ Followed K before (s ∷ ss) = Sound K s × FollowsLast before s × Followed K (
 
 -- ── takings one after the other ──────────────────────────────────────────────────────────────
 
-followed-on : (K : ℕ) (served : Served K) → (before : Option Source) (s : Source) (ss ts : List Source) → Followed K before (s ∷ ss) → Followed K (last (s ∷ ss)) ts
+followed-on : (K : ℕ) (served : Served K) (before : Option Source) (s : Source) (ss ts : List Source) → Followed K before (s ∷ ss) → Followed K (last (s ∷ ss)) ts
     → Followed K before (s ∷ (ss ++ ts))
 unfolding last
 followed-on K served before s [] ts h g = (h .0, h .1, g)
 followed-on K served before s (r ∷ rs) ts h g = (h .0, h .1, followed-on K served (some s) r rs ts (h .2) g)
 
-pub followed-append : (K : ℕ) (served : Served K) → (ss ts : List Source) → Followed K none ss → Followed K (last ss) ts → Followed K none (ss ++ ts)
+pub followed-append : (K : ℕ) (served : Served K) (ss ts : List Source) → Followed K none ss → Followed K (last ss) ts → Followed K none (ss ++ ts)
 unfolding last
 followed-append K served [] ts h g = g
 followed-append K served (s ∷ ss) ts h g = followed-on K served none s ss ts h g
@@ -94,7 +94,7 @@ there-read none = refl
 there-read (some c) = refl
 
 -- 24, 25, 26
-looks-back : (K : ℕ) (served : Served K) → (before : Option Source) (f : File) → groupFollows before f ≡ true → sourceFollows before f ≡ true → coverFollows before f ≡ true
+looks-back : (K : ℕ) (served : Served K) (before : Option Source) (f : File) → groupFollows before f ≡ true → sourceFollows before f ≡ true → coverFollows before f ≡ true
     → FollowsLast before (sourceOf K f)
 unfolding sourceOf
 looks-back K served none f g s c = eqb-true (f .group) 0 g
@@ -157,7 +157,7 @@ module _ (K : ℕ) (served : Served K) (before : Option Source) (f : File) (e : 
       (passed SourceOrder (sourceFollows before f) (rules .1 .1 .1 .1 .0))
       (passed CoverInSome (coverFollows before f) (rules .1 .1 .1 .1 .1 .0))
 
-pub taken-followed : (K : ℕ) (served : Served K) → (before : Option Source) (fs : List File) → filesRules K before fs ≡ none → Followed K before (map (sourceOf K) fs)
+pub taken-followed : (K : ℕ) (served : Served K) (before : Option Source) (fs : List File) → filesRules K before fs ≡ none → Followed K before (map (sourceOf K) fs)
 unfolding filesRules
 taken-followed K served before [] e = tt
 taken-followed K served before (f ∷ fs) e =
@@ -165,7 +165,7 @@ taken-followed K served before (f ∷ fs) e =
     (sound-source K served before f (h .0), follows-last K served before f (h .0), taken-followed K served (some (sourceOf K f)) fs (h .1 .0))
 
 -- the sources of an accepted taking follow those that the run has
-pub taking-followed : (K : ℕ) (served : Served K) → (ss : List Source) (fs : List File) → takeRules K ss fs ≡ none → Followed K (last ss) (map (sourceOf K) fs)
+pub taking-followed : (K : ℕ) (served : Served K) (ss : List Source) (fs : List File) → takeRules K ss fs ≡ none → Followed K (last ss) (map (sourceOf K) fs)
 unfolding takeRules
 taking-followed K served ss fs e =
     taken-followed K served (last ss) fs (each-none (refuse OverRecords (overRecords ss fs) ∷ refuse OverNumbers (overNumbers ss fs) ∷ filesRules K (last ss) fs ∷ []) e .1 .1 .0)

@@ -17,7 +17,7 @@ use Rattle.cleaning.proofs.OutputLimits.{records-within, numbers-within
 use Rattle.cleaning.proofs.OutputFits.{files-fit}
 use Rattle.cleaning.proofs.Resolved.{groups-survive, few-entries}
 
-some-output : (K : ℕ) (served : Served K) → (S : Summary) → Good K S → isEmpty (outputs K S) ≡ false
+some-output : (K : ℕ) (served : Served K) (S : Summary) → Good K S → isEmpty (outputs K S) ≡ false
 unfolding outputs isEmpty upFrom
 some-output K served S good = go (length (S .groups)) refl
   where
@@ -29,7 +29,7 @@ some-output K served S good = go (length (S .groups)) refl
 abbrev pub Writable : (K : ℕ) → Summary → Type 0
 Writable K S = (all (λ g. chainsRise (graphOf S g)) (groupNumbers S) ≡ true) × (all (λ g. spansFit K (graphOf S g)) (groupNumbers S) ≡ true)
 
-pub cleanable-again : (K : ℕ) (served : Served K) → (S : Summary) → Good K S → Writable K S → Cleanable K (outputs K S)
+pub cleanable-again : (K : ℕ) (served : Served K) (S : Summary) → Good K S → Writable K S → Cleanable K (outputs K S)
 cleanable-again K served S good w =
     let again = subst (Writable K) (sym (summary-again K served S good)) w in record {
       fits = files-fit K served S good (w .1);

@@ -27,7 +27,7 @@ use Rattle.cleaning.proofs.HeldRows.{HeldLast, Ready, held-with}
 use Rattle.cleaning.proofs.Orderly.{Orderly, fit-append, fit-grown, label-there, fit-source}
 use Rattle.cleaning.proofs.Orders.{level-append, level-raise, level-same, rising-append, rising-shift}
 
-pub groups-below : (K : ℕ) (served : Served K) → (h : Held) → Tidy K (h .sheet) → Each (λ g. g < length (h .sheet .groups)) (h .sheet .rowGroups)
+pub groups-below : (K : ℕ) (served : Served K) (h : Held) → Tidy K (h .sheet) → Each (λ g. g < length (h .sheet .groups)) (h .sheet .rowGroups)
 groups-below K served h t =
     let n = length (h .sheet .groups) in
     each-imp (λ g. ltb g n ≡ true) (λ g. g < n) (h .sheet .rowGroups) (λ g l. ltb-true g n l) (all-each (λ g. ltb g n) (h .sheet .rowGroups) (t .groupsKnown))

@@ -27,7 +27,7 @@ use Rattle.lists.proofs.Rising.{length-sort}
 -- ── tables ───────────────────────────────────────────────────────────────────────────────────
 
 -- the entries of a table, kind by kind
-table-entries : (K : ℕ) (served : Served K) → (f : ℕ → ℕ → List ℕ) (first rows : ℕ)
+table-entries : (K : ℕ) (served : Served K) (f : ℕ → ℕ → List ℕ) (first rows : ℕ)
     → sum length (slotTable K f first rows) ≡ sum (λ k. sum (λ n. length (f n k)) (upFrom first rows)) (upFrom 0 K)
 unfolding slotTable
 table-entries K served f first rows =
@@ -37,14 +37,14 @@ table-entries K served f first rows =
     ∙ sum-swap (λ n k. length (f n k)) (upFrom first rows) (upFrom 0 K)
 
 -- the list of the number and the kind of a slot
-list-slot : (K : ℕ) (served : Served K) → (first : ℕ) (lists : List (List ℕ)) (j : ℕ) → listOf K first lists (j % K) (first + j / K) ≡ getD lists j []
+list-slot : (K : ℕ) (served : Served K) (first : ℕ) (lists : List (List ℕ)) (j : ℕ) → listOf K first lists (j % K) (first + j / K) ≡ getD lists j []
 unfolding listOf
 list-slot K served first lists j =
     rw (le-ltb (first + j / K) first (omega arith))
     (ap (λ i. getD lists i []) {x = K * (first + j / K - first) + j % K} {y = j} (let z : first + j / K - first ≡ j / K = omega arith in rw z (slot-parts K j)))
 
 -- lists are the table of the lists of their numbers
-table-back : (K : ℕ) (served : Served K) → (first rows : ℕ) (lists : List (List ℕ)) → length lists ≡ K * rows → slotTable K (λ n k. listOf K first lists k n) first rows ≡ lists
+table-back : (K : ℕ) (served : Served K) (first rows : ℕ) (lists : List (List ℕ)) → length lists ≡ K * rows → slotTable K (λ n k. listOf K first lists k n) first rows ≡ lists
 table-back K served first rows lists e =
     let f : ℕ → ℕ → List ℕ = λ n k. listOf K first lists k n in
     ext-getD [] (slotTable K f first rows) lists (length-table K f first rows ∙ sym e)
@@ -54,7 +54,7 @@ table-back K served first rows lists e =
 
 -- ── reverse lists ────────────────────────────────────────────────────────────────────────────
 
-pub reverse-entries : (K : ℕ) (served : Served K) → (first rows : ℕ) (lists : List (List ℕ)) → length lists ≡ K * rows
+pub reverse-entries : (K : ℕ) (served : Served K) (first rows : ℕ) (lists : List (List ℕ)) → length lists ≡ K * rows
     → sum length (reverseLists K first rows lists) ≤ sum length lists
 unfolding reverseLists naming
 reverse-entries K served first rows lists e =
@@ -98,7 +98,7 @@ length-children n k (e ∷ es) = elim (tested (isTo n k e)) [
 ]
 
 -- an edge is in one list
-one-list : (K : ℕ) (served : Served K) → (e : Edge) (first rows : ℕ) → sum (λ n. sum (λ k. bit (isTo n k e)) (upFrom 0 K)) (upFrom first rows) ≤ 1
+one-list : (K : ℕ) (served : Served K) (e : Edge) (first rows : ℕ) → sum (λ n. sum (λ k. bit (isTo n k e)) (upFrom 0 K)) (upFrom first rows) ≤ 1
 one-list K served e first rows =
     omega (
       arith,
@@ -110,7 +110,7 @@ one-list K served e first rows =
     of-kind true = equal-once (e .kind) 0 K
     of-kind false = omega (arith, sum-zero (upFrom 0 K))
 
-pub inbound-entries : (K : ℕ) (served : Served K) → (first rows : ℕ) (es : List Edge) → sum length (inboundLists K first rows (inboundColumns es)) ≤ length es
+pub inbound-entries : (K : ℕ) (served : Served K) (first rows : ℕ) (es : List Edge) → sum length (inboundLists K first rows (inboundColumns es)) ≤ length es
 unfolding inboundLists inboundColumns
 inbound-entries K served first rows es =
     omega (

@@ -96,7 +96,7 @@ survivors-all S = survivors-from (S .start) (S .rows)
 
 -- ── rows stay ────────────────────────────────────────────────────────────────────────────────
 
-lists-row : (K : ℕ) (served : Served K) → (n i : ℕ) (rs : List Kept) → RowsFrom K n rs → i < length rs → GoodLists K (n + i) (getD rs i blankRow .parents)
+lists-row : (K : ℕ) (served : Served K) (n i : ℕ) (rs : List Kept) → RowsFrom K n rs → i < length rs → GoodLists K (n + i) (getD rs i blankRow .parents)
 lists-row K served n i [] h l = absurd (not-suc-le-zero l)
 lists-row K served n zero (r ∷ rs) h l = rw (add-zero n) (h .0)
 lists-row K served n (suc i) (r ∷ rs) h l = let e : suc n + i ≡ n + suc i = omega arith in rw e at (lists-row K served (suc n) i rs (h .1) (le-of-suc-le-suc l))
@@ -144,7 +144,7 @@ groups-stay : (gs : List Group) → Each GoodGroup gs → map groupSummary gs �
 groups-stay [] h = refl
 groups-stay (g ∷ gs) h = ap₂ (λ x xs. x ∷ xs) (λ i. record { depth = g .depth; links = links-stay (g .links) (h .0 .2) i }) (groups-stay gs (h .1))
 
-pub summary-unerased : (K : ℕ) (served : Served K) → (S : Summary) → Good K S → summary K (unerased S) ≡ S
+pub summary-unerased : (K : ℕ) (served : Served K) (S : Summary) → Good K S → summary K (unerased S) ≡ S
 unfolding summary
 summary-unerased K served S good =
     let rows : map (keptBy K (unerased S)) (survivors (unerased S)) ≡ S .rows =

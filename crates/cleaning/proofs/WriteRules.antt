@@ -142,7 +142,7 @@ module _ (K : ℕ) (served : Served K) (S : Summary) (h : Good K S) (g : ℕ) (l
 
 -- ── all groups ───────────────────────────────────────────────────────────────────────────────
 
-pub nothing-refused : (K : ℕ) (served : Served K) → (fs : List File) → Cleanable K fs → writeRules K (summary K (archiveOfFiles K fs)) ≡ none
+pub nothing-refused : (K : ℕ) (served : Served K) (fs : List File) → Cleanable K fs → writeRules K (summary K (archiveOfFiles K fs)) ≡ none
 unfolding writeRules
 nothing-refused K served fs c =
     let S : Summary = summary K (archiveOfFiles K fs) in

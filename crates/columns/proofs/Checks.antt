@@ -94,7 +94,7 @@ module _ (rows : ℕ) (over short : Bool) where
       in-limits g = rw (le-ltb 1024 rows h, f, g)
 
 -- one set that is lent by itself
-module _ (K : ℕ) (set first rows end count : ℕ) (offsets : List ℕ) (deltas : List ℤ) (out : ℕ) where
+module _ (K set first rows end count : ℕ) (offsets : List ℕ) (deltas : List ℤ) (out : ℕ) where
   module _ (over : Bool) (k : Ruling) (f : over ≡ any (ltb maxNumbers) (length offsets ∷ length deltas ∷ []))
       (e : k ≡ ruling (limitsOf rows over (ltb out 4096))) where
     limits-are : limits (rows ∷ []) (setLengths (columnsOf count offsets deltas)) (room out) ≡ limitsOf rows over (ltb out 4096)
@@ -111,7 +111,7 @@ module _ (K : ℕ) (set first rows end count : ℕ) (offsets : List ℕ) (deltas
     lent-broken why h = then-broken k _ _ (e ∙ ap ruling (sym limits-are)) why h
 
 -- a reverse set and an inbound set
-module _ (K : ℕ) (first rows end rc : ℕ) (ro : List ℕ) (rd : List ℤ) (ic : ℕ) (io : List ℕ) (id : List ℤ) where
+module _ (K first rows end rc : ℕ) (ro : List ℕ) (rd : List ℤ) (ic : ℕ) (io : List ℕ) (id : List ℤ) where
   module _ (k : Ruling) (e : k ≡ ruling (setRules K 1 first rows end (columnsOf rc ro rd))) where
     pub both-kept : k ≡ Kept → (q : Ruling) → q ≡ ruling (setRules K 2 first rows end (columnsOf ic io id)) → q ≡ ruling (bothRules K first rows end (columnsOf rc ro rd) (columnsOf ic io id))
     unfolding bothRules
@@ -141,7 +141,7 @@ pub few-deltas : (s : EdgeSet) → any (ltb maxNumbers) (setLengths s) ≡ false
 unfolding setLengths
 few-deltas s e = ltb-false maxNumbers (length (s .deltas)) (any-kept (ltb maxNumbers) _ _ (any-kept (ltb maxNumbers) _ _ e .1) .0)
 
-module _ (K : ℕ) (set first rows end : ℕ) (s : EdgeSet) (e : setRules K set first rows end s ≡ none) where
+module _ (K set first rows end : ℕ) (s : EdgeSet) (e : setRules K set first rows end s ≡ none) where
   pub kept-form : offsetsForm K rows (s .count) (s .offsets) ≡ true
   unfolding setRules
   kept-form = passed OffsetsForm _ (each-none _ e .0)
@@ -172,7 +172,7 @@ module _ (K : ℕ) (set first rows end : ℕ) (s : EdgeSet) (e : setRules K set 
         | inr t ↦ omega (arith, n, ltb-false 0 (s .count) t)
       ]
 
-module _ (K : ℕ) (first : ℕ) (s : EdgeSet) (r : Readable K first s) where
+module _ (K first : ℕ) (s : EdgeSet) (r : Readable K first s) where
   pub readable-few : length (joined (slotsOf K first s)) ≤ maxNumbers
   readable-few = slots-few K (r .set) first (r .rows) (r .end) s (r .kept) (r .few)
 
@@ -180,7 +180,7 @@ module _ (K : ℕ) (first : ℕ) (s : EdgeSet) (r : Readable K first s) where
   unfolding listOf
   list-few kind number = elim (tested (ltb number first)) [ inl e ↦ rw e (omega arith) | inr e ↦ rw e (omega (arith, joined-few (slotsOf K first s) (K * (number - first) + kind), readable-few)) ]
 
-pub edged : (K : ℕ) → (first count : ℕ) (offsets : List ℕ) (deltas : List ℤ) → Readable K first (columnsOf count offsets deltas) → (count ≡ 0 → ⊥) → Edged K first offsets deltas
+pub edged : (K first count : ℕ) (offsets : List ℕ) (deltas : List ℤ) → Readable K first (columnsOf count offsets deltas) → (count ≡ 0 → ⊥) → Edged K first offsets deltas
 edged K first count offsets deltas r h =
     let s = columnsOf count offsets deltas in
     record {
@@ -193,7 +193,7 @@ edged K first count offsets deltas r h =
       few = r .few;
     }
 
-module _ (K : ℕ) (set first rows end : ℕ) (s : EdgeSet) (lent : List Lent) (k : Ruling) (e : k ≡ ruling (lentRules K set first rows end s lent)) where
+module _ (K set first rows end : ℕ) (s : EdgeSet) (lent : List Lent) (k : Ruling) (e : k ≡ ruling (lentRules K set first rows end s lent)) where
   pub readable : k ≡ Kept → Readable K first s
   unfolding lentRules
   readable h =
@@ -206,7 +206,7 @@ module _ (K : ℕ) (set first rows end : ℕ) (s : EdgeSet) (lent : List Lent) (
         few = few-deltas s (few-numbers _ _ lent (p .0));
       }
 
-module _ (K : ℕ) (set first rows end : ℕ) (s : EdgeSet) (n : ℕ) (k : Ruling) (e : k ≡ ruling (lentRules K set first rows end s (room n))) (h : k ≡ Kept) where
+module _ (K set first rows end : ℕ) (s : EdgeSet) (n : ℕ) (k : Ruling) (e : k ≡ ruling (lentRules K set first rows end s (room n))) (h : k ≡ Kept) where
   pub lent-room : maxNumbers ≤ n
   unfolding lentRules
   lent-room = room-kept _ _ n (each-none _ (told-kept _ e h) .0)
@@ -236,21 +236,22 @@ unfolding inOne unless
 in-one none lists = refl
 in-one (some r) lists = refl
 
-module _ (K : ℕ) (set first rows end : ℕ) (s : EdgeSet) (old : List ℕ) (k : Ruling) (e : k ≡ ruling (lentRules K set first rows end s (room (length old)))) where
-  decoded : inOne (decodeSet K set first rows end s (room (length old))) ≡ unless (lentRules K set first rows end s (room (length old))) (joined (slotsOf K first s))
+-- a host names the number of kinds, and W is that number
+module _ (W K : ℕ) (w : K ≡ W) (set first rows end : ℕ) (s : EdgeSet) (old : List ℕ) (k : Ruling) (e : k ≡ ruling (lentRules K set first rows end s (room (length old)))) where
+  decoded : inOne (decodeSet W set first rows end s (room (length old))) ≡ unless (lentRules K set first rows end s (room (length old))) (joined (slotsOf K first s))
   unfolding decodeSet lentRules
-  decoded = in-one _ _
+  decoded = rw (← w) (in-one _ _)
 
-  pub set-counted : k ≡ Kept → (n : ℕ) → n ≡ length (joined (slotsOf K first s)) → Entries n ≡ countedOf (inOne (decodeSet K set first rows end s (room (length old))))
+  pub set-counted : k ≡ Kept → (n : ℕ) → n ≡ length (joined (slotsOf K first s)) → Entries n ≡ countedOf (inOne (decodeSet W set first rows end s (room (length old))))
   set-counted h n f = rw decoded (list-counted k _ _ old e h n f)
 
-  pub set-written : k ≡ Kept → (out : List ℕ) → out ≡ sets old 0 (joined (slotsOf K first s)) → out ≡ writtenOver old (inOne (decodeSet K set first rows end s (room (length old))))
+  pub set-written : k ≡ Kept → (out : List ℕ) → out ≡ sets old 0 (joined (slotsOf K first s)) → out ≡ writtenOver old (inOne (decodeSet W set first rows end s (room (length old))))
   set-written h out f =
       let n = lent-room K set first rows end s (length old) k e h in
       rw decoded (list-written k _ _ old e h (omega (arith, n, readable-few K first s (readable K set first rows end s (room (length old)) k e h))) out f)
 
-  pub set-refused : (why : Refusal) → k ≡ Broken why → Refused why ≡ countedOf (inOne (decodeSet K set first rows end s (room (length old))))
+  pub set-refused : (why : Refusal) → k ≡ Broken why → Refused why ≡ countedOf (inOne (decodeSet W set first rows end s (room (length old))))
   set-refused why h = rw decoded (list-refused k _ (joined (slotsOf K first s)) old e why h)
 
-  pub set-as-was : (why : Refusal) → k ≡ Broken why → old ≡ writtenOver old (inOne (decodeSet K set first rows end s (room (length old))))
+  pub set-as-was : (why : Refusal) → k ≡ Broken why → old ≡ writtenOver old (inOne (decodeSet W set first rows end s (room (length old))))
   set-as-was why h = rw decoded (list-as-was k _ (joined (slotsOf K first s)) old e why h)

@@ -16,7 +16,7 @@ use Rattle.lists.proofs.Slices.{slice-short}
 use Rattle.columns.specs.EdgeSet.{cut, cutFrom, fromTo, eventOf, targetOf}
 use Rattle.columns.specs.Reading.{targetsFrom}
 
-module _ (K : ℕ) (first high : ℕ) (deltas : List ℤ) where
+module _ (K first high : ℕ) (deltas : List ℤ) where
   few-from : (s a : ℕ) (bs : List ℕ) → climbsTo high a bs ≡ true → a + length (joined (targetsFrom K first s (cutFrom a bs deltas))) ≤ high
   unfolding climbsTo targetsFrom cutFrom joined
   few-from s a [] e = let k : a ≡ high = eqb-true a high e in omega arith

@@ -125,10 +125,10 @@ module _ (high : ℕ) (offsets : List ℕ) (e : fromTo 0 high offsets ≡ true) 
     inside = omega (arith, at-slot slot h .1)
 
 -- a column with as many entries as offsets of the form say
-pub form-climbs : (K : ℕ) → (rows count : ℕ) (offsets : List ℕ) → offsetsForm K rows count offsets ≡ true → fromTo 0 count offsets ≡ true
+pub form-climbs : (K rows count : ℕ) (offsets : List ℕ) → offsetsForm K rows count offsets ≡ true → fromTo 0 count offsets ≡ true
 unfolding offsetsForm
 form-climbs K rows count offsets e = both (eqb (length offsets) (K * rows + 1)) _ e .1
 
-pub form-length : (K : ℕ) → (rows count : ℕ) (offsets : List ℕ) → offsetsForm K rows count offsets ≡ true → length offsets ≡ K * rows + 1
+pub form-length : (K rows count : ℕ) (offsets : List ℕ) → offsetsForm K rows count offsets ≡ true → length offsets ≡ K * rows + 1
 unfolding offsetsForm
 form-length K rows count offsets e = eqb-true _ _ (both (eqb (length offsets) (K * rows + 1)) _ e .0)

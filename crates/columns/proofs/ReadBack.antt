@@ -61,27 +61,27 @@ unfolding fromTo climbsTo starts joined
 starts-from [] = refl
 starts-from (l ∷ ls) = starts-climb 0 (0 + length l) (length (l ++ joined ls)) ls (omega arith) (omega (arith, length-append l (joined ls)))
 
-pub starts-form : (K : ℕ) → (rows : ℕ) (ls : List (List ℕ)) → length ls ≡ K * rows → offsetsForm K rows (length (joined ls)) (starts 0 ls) ≡ true
+pub starts-form : (K rows : ℕ) (ls : List (List ℕ)) → length ls ≡ K * rows → offsetsForm K rows (length (joined ls)) (starts 0 ls) ≡ true
 unfolding offsetsForm
 starts-form K rows ls e = rw (length-starts 0 ls, eq-eqb (suc (length ls)) (K * rows + 1) (omega arith)) (starts-from ls)
 
 -- ── the deltas of lists ──────────────────────────────────────────────────────────────────────
 
-starts-deltas : (K : ℕ) → (a first slot : ℕ) (lists : List (List ℕ)) → starts a (deltasFrom K first slot lists) ≡ starts a lists
+starts-deltas : (K a first slot : ℕ) (lists : List (List ℕ)) → starts a (deltasFrom K first slot lists) ≡ starts a lists
 unfolding starts deltasFrom
 starts-deltas K a first slot [] = refl
 starts-deltas K a first slot (ts ∷ lists) = rw (length-map ts (deltaOf (eventOf K first slot)), starts-deltas K (a + length ts) first (suc slot) lists)
 
-length-deltas : (K : ℕ) → (first slot : ℕ) (lists : List (List ℕ)) → length (joined (deltasFrom K first slot lists)) ≡ length (joined lists)
+length-deltas : (K first slot : ℕ) (lists : List (List ℕ)) → length (joined (deltasFrom K first slot lists)) ≡ length (joined lists)
 unfolding joined deltasFrom
 length-deltas K first slot [] = refl
 length-deltas K first slot (ts ∷ lists) = simp (length-append, length-map, length-deltas K first (suc slot) lists)
 
-pub set-count : (K : ℕ) → (first : ℕ) (lists : List (List ℕ)) → length (setOf K first lists .deltas) ≡ setOf K first lists .count
+pub set-count : (K first : ℕ) (lists : List (List ℕ)) → length (setOf K first lists .deltas) ≡ setOf K first lists .count
 unfolding setOf
 set-count K first lists = length-deltas K first 0 lists
 
-targets-deltas : (K : ℕ) → (first slot : ℕ) (lists : List (List ℕ)) → targetsFrom K first slot (deltasFrom K first slot lists) ≡ lists
+targets-deltas : (K first slot : ℕ) (lists : List (List ℕ)) → targetsFrom K first slot (deltasFrom K first slot lists) ≡ lists
 unfolding targetsFrom deltasFrom
 targets-deltas K first slot [] = refl
 targets-deltas K first slot (ts ∷ lists) = rw (one ts, targets-deltas K first (suc slot) lists)
@@ -90,7 +90,7 @@ targets-deltas K first slot (ts ∷ lists) = rw (one ts, targets-deltas K first 
     one [] = refl
     one (t ∷ ts) = rw (target-delta (eventOf K first slot) t, one ts)
 
-cut-set : (K : ℕ) → (first : ℕ) (lists : List (List ℕ)) → cut (starts 0 lists) (joined (deltasFrom K first 0 lists)) ≡ deltasFrom K first 0 lists
+cut-set : (K first : ℕ) (lists : List (List ℕ)) → cut (starts 0 lists) (joined (deltasFrom K first 0 lists)) ≡ deltasFrom K first 0 lists
 cut-set K first lists = rw (← starts-deltas K 0 first 0 lists) (cut-joined (deltasFrom K first 0 lists))
 
 -- ── reading ──────────────────────────────────────────────────────────────────────────────────
@@ -106,18 +106,18 @@ unfolding all
 all-sound set end event [] h = refl
 all-sound set end event (t ∷ ts) h = rw (sound-delta set end event t, lt-ltb t end64 (h .0 .1), h .0 .0) (all-sound set end event ts (h .1))
 
-pub sound-deltas : (K : ℕ) → (set first end slot : ℕ) (lists : List (List ℕ)) → AllowedFrom K set first end slot lists → soundFrom K set first end slot (deltasFrom K first slot lists) ≡ true
+pub sound-deltas : (K set first end slot : ℕ) (lists : List (List ℕ)) → AllowedFrom K set first end slot lists → soundFrom K set first end slot (deltasFrom K first slot lists) ≡ true
 unfolding soundFrom deltasFrom
 sound-deltas K set first end slot [] h = refl
 sound-deltas K set first end slot (ts ∷ lists) h =
     rw (lt-ltb (eventOf K first slot) end64 (h .0), all-sound set end (eventOf K first slot) ts (h .1)) (sound-deltas K set first end (suc slot) lists (h .2))
 
 -- a set gives its lists back
-pub slots-set : (K : ℕ) → (first : ℕ) (lists : List (List ℕ)) → slotsOf K first (setOf K first lists) ≡ lists
+pub slots-set : (K first : ℕ) (lists : List (List ℕ)) → slotsOf K first (setOf K first lists) ≡ lists
 unfolding slotsOf setOf
 slots-set K first lists = rw (cut-set K first lists) (targets-deltas K first 0 lists)
 
-module _ (K : ℕ) (set first rows end : ℕ) (lists : List (List ℕ)) (full : length lists ≡ K * rows) (side : AllowedFrom K set first end 0 lists) where
+module _ (K set first rows end : ℕ) (lists : List (List ℕ)) (full : length lists ≡ K * rows) (side : AllowedFrom K set first end 0 lists) where
   pub set-rules : setRules K set first rows end (setOf K first lists) ≡ none
   unfolding setRules setOf firstOf
   set-rules =

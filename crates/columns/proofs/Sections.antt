@@ -74,7 +74,7 @@ module _ (K : ℕ) {B : Type 0} (g : List ℤ → List B) (none : g [] ≡ []) (
 
 -- ── where the lists start ────────────────────────────────────────────────────────────────────
 
-module _ (K : ℕ) (low high from n : ℕ) (offsets targets : List ℕ) (i : K * (from + n) < length offsets) (q a : ℕ) where
+module _ (K low high from n : ℕ) (offsets targets : List ℕ) (i : K * (from + n) < length offsets) (q a : ℕ) where
   pub starts-over : K * n ≤ q → starts a (drop q (rowsWithin K low high from n offsets targets)) ≡ a ∷ []
   unfolding starts
   starts-over h = rw (section-over K low high from n offsets targets i q h)

@@ -24,18 +24,18 @@ use Rattle.columns.proofs.Checks.{kept-form}
 
 -- ── one slot ────────────────────────────────────────────────────────────────────────────────────
 
-pub length-targets : (K : ℕ) → (first s : ℕ) (lists : List (List ℤ)) → length (targetsFrom K first s lists) ≡ length lists
+pub length-targets : (K first s : ℕ) (lists : List (List ℤ)) → length (targetsFrom K first s lists) ≡ length lists
 unfolding targetsFrom
 length-targets K first s [] = refl
 length-targets K first s (ds ∷ lists) = ap suc (length-targets K first (suc s) lists)
 
-targets-at : (K : ℕ) → (first s : ℕ) (lists : List (List ℤ)) (q : ℕ) → q < length lists → getD (targetsFrom K first s lists) q [] ≡ map (targetOf (eventOf K first (s + q))) (getD lists q [])
+targets-at : (K first s : ℕ) (lists : List (List ℤ)) (q : ℕ) → q < length lists → getD (targetsFrom K first s lists) q [] ≡ map (targetOf (eventOf K first (s + q))) (getD lists q [])
 unfolding targetsFrom
 targets-at K first s [] q h = absurd (omega arith)
 targets-at K first s (ds ∷ lists) zero h = rw (add-zero s)
 targets-at K first s (ds ∷ lists) (suc q) h = rw (add-suc s q, ← suc-add s q) (targets-at K first (suc s) lists q (omega arith))
 
-sides-at : (K : ℕ) → (set first end s : ℕ) (lists : List (List ℤ)) (q : ℕ) → soundFrom K set first end s lists ≡ true → q < length lists
+sides-at : (K set first end s : ℕ) (lists : List (List ℤ)) (q : ℕ) → soundFrom K set first end s lists ≡ true → q < length lists
     → (ltb (eventOf K first (s + q)) end64 ≡ true) × (all (sound set end (eventOf K first (s + q))) (getD lists q []) ≡ true)
 unfolding soundFrom
 sides-at K set first end s [] q e h = absurd (omega arith)
@@ -43,7 +43,7 @@ sides-at K set first end s (ds ∷ lists) zero e h = rw (add-zero s) (both _ _ (
 sides-at K set first end s (ds ∷ lists) (suc q) e h = rw (add-suc s q, ← suc-add s q)
     (sides-at K set first end (suc s) lists q (both (ltb (eventOf K first s) end64 && all (sound set end (eventOf K first s)) ds) _ e .1) (omega arith))
 
-sides-named : (set end event : ℕ) (ds : List ℤ) → all (sound set end event) ds ≡ true → all (named event) ds ≡ true
+pub sides-named : (set end event : ℕ) (ds : List ℤ) → all (sound set end event) ds ≡ true → all (named event) ds ≡ true
 unfolding all sound named
 sides-named set end event [] e = refl
 sides-named set end event (d ∷ ds) e =
@@ -53,7 +53,7 @@ sides-named set end event (d ∷ ds) e =
 pub targets-count : (event from to : ℕ) (ds : List ℤ) → to ≤ length ds → length (map (targetOf event) (slice from to ds)) ≡ to - from
 targets-count event from to ds h = rw length-map (length-slice from to ds h)
 
-module _ (K : ℕ) (first : ℕ) (offsets : List ℕ) (deltas : List ℤ) (r : Edged K first offsets deltas) (slot : ℕ) (h : slot + 1 < length offsets) where
+module _ (K first : ℕ) (offsets : List ℕ) (deltas : List ℤ) (r : Edged K first offsets deltas) (slot : ℕ) (h : slot + 1 < length offsets) where
   in-cut : slot < length (cut offsets deltas)
   in-cut = omega (arith, cut-length offsets deltas)
 
@@ -81,7 +81,7 @@ module _ (K : ℕ) (first : ℕ) (offsets : List ℕ) (deltas : List ℤ) (r : E
 
 -- ── a set without edges ──────────────────────────────────────────────────────────────────────
 
-none-from : (K : ℕ) → (first slot a : ℕ) (bs : List ℕ) (deltas : List ℤ) → climbsTo 0 a bs ≡ true → joined (targetsFrom K first slot (cutFrom a bs deltas)) ≡ []
+none-from : (K first slot a : ℕ) (bs : List ℕ) (deltas : List ℤ) → climbsTo 0 a bs ≡ true → joined (targetsFrom K first slot (cutFrom a bs deltas)) ≡ []
 unfolding climbsTo joined targetsFrom cutFrom
 none-from K first slot a [] deltas e = refl
 none-from K first slot a (b ∷ bs) deltas e =
@@ -89,12 +89,12 @@ none-from K first slot a (b ∷ bs) deltas e =
     let k : b ≤ 0 = low-high 0 b bs (p .1) in
     rw (slice-none a b deltas (omega arith)) (none-from K first (suc slot) b bs deltas (p .1))
 
-no-lists : (K : ℕ) → (first : ℕ) (offsets : List ℕ) (deltas : List ℤ) → fromTo 0 0 offsets ≡ true → joined (targetsFrom K first 0 (cut offsets deltas)) ≡ []
+no-lists : (K first : ℕ) (offsets : List ℕ) (deltas : List ℤ) → fromTo 0 0 offsets ≡ true → joined (targetsFrom K first 0 (cut offsets deltas)) ≡ []
 unfolding fromTo cut joined targetsFrom
 no-lists K first [] deltas e = refl
 no-lists K first (a ∷ bs) deltas e = none-from K first 0 a bs deltas (both (eqb a 0) _ e .1)
 
-pub no-edges : (K : ℕ) → (first count : ℕ) (offsets : List ℕ) (deltas : List ℤ) → Readable K first (columnsOf count offsets deltas) → count ≡ 0
+pub no-edges : (K first count : ℕ) (offsets : List ℕ) (deltas : List ℤ) → Readable K first (columnsOf count offsets deltas) → count ≡ 0
     → joined (slotsOf K first (columnsOf count offsets deltas)) ≡ []
 unfolding slotsOf
 no-edges K first count offsets deltas r h = no-lists K first offsets deltas

@@ -50,12 +50,12 @@ module _ (K : ℕ) (f : ℕ → ℕ → List ℕ) (first rows : ℕ) where
       each-flat P (row K f) (upFrom first rows)
       (each-all (λ n. Each P (row K f n)) (λ n. each-map P (f n) (upFrom 0 K) (each-all (λ k. P (f n k)) (h n) (upFrom 0 K))) (upFrom first rows))
 
-list-before : (K : ℕ) → (first : ℕ) (lists : List (List ℕ)) (k n : ℕ) → ltb n first ≡ true → listOf K first lists k n ≡ []
+list-before : (K first : ℕ) (lists : List (List ℕ)) (k n : ℕ) → ltb n first ≡ true → listOf K first lists k n ≡ []
 unfolding listOf
 list-before K first lists k n h = rw h
 
 -- what each list of a table and the empty list are, the list of any number is
-list-each : (K : ℕ) → (P : List ℕ → Type 0) (first : ℕ) (lists : List (List ℕ)) (k n : ℕ) → P [] → Each P lists → P (listOf K first lists k n)
+list-each : (K : ℕ) (P : List ℕ → Type 0) (first : ℕ) (lists : List (List ℕ)) (k n : ℕ) → P [] → Each P lists → P (listOf K first lists k n)
 unfolding listOf
 list-each K P first lists k n empty each = go (ltb n first)
   where
@@ -70,7 +70,7 @@ list-each K P first lists k n empty each = go (ltb n first)
 
 -- ── reverse lists ────────────────────────────────────────────────────────────────────────────
 
-module _ (K : ℕ) (first rows : ℕ) (lists : List (List ℕ)) (k n : ℕ) where
+module _ (K first rows : ℕ) (lists : List (List ℕ)) (k n : ℕ) where
   -- the reverse list of a number of the file holds the events of the file whose list names the number
   pub turned-events : k < K → first ≤ n → n < first + rows → (e : ℕ)
       → mem e (listOf K first (reverseLists K first rows lists) k n) ≡ (inFile first (first + rows) e && mem n (listOf K first lists k e))
@@ -136,7 +136,7 @@ module _ (child parent kind : ℕ) where
       go true rest h = rw h (or-true (eqb child c))
       go false rest h = h
 
-module _ (K : ℕ) (first rows : ℕ) (e : InboundColumns) (k n : ℕ) where
+module _ (K first rows : ℕ) (e : InboundColumns) (k n : ℕ) where
   -- a number is in the inbound list of a number of the file exactly if such an edge is given
   pub inbound-edges : k < K → first ≤ n → n < first + rows → (c : ℕ) → (mem c (listOf K first (inboundLists K first rows e) k n) ≡ true) ↔ GivenEdge e c n k
   unfolding inboundLists

@@ -96,8 +96,7 @@ all-filter q f p (x ∷ xs) h =
     let b = both (q (f x)) (all q (map f xs)) h in
     elim (tested (p x)) [ inl e ↦ rw (e, b .0) (all-filter q f p xs (b .1)) | inr e ↦ rw e (all-filter q f p xs (b .1)) ]
 
-within-reach : (K : ℕ) → (low high first slot : ℕ) (ls : List (List ℕ)) → all fits63 (joined (deltasFrom K first slot ls)) ≡ true
-    → all fits63 (joined (deltasFrom K first slot (within low high ls))) ≡ true
+within-reach : (K low high first slot : ℕ) (ls : List (List ℕ)) → all fits63 (joined (deltasFrom K first slot ls)) ≡ true → all fits63 (joined (deltasFrom K first slot (within low high ls))) ≡ true
 unfolding within joined deltasFrom
 within-reach K low high first slot [] h = h
 within-reach K low high first slot (l ∷ ls) h =
@@ -106,13 +105,13 @@ within-reach K low high first slot (l ∷ ls) h =
     rw (all-append fits63 (map f (filter (inFile low high) l)) (joined (deltasFrom K first (suc slot) (within low high ls))), all-filter fits63 f (inFile low high) l (b .0))
     (within-reach K low high first (suc slot) ls (b .1))
 
-pub within-fits : (K : ℕ) → (low high first : ℕ) (ls : List (List ℕ)) → deltasFit K first ls ≡ true → deltasFit K first (within low high ls) ≡ true
+pub within-fits : (K low high first : ℕ) (ls : List (List ℕ)) → deltasFit K first ls ≡ true → deltasFit K first (within low high ls) ≡ true
 unfolding deltasFit
 within-fits K low high first ls h = within-reach K low high first 0 ls h
 
 -- ── the rows of a section ────────────────────────────────────────────────────────────────────
 
-module _ (K : ℕ) (low high from n : ℕ) (offsets targets : List ℕ) where
+module _ (K low high from n : ℕ) (offsets targets : List ℕ) where
   -- no more numbers than the table has
   pub section-few : fromTo 0 (length targets) offsets ≡ true → length (joined (rowsWithin K low high from n offsets targets)) ≤ length targets
   section-few e =

@@ -13,6 +13,8 @@ use Rattle.columns.specs.EdgeSet.{EdgeSet, forward, reverse, inbound, is
 use Rattle.columns.specs.Reading.{Labels, setRules, setLengths}
 use Rattle.columns.specs.declared.kind.Kind.{Kind}
 use Rattle.columns.specs.declared.kind.Kind.the-variants.{Prev, Auth}
+use Rattle.columns.specs.declared.kind.Kinds.{Kinds}
+use Rattle.columns.specs.declared.kind.Kinds.the-variants.{Two, Three}
 use Rattle.columns.specs.declared.set.Set.{Set}
 use Rattle.columns.specs.declared.set.Set.the-variants.{Forward, Reverse, Inbound}
 use Rattle.columns.specs.declared.refusal.Refusal.{Refusal}
@@ -26,6 +28,11 @@ use Rattle.columns.specs.declared.refusal.Counted.the-variants.{Entries,
 abbrev pub kindOf : Kind → ℕ
 kindOf Prev = 0
 kindOf Auth = 1
+
+-- how many kinds a file has, which is how many slots a row has
+abbrev pub widthOf : Kinds → ℕ
+widthOf Two = 2
+widthOf Three = 3
 
 -- a set's number among the three
 abbrev pub setNumber : Set → ℕ

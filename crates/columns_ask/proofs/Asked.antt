@@ -10,7 +10,7 @@ use lib.ListN.{length, length-append}
 use lib.Seq.{sets}
 use borrow.Author.Tests.{ltb-false}
 use Rattle.lists.proofs.Slices.{sets-append}
-use Rattle.columns.specs.Limits.{kinds, maxNumbers}
+use Rattle.columns.specs.Limits.{maxNumbers}
 use Rattle.columns.specs.Refusal.{unless, refuse, firstOf, Lent, limits}
 use Rattle.columns.specs.EdgeSet.{EdgeSet, reverse, inbound}
 use Rattle.columns.specs.Reading.{slotsOf, setRules, setLengths}
@@ -31,103 +31,102 @@ use Rattle.columns_ask.proofs.Limited.{readable-reverse, readable-inbou
 
 -- ── parents ──────────────────────────────────────────────────────────────────────────────────
 
-module _ (first rows end : ℕ) (s : EdgeSet) (kind : Kind) (slot number : ℕ) (old : List ℕ) (k : Ruling)
-    (e : k ≡ ruling (lentRules kinds 0 first rows end s (room (length old)))) where
-  asked : parents kinds first rows end s (kindOf kind) number (room (length old))
-      ≡ unless (lentRules kinds 0 first rows end s (room (length old))) (listOf kinds first (slotsOf kinds first s) (kindOf kind) number)
+-- a host names the number of kinds, and W is that number
+module _ (W K : ℕ) (w : K ≡ W) (first rows end : ℕ) (s : EdgeSet) (kind : Kind) (slot number : ℕ) (old : List ℕ) (k : Ruling)
+    (e : k ≡ ruling (lentRules K 0 first rows end s (room (length old)))) where
+  asked : parents W first rows end s (kindOf kind) number (room (length old)) ≡ unless (lentRules K 0 first rows end s (room (length old))) (listOf K first (slotsOf K first s) (kindOf kind) number)
   unfolding parents lentRules
-  asked = refl
+  asked = rw (← w)
 
   module _ (h : k ≡ Kept) (i : slot ≡ kindOf kind) where
-    pub parents-counted : (n : ℕ) → n ≡ 0 + length (listOf kinds first (slotsOf kinds first s) slot number)
-        → Entries n ≡ countedOf (parents kinds first rows end s (kindOf kind) number (room (length old)))
+    pub parents-counted : (n : ℕ) → n ≡ 0 + length (listOf K first (slotsOf K first s) slot number) → Entries n ≡ countedOf (parents W first rows end s (kindOf kind) number (room (length old)))
     parents-counted n f = rw asked (list-counted k _ _ old e h n (rw (← i) (f ∙ omega arith)))
 
-    pub parents-written : (out : List ℕ) → out ≡ sets old 0 (listOf kinds first (slotsOf kinds first s) slot number)
-        → out ≡ writtenOver old (parents kinds first rows end s (kindOf kind) number (room (length old)))
+    pub parents-written : (out : List ℕ) → out ≡ sets old 0 (listOf K first (slotsOf K first s) slot number)
+        → out ≡ writtenOver old (parents W first rows end s (kindOf kind) number (room (length old)))
     parents-written out f =
-        let n = list-few kinds first s (readable kinds 0 first rows end s (room (length old)) k e h) (kindOf kind) number in
-        rw asked (list-written k _ _ old e h (omega (arith, n, lent-room kinds 0 first rows end s (length old) k e h)) out (rw (← i) f))
+        let n = list-few K first s (readable K 0 first rows end s (room (length old)) k e h) (kindOf kind) number in
+        rw asked (list-written k _ _ old e h (omega (arith, n, lent-room K 0 first rows end s (length old) k e h)) out (rw (← i) f))
 
-  pub parents-refused : (why : Refusal) → k ≡ Broken why → Refused why ≡ countedOf (parents kinds first rows end s (kindOf kind) number (room (length old)))
-  parents-refused why h = rw asked (list-refused k _ (listOf kinds first (slotsOf kinds first s) (kindOf kind) number) old e why h)
+  pub parents-refused : (why : Refusal) → k ≡ Broken why → Refused why ≡ countedOf (parents W first rows end s (kindOf kind) number (room (length old)))
+  parents-refused why h = rw asked (list-refused k _ (listOf K first (slotsOf K first s) (kindOf kind) number) old e why h)
 
-  pub parents-as-were : (why : Refusal) → k ≡ Broken why → old ≡ writtenOver old (parents kinds first rows end s (kindOf kind) number (room (length old)))
-  parents-as-were why h = rw asked (list-as-was k _ (listOf kinds first (slotsOf kinds first s) (kindOf kind) number) old e why h)
+  pub parents-as-were : (why : Refusal) → k ≡ Broken why → old ≡ writtenOver old (parents W first rows end s (kindOf kind) number (room (length old)))
+  parents-as-were why h = rw asked (list-as-was k _ (listOf K first (slotsOf K first s) (kindOf kind) number) old e why h)
 
 -- ── children ─────────────────────────────────────────────────────────────────────────────────
 
 -- two lists one after the other
-module _ (first : ℕ) (r i : EdgeSet) (kind number n m : ℕ) (e : n ≡ length (listOf kinds first (slotsOf kinds first r) kind number))
-    (f : m ≡ length (listOf kinds first (slotsOf kinds first i) kind number)) where
-  both-long : length (childrenOf kinds first r i kind number) ≡ n + m
+module _ (K first : ℕ) (r i : EdgeSet) (kind number n m : ℕ) (e : n ≡ length (listOf K first (slotsOf K first r) kind number)) (f : m ≡ length (listOf K first (slotsOf K first i) kind number)) where
+  both-long : length (childrenOf K first r i kind number) ≡ n + m
   unfolding childrenOf
-  both-long = omega (arith, length-append (listOf kinds first (slotsOf kinds first r) kind number) (listOf kinds first (slotsOf kinds first i) kind number))
+  both-long = omega (arith, length-append (listOf K first (slotsOf K first r) kind number) (listOf K first (slotsOf K first i) kind number))
 
-  pub many-children : ltb 4096 (n + m) ≡ ltb maxNumbers (length (childrenOf kinds first r i kind number))
+  pub many-children : ltb 4096 (n + m) ≡ ltb maxNumbers (length (childrenOf K first r i kind number))
   many-children = rw both-long
 
-module _ (first : ℕ) (r i : EdgeSet) (kind number n : ℕ) (e : n ≡ 0 + length (listOf kinds first (slotsOf kinds first r) kind number)) where
-  pub both-counted : (m : ℕ) → m ≡ n + length (listOf kinds first (slotsOf kinds first i) kind number) → m ≡ length (childrenOf kinds first r i kind number)
+module _ (K first : ℕ) (r i : EdgeSet) (kind number n : ℕ) (e : n ≡ 0 + length (listOf K first (slotsOf K first r) kind number)) where
+  pub both-counted : (m : ℕ) → m ≡ n + length (listOf K first (slotsOf K first i) kind number) → m ≡ length (childrenOf K first r i kind number)
   unfolding childrenOf
-  both-counted m f = omega (arith, length-append (listOf kinds first (slotsOf kinds first r) kind number) (listOf kinds first (slotsOf kinds first i) kind number))
+  both-counted m f = omega (arith, length-append (listOf K first (slotsOf K first r) kind number) (listOf K first (slotsOf K first i) kind number))
 
-  pub both-written : (old mid out : List ℕ) → mid ≡ sets old 0 (listOf kinds first (slotsOf kinds first r) kind number) → out ≡ sets mid n (listOf kinds first (slotsOf kinds first i) kind number)
-      → out ≡ sets old 0 (childrenOf kinds first r i kind number)
+  pub both-written : (old mid out : List ℕ) → mid ≡ sets old 0 (listOf K first (slotsOf K first r) kind number) → out ≡ sets mid n (listOf K first (slotsOf K first i) kind number)
+      → out ≡ sets old 0 (childrenOf K first r i kind number)
   unfolding childrenOf
-  both-written old mid out g p = p ∙ rw (e, g, sets-append old 0 (listOf kinds first (slotsOf kinds first r) kind number) (listOf kinds first (slotsOf kinds first i) kind number))
+  both-written old mid out g p = p ∙ rw (e, g, sets-append old 0 (listOf K first (slotsOf K first r) kind number) (listOf K first (slotsOf K first i) kind number))
 
 -- the rules of the two sets, then that of the answer
-module _ (first rows end : ℕ) (r i : EdgeSet) (kind number : ℕ) (lent : List Lent) (k : Ruling) (e : k ≡ ruling (childrenRules first rows end r i lent)) where
-  module _ (h : k ≡ Kept) (over : Bool) (f : over ≡ ltb maxNumbers (length (childrenOf kinds first r i kind number))) where
-    pub over-children : over ≡ true → Broken OverNumbers ≡ ruling (askedRules first rows end r i kind number lent)
+module _ (K first rows end : ℕ) (r i : EdgeSet) (kind number : ℕ) (lent : List Lent) (k : Ruling) (e : k ≡ ruling (childrenRules K first rows end r i lent)) where
+  module _ (h : k ≡ Kept) (over : Bool) (f : over ≡ ltb maxNumbers (length (childrenOf K first r i kind number))) where
+    pub over-children : over ≡ true → Broken OverNumbers ≡ ruling (askedRules K first rows end r i kind number lent)
     unfolding askedRules firstOf
-    over-children g = then-rest k (childrenRules first rows end r i lent)
-        (refuse OverNumbers (ltb maxNumbers (length (childrenOf kinds first r i kind number))) ∷ []) e h (Broken OverNumbers) (rw (← f, g))
+    over-children g = then-rest k (childrenRules K first rows end r i lent) (refuse OverNumbers (ltb maxNumbers (length (childrenOf K first r i kind number))) ∷ []) e h
+        (Broken OverNumbers) (rw (← f, g))
 
-    pub few-children : over ≡ false → Kept ≡ ruling (askedRules first rows end r i kind number lent)
+    pub few-children : over ≡ false → Kept ≡ ruling (askedRules K first rows end r i kind number lent)
     unfolding askedRules firstOf
-    few-children g = then-rest k (childrenRules first rows end r i lent) (refuse OverNumbers (ltb maxNumbers (length (childrenOf kinds first r i kind number))) ∷ []) e h Kept (rw (← f, g))
+    few-children g = then-rest k (childrenRules K first rows end r i lent) (refuse OverNumbers (ltb maxNumbers (length (childrenOf K first r i kind number))) ∷ []) e h Kept (rw (← f, g))
 
-  pub sets-refused : (why : Refusal) → k ≡ Broken why → Broken why ≡ ruling (askedRules first rows end r i kind number lent)
+  pub sets-refused : (why : Refusal) → k ≡ Broken why → Broken why ≡ ruling (askedRules K first rows end r i kind number lent)
   unfolding askedRules
   sets-refused why h = then-broken k _ _ e why h
 
-module _ (first rows end : ℕ) (r i : EdgeSet) (kind : Kind) (slot number : ℕ) (j : slot ≡ kindOf kind) (old : List ℕ) (k : Ruling)
-    (e : k ≡ ruling (askedRules first rows end r i slot number (room (length old)))) where
-  asked-both : children kinds first rows end r i (kindOf kind) number (room (length old))
-      ≡ unless (askedRules first rows end r i slot number (room (length old))) (childrenOf kinds first r i slot number)
+module _ (K first rows end : ℕ) (r i : EdgeSet) (slot number : ℕ) (old : List ℕ) (k : Ruling)
+    (e : k ≡ ruling (askedRules K first rows end r i slot number (room (length old)))) (h : k ≡ Kept) where
+  kept-both : childrenRules K first rows end r i (room (length old)) ≡ none
+  unfolding askedRules
+  kept-both = each-none _ (told-kept _ e h) .0
+
+  pub reverse-readable : Readable K first r
+  reverse-readable = readable-reverse K first rows end r i (room (length old)) Kept (ap ruling (sym kept-both)) refl
+
+  pub inbound-readable : Readable K first i
+  inbound-readable = readable-inbound K first rows end r i (room (length old)) Kept (ap ruling (sym kept-both)) refl
+
+-- a host names the number of kinds, and W is that number
+module _ (W K : ℕ) (w : K ≡ W) (first rows end : ℕ) (r i : EdgeSet) (kind : Kind) (slot number : ℕ) (j : slot ≡ kindOf kind) (old : List ℕ) (k : Ruling)
+    (e : k ≡ ruling (askedRules K first rows end r i slot number (room (length old)))) where
+  asked-both : children W first rows end r i (kindOf kind) number (room (length old)) ≡ unless (askedRules K first rows end r i slot number (room (length old))) (childrenOf K first r i slot number)
   unfolding children askedRules childrenRules
-  asked-both = rw j (ap (λ o. unless o (childrenOf kinds first r i (kindOf kind) number))
-      (first-append (limits (rows ∷ []) (setLengths r ++ setLengths i) (room (length old)) ∷ setRules kinds reverse first rows end r ∷ setRules kinds inbound first rows end i ∷ [])
-      (refuse OverNumbers (ltb maxNumbers (length (childrenOf kinds first r i (kindOf kind) number))) ∷ [])))
+  asked-both = rw (← w, j) (ap (λ o. unless o (childrenOf K first r i (kindOf kind) number))
+      (first-append (limits (rows ∷ []) (setLengths r ++ setLengths i) (room (length old)) ∷ setRules K reverse first rows end r ∷ setRules K inbound first rows end i ∷ [])
+      (refuse OverNumbers (ltb maxNumbers (length (childrenOf K first r i (kindOf kind) number))) ∷ [])))
 
   module _ (h : k ≡ Kept) where
-    kept-both : childrenRules first rows end r i (room (length old)) ≡ none
-    unfolding askedRules
-    kept-both = each-none _ (told-kept _ e h) .0
-
-    pub reverse-readable : Readable kinds first r
-    reverse-readable = readable-reverse first rows end r i (room (length old)) Kept (ap ruling (sym kept-both)) refl
-
-    pub inbound-readable : Readable kinds first i
-    inbound-readable = readable-inbound first rows end r i (room (length old)) Kept (ap ruling (sym kept-both)) refl
-
-    pub children-counted : (n : ℕ) → n ≡ length (childrenOf kinds first r i slot number) → Entries n ≡ countedOf (children kinds first rows end r i (kindOf kind) number (room (length old)))
+    pub children-counted : (n : ℕ) → n ≡ length (childrenOf K first r i slot number) → Entries n ≡ countedOf (children W first rows end r i (kindOf kind) number (room (length old)))
     children-counted n f = rw asked-both (list-counted k _ _ old e h n f)
 
-    fits-both : length (childrenOf kinds first r i slot number) ≤ length old
+    fits-both : length (childrenOf K first r i slot number) ≤ length old
     unfolding askedRules childrenRules
     fits-both =
-        let few = ltb-false maxNumbers (length (childrenOf kinds first r i slot number)) (not-refused OverNumbers _ (each-none _ (told-kept _ e h) .1 .0)) in
-        omega (arith, few, room-kept _ _ (length old) (each-none _ kept-both .0))
+        let few = ltb-false maxNumbers (length (childrenOf K first r i slot number)) (not-refused OverNumbers _ (each-none _ (told-kept _ e h) .1 .0)) in
+        omega (arith, few, room-kept _ _ (length old) (each-none _ (kept-both K first rows end r i slot number old k e h) .0))
 
-    pub children-written : (out : List ℕ) → out ≡ sets old 0 (childrenOf kinds first r i slot number)
-        → out ≡ writtenOver old (children kinds first rows end r i (kindOf kind) number (room (length old)))
+    pub children-written : (out : List ℕ) → out ≡ sets old 0 (childrenOf K first r i slot number) → out ≡ writtenOver old (children W first rows end r i (kindOf kind) number (room (length old)))
     children-written out f = rw asked-both (list-written k _ _ old e h fits-both out f)
 
-  pub children-refused : (why : Refusal) → k ≡ Broken why → Refused why ≡ countedOf (children kinds first rows end r i (kindOf kind) number (room (length old)))
-  children-refused why h = rw asked-both (list-refused k _ (childrenOf kinds first r i slot number) old e why h)
+  pub children-refused : (why : Refusal) → k ≡ Broken why → Refused why ≡ countedOf (children W first rows end r i (kindOf kind) number (room (length old)))
+  children-refused why h = rw asked-both (list-refused k _ (childrenOf K first r i slot number) old e why h)
 
-  pub children-as-were : (why : Refusal) → k ≡ Broken why → old ≡ writtenOver old (children kinds first rows end r i (kindOf kind) number (room (length old)))
-  children-as-were why h = rw asked-both (list-as-was k _ (childrenOf kinds first r i slot number) old e why h)
+  pub children-as-were : (why : Refusal) → k ≡ Broken why → old ≡ writtenOver old (children W first rows end r i (kindOf kind) number (room (length old)))
+  children-as-were why h = rw asked-both (list-as-was k _ (childrenOf K first r i slot number) old e why h)

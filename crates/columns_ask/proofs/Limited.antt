@@ -12,7 +12,7 @@ use borrow.Author.Tests.{eqb-true}
 use Rattle.lists.specs.Lists.{any, all}
 use Rattle.lists.proofs.Tests.{both, any-append}
 use Rattle.lists.proofs.Once.{or-is-false}
-use Rattle.columns.specs.Limits.{kinds, maxNumbers}
+use Rattle.columns.specs.Limits.{maxNumbers}
 use Rattle.columns.specs.Refusal.{Lent, short, limits}
 use Rattle.columns.specs.EdgeSet.{EdgeSet, reverse, inbound}
 use Rattle.columns.specs.Reading.{setRules, setLengths, labelRules}
@@ -30,19 +30,19 @@ use Rattle.columns_ask.specs.Views.{childrenRules, lentLabelRules}
 -- ── limits ───────────────────────────────────────────────────────────────────────────────────
 
 -- a reverse set and an inbound set
-module _ (first rows end rc : ℕ) (ro : List ℕ) (rd : List ℤ) (ic : ℕ) (io : List ℕ) (id : List ℤ) (out : ℕ) (over : Bool) (k : Ruling)
+module _ (K first rows end rc : ℕ) (ro : List ℕ) (rd : List ℤ) (ic : ℕ) (io : List ℕ) (id : List ℤ) (out : ℕ) (over : Bool) (k : Ruling)
     (f : over ≡ any (ltb maxNumbers) (length ro ∷ length rd ∷ length io ∷ length id ∷ []))
     (e : k ≡ ruling (limitsOf rows over (ltb out 4096))) where
   both-limits : limits (rows ∷ []) (setLengths (columnsOf rc ro rd) ++ setLengths (columnsOf ic io id)) (room out) ≡ limitsOf rows over (ltb out 4096)
   unfolding limits limitsOf setLengths short any
   both-limits = rw (f, or-false (ltb out 4096))
 
-  pub children-kept : k ≡ Kept → (q : Ruling) → q ≡ ruling (bothRules kinds first rows end (columnsOf rc ro rd) (columnsOf ic io id))
-      → q ≡ ruling (childrenRules first rows end (columnsOf rc ro rd) (columnsOf ic io id) (room out))
+  pub children-kept : k ≡ Kept → (q : Ruling) → q ≡ ruling (bothRules K first rows end (columnsOf rc ro rd) (columnsOf ic io id))
+      → q ≡ ruling (childrenRules K first rows end (columnsOf rc ro rd) (columnsOf ic io id) (room out))
   unfolding childrenRules bothRules
   children-kept h q g = then-rest k _ _ (e ∙ ap ruling (sym both-limits)) h q g
 
-  pub children-broken : (why : Refusal) → k ≡ Broken why → Broken why ≡ ruling (childrenRules first rows end (columnsOf rc ro rd) (columnsOf ic io id) (room out))
+  pub children-broken : (why : Refusal) → k ≡ Broken why → Broken why ≡ ruling (childrenRules K first rows end (columnsOf rc ro rd) (columnsOf ic io id) (room out))
   unfolding childrenRules
   children-broken why h = then-broken k _ _ (e ∙ ap ruling (sym both-limits)) why h
 
@@ -63,21 +63,21 @@ module _ (rows : ℕ) (chains seqs : List ℕ) (over : Bool) (k : Ruling) (f : o
 
 -- ── columns whose rules are kept ─────────────────────────────────────────────────────────────
 
-module _ (first rows end : ℕ) (r i : EdgeSet) (lent : List Lent) (k : Ruling) (e : k ≡ ruling (childrenRules first rows end r i lent)) (h : k ≡ Kept) where
+module _ (K first rows end : ℕ) (r i : EdgeSet) (lent : List Lent) (k : Ruling) (e : k ≡ ruling (childrenRules K first rows end r i lent)) (h : k ≡ Kept) where
   apart : (any (ltb maxNumbers) (setLengths r) ≡ false) × (any (ltb maxNumbers) (setLengths i) ≡ false)
   unfolding childrenRules
   apart = or-is-false _ _ (sym (any-append (ltb maxNumbers) (setLengths r) (setLengths i)) ∙ few-numbers _ _ lent (each-none _ (told-kept _ e h) .0))
 
-  rules : (setRules kinds reverse first rows end r ≡ none) × (setRules kinds inbound first rows end i ≡ none)
+  rules : (setRules K reverse first rows end r ≡ none) × (setRules K inbound first rows end i ≡ none)
   unfolding childrenRules
   rules =
       let p = each-none _ (told-kept _ e h) in
       (p .1 .0, p .1 .1 .0)
 
-  pub readable-reverse : Readable kinds first r
+  pub readable-reverse : Readable K first r
   readable-reverse = record { set = reverse; rows = rows; end = end; kept = rules .0; few = few-deltas r (apart .0) }
 
-  pub readable-inbound : Readable kinds first i
+  pub readable-inbound : Readable K first i
   readable-inbound = record { set = inbound; rows = rows; end = end; kept = rules .1; few = few-deltas i (apart .1) }
 
 -- label columns

@@ -4,7 +4,7 @@ use mathlib.Core.Option.{Option, none, some}
 use Prim.Native.Nat.{ℕ}
 use lib.Dec.{ltb}
 use lib.ListN.{length}
-use Rattle.columns.specs.Limits.{kinds, maxNumbers}
+use Rattle.columns.specs.Limits.{maxNumbers}
 use Rattle.columns.specs.Refusal.{Verdict, refused, accepted, refuse, firstOf, Lent, limits}
 use Rattle.columns.specs.EdgeSet.{EdgeSet, reverse, inbound}
 use Rattle.columns.specs.Reading.{Label, Labels, setRules, setLengths, labelRules}
@@ -15,14 +15,14 @@ use Rattle.columns_ask.specs.declared.Labelled.{Labelled}
 use Rattle.columns_ask.specs.declared.Labelled.the-variants as labelled
 
 -- the limits and the rules of the two sets that children come from
-unfoldable pub childrenRules : ℕ → ℕ → ℕ → EdgeSet → EdgeSet → List Lent → Option Refusal
-childrenRules first rows end r i lent =
-    firstOf (limits (rows ∷ []) (setLengths r ++ setLengths i) lent ∷ setRules kinds reverse first rows end r ∷ setRules kinds inbound first rows end i ∷ [])
+unfoldable pub childrenRules : (K : ℕ) → ℕ → ℕ → ℕ → EdgeSet → EdgeSet → List Lent → Option Refusal
+childrenRules K first rows end r i lent =
+    firstOf (limits (rows ∷ []) (setLengths r ++ setLengths i) lent ∷ setRules K reverse first rows end r ∷ setRules K inbound first rows end i ∷ [])
 
 -- the same, and whether the number asked for has more children than a column holds
-unfoldable pub askedRules : ℕ → ℕ → ℕ → EdgeSet → EdgeSet → ℕ → ℕ → List Lent → Option Refusal
-askedRules first rows end r i kind number lent =
-    firstOf (childrenRules first rows end r i lent ∷ refuse OverNumbers (ltb maxNumbers (length (childrenOf kinds first r i kind number))) ∷ [])
+unfoldable pub askedRules : (K : ℕ) → ℕ → ℕ → ℕ → EdgeSet → EdgeSet → ℕ → ℕ → List Lent → Option Refusal
+askedRules K first rows end r i kind number lent =
+    firstOf (childrenRules K first rows end r i lent ∷ refuse OverNumbers (ltb maxNumbers (length (childrenOf K first r i kind number))) ∷ [])
 
 -- the limits and the rules of label columns that are lent by themselves
 unfoldable pub lentLabelRules : ℕ → Labels → Option Refusal

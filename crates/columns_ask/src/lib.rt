@@ -1,6 +1,7 @@
 // Questions over lent columns: parents, children and label of a number. The columns that a question uses are read first.
 use columns::kind;
 use columns::kind::Kind;
+use columns::kind::Kinds;
 use columns::refusal::Counted;
 use columns::refusal::Refusal;
 use columns::refusal::Ruling;
@@ -13,11 +14,11 @@ ghost use lib.Dec.{ltb};
 ghost use lib.ListN.{length};
 ghost use lib.Seq.{sets};
 ghost use Rattle.lists.specs.Lists.{all};
-ghost use Rattle.columns.specs.Limits.{kinds, maxNumbers, end32};
+ghost use Rattle.columns.specs.Limits.{maxNumbers, end32, Served};
 ghost use Rattle.columns.specs.Refusal.{accepted};
 ghost use Rattle.columns.specs.Reading.{slotsOf, labelsOf};
 ghost use Rattle.columns.specs.Questions as asked;
-ghost use Rattle.columns.specs.Answers.{kindOf, short32, columnsOf, labelColumns, room, ruling, countedOf, writtenOver};
+ghost use Rattle.columns.specs.Answers.{kindOf, short32, columnsOf, labelColumns, room, ruling, countedOf, writtenOver, widthOf};
 ghost use Rattle.columns.specs.Readable.{Readable};
 ghost use Rattle.columns_ask.specs.Views.{childrenRules, askedRules, lentLabelRules, labelledOf};
 
@@ -38,6 +39,7 @@ pub enum Labelled {
 
 // How many numbers the list of a number and a kind has, in a set whose rules are kept.
 fn list_length(
+    width: usize,
     first: u64,
     count: u64,
     offsets: &[u64],
@@ -45,9 +47,10 @@ fn list_length(
     kind: usize,
     number: u64,
 ) -> usize
-    requires { ⌜ kind < kinds ⌝ }
-    requires { ⌜ Readable kinds first (columnsOf count (now offsets) (now deltas)) ⌝ }
-    ensures { λ r. ⌜ r ≡ length (asked.listOf kinds first (slotsOf kinds first (columnsOf count (now (offsets .entry)) (now (deltas .entry)))) kind number) ⌝ }
+    requires { ⌜ Served width ⌝ }
+    requires { ⌜ kind < width ⌝ }
+    requires { ⌜ Readable width first (columnsOf count (now offsets) (now deltas)) ⌝ }
+    ensures { λ r. ⌜ r ≡ length (asked.listOf width first (slotsOf width first (columnsOf count (now (offsets .entry)) (now (deltas .entry)))) kind number) ⌝ }
 {
     if count == 0 {
         return 0;
@@ -56,15 +59,16 @@ fn list_length(
         return 0;
     }
     let row = number - first;
-    if (offsets.len() / 2) as u64 <= row {
+    if ((offsets.len() - 1) / width) as u64 <= row {
         return 0;
     }
-    let slot = 2 * (row as usize) + kind;
+    let slot = width * (row as usize) + kind;
     (offsets[slot + 1] - offsets[slot]) as usize
 }
 
 // Writes that list from `at` on, and answers where it ends.
 fn write_list(
+    width: usize,
     first: u64,
     count: u64,
     offsets: &[u64],
@@ -74,20 +78,22 @@ fn write_list(
     out: &mut [u64],
     at: usize,
 ) -> usize
-    requires { ⌜ (kind < kinds) × (at ≤ maxNumbers) ⌝ }
-    requires { ⌜ Readable kinds first (columnsOf count (now offsets) (now deltas)) ⌝ }
-    ensures { λ r. ⌜ r ≡ at + length (asked.listOf kinds first (slotsOf kinds first (columnsOf count (now (offsets .entry)) (now (deltas .entry)))) kind number) ⌝ }
-    ensures { λ _. ⌜ now (out .exit) ≡ sets (now (out .entry)) at (asked.listOf kinds first (slotsOf kinds first (columnsOf count (now (offsets .entry)) (now (deltas .entry)))) kind number) ⌝ }
+    requires { ⌜ Served width ⌝ }
+    requires { ⌜ (kind < width) × (at ≤ maxNumbers) ⌝ }
+    requires { ⌜ Readable width first (columnsOf count (now offsets) (now deltas)) ⌝ }
+    ensures { λ r. ⌜ r ≡ at + length (asked.listOf width first (slotsOf width first (columnsOf count (now (offsets .entry)) (now (deltas .entry)))) kind number) ⌝ }
+    ensures { λ _. ⌜ now (out .exit) ≡ sets (now (out .entry)) at (asked.listOf width first (slotsOf width first (columnsOf count (now (offsets .entry)) (now (deltas .entry)))) kind number) ⌝ }
 {
-    if list_length(first, count, offsets, deltas, kind, number) == 0 {
+    if list_length(width, first, count, offsets, deltas, kind, number) == 0 {
         return at;
     }
-    let slot = 2 * ((number - first) as usize) + kind;
-    sets::write_slot(first, offsets, deltas, slot, out, at)
+    let slot = width * ((number - first) as usize) + kind;
+    sets::write_slot(width, first, offsets, deltas, slot, number, out, at)
 }
 
 // The parents of a number by a kind, in the order in which they stand.
 pub fn parents(
+    kinds: Kinds,
     first: u64,
     rows: usize,
     end: u64,
@@ -98,11 +104,14 @@ pub fn parents(
     number: u64,
     out: &mut [u64],
 ) -> Counted
-    ensures { λ r. ⌜ r ≡ countedOf (asked.parents kinds first rows end (columnsOf count (now (offsets .entry)) (now (deltas .entry))) (kindOf kind) number (room (length (now (out .entry))))) ⌝ }
+    ensures { λ r. ⌜ r ≡ countedOf (asked.parents (widthOf kinds) first rows end (columnsOf count (now (offsets .entry)) (now (deltas .entry))) (kindOf kind) number
+        (room (length (now (out .entry))))) ⌝ }
     ensures { λ _. ⌜ now (out .exit) ≡ writtenOver (now (out .entry))
-        (asked.parents kinds first rows end (columnsOf count (now (offsets .entry)) (now (deltas .entry))) (kindOf kind) number (room (length (now (out .entry))))) ⌝ }
+        (asked.parents (widthOf kinds) first rows end (columnsOf count (now (offsets .entry)) (now (deltas .entry))) (kindOf kind) number (room (length (now (out .entry))))) ⌝ }
 {
+    let width = kind::width(kinds);
     let rules = sets::csr_rules(
+        width,
         Set::Forward,
         first,
         rows,
@@ -114,6 +123,7 @@ pub fn parents(
     );
     match rules {
         Ruling::Kept => Counted::Entries(write_list(
+            width,
             first,
             count,
             offsets,
@@ -129,6 +139,7 @@ pub fn parents(
 
 // The limits and the rules of the two sets that children come from, with a slice of length `out` for the answer.
 fn children_rules(
+    width: usize,
     first: u64,
     rows: usize,
     end: u64,
@@ -140,13 +151,15 @@ fn children_rules(
     ideltas: &[i64],
     out: usize,
 ) -> Ruling
-    ensures { λ r. ⌜ r ≡ ruling (childrenRules first rows end (columnsOf rcount (now (roffsets .entry)) (now (rdeltas .entry)))
+    requires { ⌜ Served width ⌝ }
+    ensures { λ r. ⌜ r ≡ ruling (childrenRules width first rows end (columnsOf rcount (now (roffsets .entry)) (now (rdeltas .entry)))
         (columnsOf icount (now (ioffsets .entry)) (now (ideltas .entry))) (room out)) ⌝ }
 {
     let over = sets::is_any_over(roffsets.len(), rdeltas.len(), ioffsets.len(), ideltas.len());
     let limit = sets::limit_rules(rows, over, out < 4096);
     match limit {
         Ruling::Kept => sets::both_rules(
+            width,
             first,
             rows,
             end,
@@ -163,6 +176,7 @@ fn children_rules(
 
 // Whether a number has more children in two sets whose rules are kept than a column holds.
 fn are_children_over(
+    width: usize,
     first: u64,
     rcount: u64,
     roffsets: &[u64],
@@ -173,19 +187,21 @@ fn are_children_over(
     kind: usize,
     number: u64,
 ) -> bool
-    requires { ⌜ kind < kinds ⌝ }
-    requires { ⌜ Readable kinds first (columnsOf rcount (now roffsets) (now rdeltas)) ⌝ }
-    requires { ⌜ Readable kinds first (columnsOf icount (now ioffsets) (now ideltas)) ⌝ }
-    ensures { λ r. ⌜ r ≡ ltb maxNumbers (length (asked.childrenOf kinds first (columnsOf rcount (now (roffsets .entry)) (now (rdeltas .entry)))
+    requires { ⌜ Served width ⌝ }
+    requires { ⌜ kind < width ⌝ }
+    requires { ⌜ Readable width first (columnsOf rcount (now roffsets) (now rdeltas)) ⌝ }
+    requires { ⌜ Readable width first (columnsOf icount (now ioffsets) (now ideltas)) ⌝ }
+    ensures { λ r. ⌜ r ≡ ltb maxNumbers (length (asked.childrenOf width first (columnsOf rcount (now (roffsets .entry)) (now (rdeltas .entry)))
         (columnsOf icount (now (ioffsets .entry)) (now (ideltas .entry))) kind number)) ⌝ }
 {
-    let n = list_length(first, rcount, roffsets, rdeltas, kind, number);
-    let m = list_length(first, icount, ioffsets, ideltas, kind, number);
+    let n = list_length(width, first, rcount, roffsets, rdeltas, kind, number);
+    let m = list_length(width, first, icount, ioffsets, ideltas, kind, number);
     4096 < n + m
 }
 
 // Writes the children of a number out of two sets whose rules are kept, those in the file first, and answers how many there are.
 fn write_children(
+    width: usize,
     first: u64,
     rcount: u64,
     roffsets: &[u64],
@@ -197,20 +213,42 @@ fn write_children(
     number: u64,
     out: &mut [u64],
 ) -> usize
-    requires { ⌜ kind < kinds ⌝ }
-    requires { ⌜ Readable kinds first (columnsOf rcount (now roffsets) (now rdeltas)) ⌝ }
-    requires { ⌜ Readable kinds first (columnsOf icount (now ioffsets) (now ideltas)) ⌝ }
-    ensures { λ r. ⌜ r ≡ length (asked.childrenOf kinds first (columnsOf rcount (now (roffsets .entry)) (now (rdeltas .entry)))
+    requires { ⌜ Served width ⌝ }
+    requires { ⌜ kind < width ⌝ }
+    requires { ⌜ Readable width first (columnsOf rcount (now roffsets) (now rdeltas)) ⌝ }
+    requires { ⌜ Readable width first (columnsOf icount (now ioffsets) (now ideltas)) ⌝ }
+    ensures { λ r. ⌜ r ≡ length (asked.childrenOf width first (columnsOf rcount (now (roffsets .entry)) (now (rdeltas .entry)))
         (columnsOf icount (now (ioffsets .entry)) (now (ideltas .entry))) kind number) ⌝ }
     ensures { λ _. ⌜ now (out .exit) ≡ sets (now (out .entry)) 0
-        (asked.childrenOf kinds first (columnsOf rcount (now (roffsets .entry)) (now (rdeltas .entry))) (columnsOf icount (now (ioffsets .entry)) (now (ideltas .entry))) kind number) ⌝ }
+        (asked.childrenOf width first (columnsOf rcount (now (roffsets .entry)) (now (rdeltas .entry))) (columnsOf icount (now (ioffsets .entry)) (now (ideltas .entry))) kind number) ⌝ }
 {
-    let n = write_list(first, rcount, roffsets, rdeltas, kind, number, out, 0);
-    write_list(first, icount, ioffsets, ideltas, kind, number, out, n)
+    let n = write_list(
+        width,
+        first,
+        rcount,
+        roffsets,
+        rdeltas,
+        kind,
+        number,
+        out,
+        0,
+    );
+    write_list(
+        width,
+        first,
+        icount,
+        ioffsets,
+        ideltas,
+        kind,
+        number,
+        out,
+        n,
+    )
 }
 
 // The limits and the rules of the two sets, and whether the number has more children than a column holds.
 fn asked_rules(
+    width: usize,
     first: u64,
     rows: usize,
     end: u64,
@@ -224,11 +262,13 @@ fn asked_rules(
     number: u64,
     out: usize,
 ) -> Ruling
-    requires { ⌜ kind < kinds ⌝ }
-    ensures { λ r. ⌜ r ≡ ruling (askedRules first rows end (columnsOf rcount (now (roffsets .entry)) (now (rdeltas .entry)))
+    requires { ⌜ Served width ⌝ }
+    requires { ⌜ kind < width ⌝ }
+    ensures { λ r. ⌜ r ≡ ruling (askedRules width first rows end (columnsOf rcount (now (roffsets .entry)) (now (rdeltas .entry)))
         (columnsOf icount (now (ioffsets .entry)) (now (ideltas .entry))) kind number (room out)) ⌝ }
 {
     let rules = children_rules(
+        width,
         first,
         rows,
         end,
@@ -243,6 +283,7 @@ fn asked_rules(
     match rules {
         Ruling::Kept => {
             if are_children_over(
+                width,
                 first,
                 rcount,
                 roffsets,
@@ -263,6 +304,7 @@ fn asked_rules(
 
 // The children of a number by a kind: those in the file, then those past it.
 pub fn children(
+    kinds: Kinds,
     first: u64,
     rows: usize,
     end: u64,
@@ -276,14 +318,16 @@ pub fn children(
     number: u64,
     out: &mut [u64],
 ) -> Counted
-    ensures { λ r. ⌜ r ≡ countedOf (asked.children kinds first rows end (columnsOf rcount (now (roffsets .entry)) (now (rdeltas .entry)))
+    ensures { λ r. ⌜ r ≡ countedOf (asked.children (widthOf kinds) first rows end (columnsOf rcount (now (roffsets .entry)) (now (rdeltas .entry)))
         (columnsOf icount (now (ioffsets .entry)) (now (ideltas .entry))) (kindOf kind) number (room (length (now (out .entry))))) ⌝ }
     ensures { λ _. ⌜ now (out .exit) ≡ writtenOver (now (out .entry))
-        (asked.children kinds first rows end (columnsOf rcount (now (roffsets .entry)) (now (rdeltas .entry)))
+        (asked.children (widthOf kinds) first rows end (columnsOf rcount (now (roffsets .entry)) (now (rdeltas .entry)))
         (columnsOf icount (now (ioffsets .entry)) (now (ideltas .entry))) (kindOf kind) number (room (length (now (out .entry))))) ⌝ }
 {
+    let width = kind::width(kinds);
     let slot = kind::slot(kind);
     let rules = asked_rules(
+        width,
         first,
         rows,
         end,
@@ -299,6 +343,7 @@ pub fn children(
     );
     match rules {
         Ruling::Kept => Counted::Entries(write_children(
+            width,
             first,
             rcount,
             roffsets,

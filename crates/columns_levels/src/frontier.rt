@@ -8,7 +8,7 @@ ghost use Rattle.lists.specs.Lists.{flat};
 ghost use Rattle.lists.specs.Order.{sort};
 ghost use Rattle.columns.specs.Walk.{level};
 ghost use Rattle.arrays.specs.table.Table.{Table, Keys};
-ghost use Rattle.columns_levels.specs.frontier.Frontier.{parentsIn, copied, Laid, Seen};
+ghost use Rattle.columns_levels.specs.frontier.Frontier.{parentsIn, copied, Laid, Seen, OfKinds};
 
 fn wide(x: usize) -> u64
     ensures { λ r. ⌜ r ≡ x ⌝ }
@@ -38,6 +38,7 @@ fn least(x: usize, n: usize) -> usize
 
 // Makes the parents of v keys.
 pub fn expand(
+    width: usize,
     keys: &mut [u64],
     links: &mut [u64],
     heads: &mut [u64],
@@ -49,9 +50,9 @@ pub fn expand(
     targets: &[u64],
 ) -> usize
     requires { ⌜ Table (now keys) (now links) (now heads) n ⌝ }
-    requires { ⌜ kind < 2 ⌝ }
+    requires { ⌜ OfKinds width kind ⌝ }
     ensures { λ r. ⌜ Table (now (keys .exit)) (now (links .exit)) (now (heads .exit)) r ⌝ }
-    ensures { λ r. ⌜ Keys (now (keys .entry)) (now (keys .exit)) n r (parentsIn first kind (now (offsets .entry)) (now (targets .entry)) v) ⌝ }
+    ensures { λ r. ⌜ Keys (now (keys .entry)) (now (keys .exit)) n r (parentsIn width first kind (now (offsets .entry)) (now (targets .entry)) v) ⌝ }
 {
     if v < first {
         return n;
@@ -60,7 +61,7 @@ pub fn expand(
     if wide(offsets.len()) <= d {
         return n;
     }
-    let s = 2 * index(d) + kind;
+    let s = width * index(d) + kind;
     if offsets.len() <= s + 1 {
         return n;
     }
@@ -71,6 +72,7 @@ pub fn expand(
 
 // Makes the parents of each of list[lo..hi] keys.
 pub fn collect(
+    width: usize,
     list: &[u64],
     lo: usize,
     hi: usize,
@@ -84,15 +86,16 @@ pub fn collect(
     targets: &[u64],
 ) -> usize
     requires { ⌜ Table (now keys) (now links) (now heads) n ⌝ }
-    requires { ⌜ kind < 2 ⌝ }
+    requires { ⌜ OfKinds width kind ⌝ }
     requires { ⌜ hi ≤ length (now list) ⌝ }
     ensures { λ r. ⌜ Table (now (keys .exit)) (now (links .exit)) (now (heads .exit)) r ⌝ }
-    ensures { λ r. ⌜ Keys (now (keys .entry)) (now (keys .exit)) n r (flat (parentsIn first kind (now (offsets .entry)) (now (targets .entry))) (slice lo hi (now (list .entry)))) ⌝ }
+    ensures { λ r. ⌜ Keys (now (keys .entry)) (now (keys .exit)) n r (flat (parentsIn width first kind (now (offsets .entry)) (now (targets .entry))) (slice lo hi (now (list .entry)))) ⌝ }
 {
     let mut m = n;
     let mut i = lo;
     while i < hi {
         m = expand(
+            width,
             keys,
             links,
             heads,
@@ -149,6 +152,7 @@ pub struct Step {
 
 // Lays the level after buf[lo..m] behind buf[..m], which holds all that was visited.
 pub fn advance(
+    width: usize,
     buf: &mut [u64],
     lo: usize,
     m: usize,
@@ -163,17 +167,18 @@ pub fn advance(
     n: usize,
     w: &mut [u64],
 ) -> Step
-    requires { ⌜ (lo ≤ m) × ((m ≤ n) × (kind < 2)) ⌝ }
+    requires { ⌜ (lo ≤ m) × ((m ≤ n) × (OfKinds width kind)) ⌝ }
     requires { ⌜ (length (now keys) ≤ length (now buf)) × (length (now keys) ≤ length (now w)) ⌝ }
     requires { ⌜ Table (now keys) (now links) (now heads) n ⌝ }
     requires { ⌜ Seen left n (take m (now buf)) (now keys) (now targets) ⌝ }
     ensures { λ r. ⌜ ((r .end) ≤ (r .n)) × ((r .end) ≤ m + left) ⌝ }
     ensures { λ r. ⌜ Laid m (now (buf .entry)) (now (buf .exit)) (r .end)
-        (level (parentsIn first kind (now (offsets .entry)) (now (targets .entry))) left (take m (now (buf .entry))) (slice lo m (now (buf .entry)))) ⌝ }
+        (level (parentsIn width first kind (now (offsets .entry)) (now (targets .entry))) left (take m (now (buf .entry))) (slice lo m (now (buf .entry)))) ⌝ }
     ensures { λ r. ⌜ Table (now (keys .exit)) (now (links .exit)) (now (heads .exit)) (r .n) ⌝ }
     ensures { λ r. ⌜ Seen (left - ((r .end) - m)) (r .n) (take (r .end) (now (buf .exit))) (now (keys .exit)) (now (targets .entry)) ⌝ }
 {
     let r = collect(
+        width,
         buf,
         lo,
         m,

@@ -14,7 +14,7 @@ use Rattle.lists.specs.Lists.{any, joined}
 use Rattle.lists.proofs.Tests.{any-append}
 use Rattle.lists.proofs.Once.{or-is-false}
 use Rattle.lists.proofs.Slices.{sets-front}
-use Rattle.columns.specs.Limits.{kinds, maxNumbers}
+use Rattle.columns.specs.Limits.{maxNumbers}
 use Rattle.columns.specs.Refusal.{accepted, refused, unless, firstOf, short, limits}
 use Rattle.columns.specs.EdgeSet.{forward, reverse, inbound}
 use Rattle.columns.specs.Reading.{slotsOf, setRules, setLengths, labelRules, coverRules, labelLengths, idleLabels, columnLengths, granuleRules, granuleOf, readBeside}
@@ -67,33 +67,33 @@ module _ (rows : ℕ) (cover : Bool) (chains seqs : List ℕ) where
   pub uncovered : cover ≡ false → Kept ≡ ruling (coverRules rows (coverOf cover chains seqs))
   uncovered c = rw c
 
-module _ (h : Head) (fo : List ℕ) (fd : List ℤ) (ro : List ℕ) (rd : List ℤ) (io : List ℕ) (id : List ℤ) where
-  module _ (k : Ruling) (e : k ≡ ruling (setRules kinds 0 (h .first) (h .rows) (h .end) (columnsOf (h .forward) fo fd))) where
-    pub sets-kept : k ≡ Kept → (q : Ruling) → q ≡ ruling (bothRules kinds (h .first) (h .rows) (h .end) (columnsOf (h .reverse) ro rd) (columnsOf (h .inbound) io id))
-        → q ≡ ruling (setsRules h fo fd ro rd io id)
+module _ (K : ℕ) (h : Head) (fo : List ℕ) (fd : List ℤ) (ro : List ℕ) (rd : List ℤ) (io : List ℕ) (id : List ℤ) where
+  module _ (k : Ruling) (e : k ≡ ruling (setRules K 0 (h .first) (h .rows) (h .end) (columnsOf (h .forward) fo fd))) where
+    pub sets-kept : k ≡ Kept → (q : Ruling) → q ≡ ruling (bothRules K (h .first) (h .rows) (h .end) (columnsOf (h .reverse) ro rd) (columnsOf (h .inbound) io id))
+        → q ≡ ruling (setsRules K h fo fd ro rd io id)
     unfolding setsRules bothRules
     sets-kept g q f = then-rest k _ _ e g q f
 
-    pub sets-broken : (why : Refusal) → k ≡ Broken why → Broken why ≡ ruling (setsRules h fo fd ro rd io id)
+    pub sets-broken : (why : Refusal) → k ≡ Broken why → Broken why ≡ ruling (setsRules K h fo fd ro rd io id)
     unfolding setsRules
     sets-broken why g = then-broken k _ _ e why g
 
   module _ (chains seqs : List ℕ) where
-    edges-are : granuleRules kinds (h .first) (h .rows) (h .end) (lentGranule h fo fd ro rd io id chains seqs)
-        ≡ firstOf (setsRules h fo fd ro rd io id ∷ coverRules (h .rows) (coverOf (h .cover) chains seqs) ∷ [])
+    edges-are : granuleRules K (h .first) (h .rows) (h .end) (lentGranule h fo fd ro rd io id chains seqs)
+        ≡ firstOf (setsRules K h fo fd ro rd io id ∷ coverRules (h .rows) (coverOf (h .cover) chains seqs) ∷ [])
     unfolding granuleRules setsRules
     edges-are =
-        first-append (setRules kinds forward (h .first) (h .rows) (h .end) (columnsOf (h .forward) fo fd)
-        ∷ setRules kinds reverse (h .first) (h .rows) (h .end) (columnsOf (h .reverse) ro rd)
-        ∷ setRules kinds inbound (h .first) (h .rows) (h .end) (columnsOf (h .inbound) io id)
+        first-append (setRules K forward (h .first) (h .rows) (h .end) (columnsOf (h .forward) fo fd)
+        ∷ setRules K reverse (h .first) (h .rows) (h .end) (columnsOf (h .reverse) ro rd)
+        ∷ setRules K inbound (h .first) (h .rows) (h .end) (columnsOf (h .inbound) io id)
         ∷ []) (coverRules (h .rows) (coverOf (h .cover) chains seqs) ∷ [])
 
-    module _ (k : Ruling) (e : k ≡ ruling (setsRules h fo fd ro rd io id)) where
+    module _ (k : Ruling) (e : k ≡ ruling (setsRules K h fo fd ro rd io id)) where
       pub edges-kept : k ≡ Kept → (q : Ruling) → q ≡ ruling (coverRules (h .rows) (coverOf (h .cover) chains seqs))
-          → q ≡ ruling (granuleRules kinds (h .first) (h .rows) (h .end) (lentGranule h fo fd ro rd io id chains seqs))
+          → q ≡ ruling (granuleRules K (h .first) (h .rows) (h .end) (lentGranule h fo fd ro rd io id chains seqs))
       edges-kept g q f = rw edges-are (then-rest k _ _ e g q (f ∙ ap ruling (sym (last-rule (coverRules (h .rows) (coverOf (h .cover) chains seqs))))))
 
-      pub edges-broken : (why : Refusal) → k ≡ Broken why → Broken why ≡ ruling (granuleRules kinds (h .first) (h .rows) (h .end) (lentGranule h fo fd ro rd io id chains seqs))
+      pub edges-broken : (why : Refusal) → k ≡ Broken why → Broken why ≡ ruling (granuleRules K (h .first) (h .rows) (h .end) (lentGranule h fo fd ro rd io id chains seqs))
       edges-broken why g = rw edges-are (then-broken k _ _ e why g)
 
     -- the label columns count, read or not
@@ -117,21 +117,21 @@ module _ (h : Head) (fo : List ℕ) (fd : List ℤ) (ro : List ℕ) (rd : List �
       in-limits : k ≡ ruling (limitsOf (h .rows) (any (ltb maxNumbers) (idleLabels (h .cover) chains seqs ++ columnLengths (lentGranule h fo fd ro rd io id chains seqs))) tight)
       in-limits = rw (lengths-are, ← f) e
 
-      pub granule-kept : k ≡ Kept → (q : Ruling) → q ≡ ruling (granuleRules kinds (h .first) (h .rows) (h .end) (lentGranule h fo fd ro rd io id chains seqs))
-          → q ≡ ruling (lentGranuleRules h fo fd ro rd io id chains seqs tight)
+      pub granule-kept : k ≡ Kept → (q : Ruling) → q ≡ ruling (granuleRules K (h .first) (h .rows) (h .end) (lentGranule h fo fd ro rd io id chains seqs))
+          → q ≡ ruling (lentGranuleRules K h fo fd ro rd io id chains seqs tight)
       unfolding lentGranuleRules
-      granule-kept g q p = then-rest k _ _ in-limits g q (p ∙ ap ruling (sym (last-rule (granuleRules kinds (h .first) (h .rows) (h .end) (lentGranule h fo fd ro rd io id chains seqs)))))
+      granule-kept g q p = then-rest k _ _ in-limits g q (p ∙ ap ruling (sym (last-rule (granuleRules K (h .first) (h .rows) (h .end) (lentGranule h fo fd ro rd io id chains seqs)))))
 
-      pub granule-broken : (why : Refusal) → k ≡ Broken why → Broken why ≡ ruling (lentGranuleRules h fo fd ro rd io id chains seqs tight)
+      pub granule-broken : (why : Refusal) → k ≡ Broken why → Broken why ≡ ruling (lentGranuleRules K h fo fd ro rd io id chains seqs tight)
       unfolding lentGranuleRules
       granule-broken why g = then-broken k _ _ in-limits why g
 
     -- ── a granule whose rules are kept ─────────────────────────────────────────────────────────
 
-    module _ (tight : Bool) (k : Ruling) (e : k ≡ ruling (lentGranuleRules h fo fd ro rd io id chains seqs tight)) where
+    module _ (tight : Bool) (k : Ruling) (e : k ≡ ruling (lentGranuleRules K h fo fd ro rd io id chains seqs tight)) where
       module _ (g : k ≡ Kept) where
         parts : (limitsOf (h .rows) (any (ltb maxNumbers) (idleLabels (h .cover) chains seqs ++ columnLengths (lentGranule h fo fd ro rd io id chains seqs))) tight ≡ none)
-            × (granuleRules kinds (h .first) (h .rows) (h .end) (lentGranule h fo fd ro rd io id chains seqs) ≡ none)
+            × (granuleRules K (h .first) (h .rows) (h .end) (lentGranule h fo fd ro rd io id chains seqs) ≡ none)
         unfolding lentGranuleRules
         parts = let p = each-none _ (told-kept _ e g) in (p .0, p .1 .0)
 
@@ -152,39 +152,39 @@ module _ (h : Head) (fo : List ℕ) (fd : List ℤ) (ro : List ℕ) (rd : List �
             let s = or-is-false _ _ (sym (any-append m i l) ∙ q .1) in
             (p .0, q .0, s .0)
 
-        kept : (setRules kinds forward (h .first) (h .rows) (h .end) (columnsOf (h .forward) fo fd) ≡ none)
-            × (setRules kinds reverse (h .first) (h .rows) (h .end) (columnsOf (h .reverse) ro rd) ≡ none)
-            × (setRules kinds inbound (h .first) (h .rows) (h .end) (columnsOf (h .inbound) io id) ≡ none)
+        kept : (setRules K forward (h .first) (h .rows) (h .end) (columnsOf (h .forward) fo fd) ≡ none)
+            × (setRules K reverse (h .first) (h .rows) (h .end) (columnsOf (h .reverse) ro rd) ≡ none)
+            × (setRules K inbound (h .first) (h .rows) (h .end) (columnsOf (h .inbound) io id) ≡ none)
         unfolding granuleRules
         kept = let p = each-none _ (parts .1) in (p .0, p .1 .0, p .1 .1 .0)
 
-        pub forward-readable : Readable kinds (h .first) (columnsOf (h .forward) fo fd)
+        pub forward-readable : Readable K (h .first) (columnsOf (h .forward) fo fd)
         forward-readable = record { set = forward; rows = h .rows; end = h .end; kept = kept .0; few = few-deltas _ (few .0) }
 
-        pub reverse-readable : Readable kinds (h .first) (columnsOf (h .reverse) ro rd)
+        pub reverse-readable : Readable K (h .first) (columnsOf (h .reverse) ro rd)
         reverse-readable = record { set = reverse; rows = h .rows; end = h .end; kept = kept .1; few = few-deltas _ (few .1) }
 
-        pub inbound-readable : Readable kinds (h .first) (columnsOf (h .inbound) io id)
+        pub inbound-readable : Readable K (h .first) (columnsOf (h .inbound) io id)
         inbound-readable = record { set = inbound; rows = h .rows; end = h .end; kept = kept .2; few = few-deltas _ (few .2) }
 
       -- ── the answer ───────────────────────────────────────────────────────────────────────────
 
-      module _ (f r i : ℕ) (t : tight ≡ any short (rooms f r i)) where
-        lent-are : readLent h fo fd ro rd io id chains seqs (rooms f r i)
-            ≡ unless (lentGranuleRules h fo fd ro rd io id chains seqs tight) (granuleOf kinds (h .first) (lentGranule h fo fd ro rd io id chains seqs))
+      -- a host names the number of kinds, and W is that number
+      module _ (W : ℕ) (w : K ≡ W) (f r i : ℕ) (t : tight ≡ any short (rooms f r i)) where
+        lent-are : readLent W h fo fd ro rd io id chains seqs (rooms f r i)
+            ≡ unless (lentGranuleRules K h fo fd ro rd io id chains seqs tight) (granuleOf K (h .first) (lentGranule h fo fd ro rd io id chains seqs))
         unfolding readBeside lentGranuleRules limits limitsOf
-        lent-are = rw t
+        lent-are = rw (← w, t)
 
         module _ (g : k ≡ Kept) where
-          read-kept : readLent h fo fd ro rd io id chains seqs (rooms f r i)
-              ≡ accepted (granuleOf kinds (h .first) (lentGranule h fo fd ro rd io id chains seqs))
+          read-kept : readLent W h fo fd ro rd io id chains seqs (rooms f r i)
+              ≡ accepted (granuleOf K (h .first) (lentGranule h fo fd ro rd io id chains seqs))
           unfolding unless
-          read-kept = lent-are ∙ rw (told-kept (lentGranuleRules h fo fd ro rd io id chains seqs tight) e g)
+          read-kept = lent-are ∙ rw (told-kept (lentGranuleRules K h fo fd ro rd io id chains seqs tight) e g)
 
           pub granule-counted : (n : Counts)
-              → n ≡ countsOf (slotsOf kinds (h .first) (columnsOf (h .forward) fo fd)) (slotsOf kinds (h .first) (columnsOf (h .reverse) ro rd))
-              (slotsOf kinds (h .first) (columnsOf (h .inbound) io id))
-              → Edges n ≡ decodedOf (readLent h fo fd ro rd io id chains seqs (rooms f r i))
+              → n ≡ countsOf (slotsOf K (h .first) (columnsOf (h .forward) fo fd)) (slotsOf K (h .first) (columnsOf (h .reverse) ro rd)) (slotsOf K (h .first) (columnsOf (h .inbound) io id))
+              → Edges n ≡ decodedOf (readLent W h fo fd ro rd io id chains seqs (rooms f r i))
           unfolding decodedOf granuleOf
           granule-counted n p = rw (read-kept, p)
 
@@ -196,34 +196,34 @@ module _ (h : Head) (fo : List ℕ) (fd : List ℤ) (ro : List ℕ) (rd : List �
               (ltb-false f maxNumbers (a .0), ltb-false r maxNumbers (b .0), ltb-false i maxNumbers (or-is-false (ltb i maxNumbers) _ (b .1) .0))
 
           module _ (old out : List ℕ) where
-            pub forward-written : length old ≡ f → out ≡ sets old 0 (joined (slotsOf kinds (h .first) (columnsOf (h .forward) fo fd)))
-                → out ≡ writtenOver old (setIn 0 (readLent h fo fd ro rd io id chains seqs (rooms f r i)))
+            pub forward-written : length old ≡ f → out ≡ sets old 0 (joined (slotsOf K (h .first) (columnsOf (h .forward) fo fd)))
+                → out ≡ writtenOver old (setIn 0 (readLent W h fo fd ro rd io id chains seqs (rooms f r i)))
             unfolding setIn writtenOver granuleOf
-            forward-written q p = rw read-kept (p ∙ sets-front old (joined (slotsOf kinds (h .first) (columnsOf (h .forward) fo fd)))
-                (omega (arith, long .0, readable-few kinds (h .first) (columnsOf (h .forward) fo fd) (forward-readable g))))
+            forward-written q p = rw read-kept (p ∙ sets-front old (joined (slotsOf K (h .first) (columnsOf (h .forward) fo fd)))
+                (omega (arith, long .0, readable-few K (h .first) (columnsOf (h .forward) fo fd) (forward-readable g))))
 
-            pub reverse-written : length old ≡ r → out ≡ sets old 0 (joined (slotsOf kinds (h .first) (columnsOf (h .reverse) ro rd)))
-                → out ≡ writtenOver old (setIn 1 (readLent h fo fd ro rd io id chains seqs (rooms f r i)))
+            pub reverse-written : length old ≡ r → out ≡ sets old 0 (joined (slotsOf K (h .first) (columnsOf (h .reverse) ro rd)))
+                → out ≡ writtenOver old (setIn 1 (readLent W h fo fd ro rd io id chains seqs (rooms f r i)))
             unfolding setIn writtenOver granuleOf
-            reverse-written q p = rw read-kept (p ∙ sets-front old (joined (slotsOf kinds (h .first) (columnsOf (h .reverse) ro rd)))
-                (omega (arith, long .1, readable-few kinds (h .first) (columnsOf (h .reverse) ro rd) (reverse-readable g))))
+            reverse-written q p = rw read-kept (p ∙ sets-front old (joined (slotsOf K (h .first) (columnsOf (h .reverse) ro rd)))
+                (omega (arith, long .1, readable-few K (h .first) (columnsOf (h .reverse) ro rd) (reverse-readable g))))
 
-            pub inbound-written : length old ≡ i → out ≡ sets old 0 (joined (slotsOf kinds (h .first) (columnsOf (h .inbound) io id)))
-                → out ≡ writtenOver old (setIn 2 (readLent h fo fd ro rd io id chains seqs (rooms f r i)))
+            pub inbound-written : length old ≡ i → out ≡ sets old 0 (joined (slotsOf K (h .first) (columnsOf (h .inbound) io id)))
+                → out ≡ writtenOver old (setIn 2 (readLent W h fo fd ro rd io id chains seqs (rooms f r i)))
             unfolding setIn writtenOver granuleOf
-            inbound-written q p = rw read-kept (p ∙ sets-front old (joined (slotsOf kinds (h .first) (columnsOf (h .inbound) io id)))
-                (omega (arith, long .2, readable-few kinds (h .first) (columnsOf (h .inbound) io id) (inbound-readable g))))
+            inbound-written q p = rw read-kept (p ∙ sets-front old (joined (slotsOf K (h .first) (columnsOf (h .inbound) io id)))
+                (omega (arith, long .2, readable-few K (h .first) (columnsOf (h .inbound) io id) (inbound-readable g))))
 
         module _ (why : Refusal) (g : k ≡ Broken why) where
-          read-broken : readLent h fo fd ro rd io id chains seqs (rooms f r i) ≡ refused why
+          read-broken : readLent W h fo fd ro rd io id chains seqs (rooms f r i) ≡ refused why
           unfolding unless
-          read-broken = lent-are ∙ rw (told (lentGranuleRules h fo fd ro rd io id chains seqs tight) e g)
+          read-broken = lent-are ∙ rw (told (lentGranuleRules K h fo fd ro rd io id chains seqs tight) e g)
 
-          pub granule-refused : Refused why ≡ decodedOf (readLent h fo fd ro rd io id chains seqs (rooms f r i))
+          pub granule-refused : Refused why ≡ decodedOf (readLent W h fo fd ro rd io id chains seqs (rooms f r i))
           unfolding decodedOf
           granule-refused = rw read-broken
 
-          pub granule-as-was : (set : ℕ) (old : List ℕ) → old ≡ writtenOver old (setIn set (readLent h fo fd ro rd io id chains seqs (rooms f r i)))
+          pub granule-as-was : (set : ℕ) (old : List ℕ) → old ≡ writtenOver old (setIn set (readLent W h fo fd ro rd io id chains seqs (rooms f r i)))
           unfolding setIn writtenOver
           granule-as-was set old = rw read-broken
 

@@ -7,7 +7,7 @@ use lib.Dec.{ltb}
 use lib.IntN.{ℤ}
 use lib.ListN.{length}
 use Rattle.lists.specs.Lists.{any, joined}
-use Rattle.columns.specs.Limits.{kinds, maxNumbers, numbersRoom}
+use Rattle.columns.specs.Limits.{maxNumbers, numbersRoom}
 use Rattle.columns.specs.Refusal.{Verdict, refused, accepted, firstOf, Lent}
 use Rattle.columns.specs.EdgeSet.{forward, reverse, inbound}
 use Rattle.columns.specs.Reading.{Labels, GranuleColumns, Granule, setRules, idleLabels, columnLengths, granuleRules, readBeside}
@@ -37,26 +37,26 @@ rooms f r i = record { has = f; needs = numbersRoom } ∷ record { has = r; need
 -- ── rules ────────────────────────────────────────────────────────────────────────────────────
 
 -- the rules of the three sets
-unfoldable pub setsRules : Head → List ℕ → List ℤ → List ℕ → List ℤ → List ℕ → List ℤ → Option Refusal
-setsRules h fo fd ro rd io id =
-    firstOf (setRules kinds forward (h .first) (h .rows) (h .end) (columnsOf (h .forward) fo fd)
-    ∷ setRules kinds reverse (h .first) (h .rows) (h .end) (columnsOf (h .reverse) ro rd)
-    ∷ setRules kinds inbound (h .first) (h .rows) (h .end) (columnsOf (h .inbound) io id)
+unfoldable pub setsRules : (K : ℕ) → Head → List ℕ → List ℤ → List ℕ → List ℤ → List ℕ → List ℤ → Option Refusal
+setsRules K h fo fd ro rd io id =
+    firstOf (setRules K forward (h .first) (h .rows) (h .end) (columnsOf (h .forward) fo fd)
+    ∷ setRules K reverse (h .first) (h .rows) (h .end) (columnsOf (h .reverse) ro rd)
+    ∷ setRules K inbound (h .first) (h .rows) (h .end) (columnsOf (h .inbound) io id)
     ∷ [])
 
 -- the limits, by whether a lent slice is too short, and the rules of a granule
-unfoldable pub lentGranuleRules : Head → List ℕ → List ℤ → List ℕ → List ℤ → List ℕ → List ℤ → List ℕ → List ℕ → Bool → Option Refusal
-lentGranuleRules h fo fd ro rd io id chains seqs tight = let c = lentGranule h fo fd ro rd io id chains seqs in
+unfoldable pub lentGranuleRules : (K : ℕ) → Head → List ℕ → List ℤ → List ℕ → List ℤ → List ℕ → List ℤ → List ℕ → List ℕ → Bool → Option Refusal
+lentGranuleRules K h fo fd ro rd io id chains seqs tight = let c = lentGranule h fo fd ro rd io id chains seqs in
     firstOf (limitsOf (h .rows) (any (ltb maxNumbers) (idleLabels (h .cover) chains seqs ++ columnLengths c)) tight
-    ∷ granuleRules kinds (h .first) (h .rows) (h .end) c
+    ∷ granuleRules K (h .first) (h .rows) (h .end) c
     ∷ [])
 
 -- ── answers ──────────────────────────────────────────────────────────────────────────────────
 
 -- the verdict on a granule as it is lent. Label columns are lent also where there is no cover
-abbrev pub readLent : Head → List ℕ → List ℤ → List ℕ → List ℤ → List ℕ → List ℤ → List ℕ → List ℕ → List Lent → Verdict Granule
-readLent h fo fd ro rd io id chains seqs lent =
-    readBeside kinds (idleLabels (h .cover) chains seqs) (h .first) (h .rows) (h .end) (lentGranule h fo fd ro rd io id chains seqs) lent
+abbrev pub readLent : (K : ℕ) → Head → List ℕ → List ℤ → List ℕ → List ℤ → List ℕ → List ℤ → List ℕ → List ℕ → List Lent → Verdict Granule
+readLent K h fo fd ro rd io id chains seqs lent =
+    readBeside K (idleLabels (h .cover) chains seqs) (h .first) (h .rows) (h .end) (lentGranule h fo fd ro rd io id chains seqs) lent
 
 -- how many targets the lists of each set have
 abbrev pub countsOf : List (List ℕ) → List (List ℕ) → List (List ℕ) → Counts

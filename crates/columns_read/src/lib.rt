@@ -1,6 +1,8 @@
 // Reading a granule: its three sets of edges and, where there is a cover, its label columns, in one call.
 pub mod sets;
 
+use columns::kind;
+use columns::kind::Kinds;
 use columns::refusal::Refusal;
 use columns::refusal::Ruling;
 use columns::set::Set;
@@ -10,10 +12,10 @@ ghost use lib.Dec.{ltb};
 ghost use lib.ListN.{length};
 ghost use lib.Seq.{sets};
 ghost use Rattle.lists.specs.Lists.{any, joined};
-ghost use Rattle.columns.specs.Limits.{kinds, maxNumbers};
+ghost use Rattle.columns.specs.Limits.{maxNumbers, Served};
 ghost use Rattle.columns.specs.Refusal.{short};
 ghost use Rattle.columns.specs.Reading.{slotsOf, coverRules, granuleRules};
-ghost use Rattle.columns.specs.Answers.{columnsOf, ruling, writtenOver};
+ghost use Rattle.columns.specs.Answers.{columnsOf, ruling, writtenOver, widthOf};
 ghost use Rattle.columns_read.specs.Granules.{coverOf, lentGranule, rooms, setsRules, lentGranuleRules, readLent, countsOf, decodedOf, setIn};
 ghost use Rattle.columns.specs.Readable.{Readable};
 
@@ -91,6 +93,7 @@ fn cover_rules(rows: usize, cover: bool, chains: &[u64], seqs: &[u64]) -> Ruling
 
 // The rules of the three sets.
 fn sets_rules(
+    width: usize,
     head: Head,
     fo: &[u64],
     fd: &[i64],
@@ -99,12 +102,14 @@ fn sets_rules(
     io: &[u64],
     id: &[i64],
 ) -> Ruling
-    ensures { λ r. ⌜ r ≡ ruling (setsRules head (now (fo .entry)) (now (fd .entry)) (now (ro .entry)) (now (rd .entry)) (now (io .entry)) (now (id .entry))) ⌝ }
+    requires { ⌜ Served width ⌝ }
+    ensures { λ r. ⌜ r ≡ ruling (setsRules width head (now (fo .entry)) (now (fd .entry)) (now (ro .entry)) (now (rd .entry)) (now (io .entry)) (now (id .entry))) ⌝ }
 {
     let first = head.first;
     let rows = head.rows;
     let end = head.end;
     let rules = columns_slots::sets::set_rules(
+        width,
         Set::Forward,
         first,
         rows,
@@ -115,6 +120,7 @@ fn sets_rules(
     );
     match rules {
         Ruling::Kept => columns_slots::sets::both_rules(
+            width,
             first,
             rows,
             end,
@@ -131,6 +137,7 @@ fn sets_rules(
 
 // The rules of the three sets, then those of the labels.
 fn edge_rules(
+    width: usize,
     head: Head,
     fo: &[u64],
     fd: &[i64],
@@ -141,10 +148,11 @@ fn edge_rules(
     chains: &[u64],
     seqs: &[u64],
 ) -> Ruling
-    ensures { λ r. ⌜ r ≡ ruling (granuleRules kinds (head .first) (head .rows) (head .end)
+    requires { ⌜ Served width ⌝ }
+    ensures { λ r. ⌜ r ≡ ruling (granuleRules width (head .first) (head .rows) (head .end)
         (lentGranule head (now (fo .entry)) (now (fd .entry)) (now (ro .entry)) (now (rd .entry)) (now (io .entry)) (now (id .entry)) (now (chains .entry)) (now (seqs .entry)))) ⌝ }
 {
-    let rules = sets_rules(head, fo, fd, ro, rd, io, id);
+    let rules = sets_rules(width, head, fo, fd, ro, rd, io, id);
     match rules {
         Ruling::Kept => cover_rules(head.rows, head.cover, chains, seqs),
         Ruling::Broken(why) => Ruling::Broken(why),
@@ -153,6 +161,7 @@ fn edge_rules(
 
 // The limits, by whether one of the three slices is too short, and the rules of a granule.
 fn granule_rules(
+    width: usize,
     head: Head,
     fo: &[u64],
     fd: &[i64],
@@ -164,7 +173,8 @@ fn granule_rules(
     seqs: &[u64],
     tight: bool,
 ) -> Ruling
-    ensures { λ r. ⌜ r ≡ ruling (lentGranuleRules head (now (fo .entry)) (now (fd .entry)) (now (ro .entry)) (now (rd .entry)) (now (io .entry)) (now (id .entry))
+    requires { ⌜ Served width ⌝ }
+    ensures { λ r. ⌜ r ≡ ruling (lentGranuleRules width head (now (fo .entry)) (now (fd .entry)) (now (ro .entry)) (now (rd .entry)) (now (io .entry)) (now (id .entry))
         (now (chains .entry)) (now (seqs .entry)) tight) ⌝ }
 {
     let over = is_granule_over(
@@ -179,7 +189,7 @@ fn granule_rules(
     );
     let limit = columns_slots::sets::limit_rules(head.rows, over, tight);
     match limit {
-        Ruling::Kept => edge_rules(head, fo, fd, ro, rd, io, id, chains, seqs),
+        Ruling::Kept => edge_rules(width, head, fo, fd, ro, rd, io, id, chains, seqs),
         Ruling::Broken(why) => Ruling::Broken(why),
     }
 }
@@ -188,6 +198,7 @@ fn granule_rules(
 
 // Writes the targets of three sets whose rules are kept.
 fn write_granule(
+    width: usize,
     head: Head,
     fo: &[u64],
     fd: &[i64],
@@ -199,19 +210,20 @@ fn write_granule(
     reverse: &mut [u64],
     inbound: &mut [u64],
 ) -> Counts
-    requires { ⌜ Readable kinds (head .first) (columnsOf (head .forward) (now fo) (now fd)) ⌝ }
-    requires { ⌜ Readable kinds (head .first) (columnsOf (head .reverse) (now ro) (now rd)) ⌝ }
-    requires { ⌜ Readable kinds (head .first) (columnsOf (head .inbound) (now io) (now id)) ⌝ }
-    ensures { λ r. ⌜ r ≡ countsOf (slotsOf kinds (head .first) (columnsOf (head .forward) (now (fo .entry)) (now (fd .entry))))
-        (slotsOf kinds (head .first) (columnsOf (head .reverse) (now (ro .entry)) (now (rd .entry)))) (slotsOf kinds (head .first) (columnsOf (head .inbound) (now (io .entry)) (now (id .entry)))) ⌝ }
-    ensures { λ _. ⌜ now (forward .exit) ≡ sets (now (forward .entry)) 0 (joined (slotsOf kinds (head .first) (columnsOf (head .forward) (now (fo .entry)) (now (fd .entry))))) ⌝ }
-    ensures { λ _. ⌜ now (reverse .exit) ≡ sets (now (reverse .entry)) 0 (joined (slotsOf kinds (head .first) (columnsOf (head .reverse) (now (ro .entry)) (now (rd .entry))))) ⌝ }
-    ensures { λ _. ⌜ now (inbound .exit) ≡ sets (now (inbound .entry)) 0 (joined (slotsOf kinds (head .first) (columnsOf (head .inbound) (now (io .entry)) (now (id .entry))))) ⌝ }
+    requires { ⌜ Served width ⌝ }
+    requires { ⌜ Readable width (head .first) (columnsOf (head .forward) (now fo) (now fd)) ⌝ }
+    requires { ⌜ Readable width (head .first) (columnsOf (head .reverse) (now ro) (now rd)) ⌝ }
+    requires { ⌜ Readable width (head .first) (columnsOf (head .inbound) (now io) (now id)) ⌝ }
+    ensures { λ r. ⌜ r ≡ countsOf (slotsOf width (head .first) (columnsOf (head .forward) (now (fo .entry)) (now (fd .entry))))
+        (slotsOf width (head .first) (columnsOf (head .reverse) (now (ro .entry)) (now (rd .entry)))) (slotsOf width (head .first) (columnsOf (head .inbound) (now (io .entry)) (now (id .entry)))) ⌝ }
+    ensures { λ _. ⌜ now (forward .exit) ≡ sets (now (forward .entry)) 0 (joined (slotsOf width (head .first) (columnsOf (head .forward) (now (fo .entry)) (now (fd .entry))))) ⌝ }
+    ensures { λ _. ⌜ now (reverse .exit) ≡ sets (now (reverse .entry)) 0 (joined (slotsOf width (head .first) (columnsOf (head .reverse) (now (ro .entry)) (now (rd .entry))))) ⌝ }
+    ensures { λ _. ⌜ now (inbound .exit) ≡ sets (now (inbound .entry)) 0 (joined (slotsOf width (head .first) (columnsOf (head .inbound) (now (io .entry)) (now (id .entry))))) ⌝ }
 {
     let first = head.first;
-    let f = columns_slots::sets::write_csr(first, head.forward, fo, fd, forward);
-    let r = columns_slots::sets::write_csr(first, head.reverse, ro, rd, reverse);
-    let i = columns_slots::sets::write_csr(first, head.inbound, io, id, inbound);
+    let f = columns_slots::sets::write_csr(width, first, head.forward, fo, fd, forward);
+    let r = columns_slots::sets::write_csr(width, first, head.reverse, ro, rd, reverse);
+    let i = columns_slots::sets::write_csr(width, first, head.inbound, io, id, inbound);
     Counts {
         forward: f,
         reverse: r,
@@ -221,6 +233,7 @@ fn write_granule(
 
 // Reads a granule: the targets of each set into a slice of its own, slot after slot. A refused granule leaves all three as they were.
 pub fn decode_granule_edges(
+    kinds: Kinds,
     head: Head,
     fo: &[u64],
     fd: &[i64],
@@ -234,22 +247,24 @@ pub fn decode_granule_edges(
     reverse: &mut [u64],
     inbound: &mut [u64],
 ) -> Decoded
-    ensures { λ r. ⌜ r ≡ decodedOf (readLent head (now (fo .entry)) (now (fd .entry)) (now (ro .entry)) (now (rd .entry)) (now (io .entry)) (now (id .entry))
-        (now (chains .entry)) (now (seqs .entry)) (rooms (length (now (forward .entry))) (length (now (reverse .entry))) (length (now (inbound .entry))))) ⌝ }
+    ensures { λ r. ⌜ r ≡ decodedOf (readLent (widthOf kinds) head (now (fo .entry)) (now (fd .entry)) (now (ro .entry)) (now (rd .entry)) (now (io .entry))
+        (now (id .entry)) (now (chains .entry)) (now (seqs .entry)) (rooms (length (now (forward .entry))) (length (now (reverse .entry))) (length (now (inbound .entry))))) ⌝ }
     ensures { λ _. ⌜ now (forward .exit) ≡ writtenOver (now (forward .entry))
-        (setIn 0 (readLent head (now (fo .entry)) (now (fd .entry)) (now (ro .entry)) (now (rd .entry)) (now (io .entry)) (now (id .entry)) (now (chains .entry))
-        (now (seqs .entry)) (rooms (length (now (forward .entry))) (length (now (reverse .entry))) (length (now (inbound .entry)))))) ⌝ }
+        (setIn 0 (readLent (widthOf kinds) head (now (fo .entry)) (now (fd .entry)) (now (ro .entry)) (now (rd .entry)) (now (io .entry)) (now (id .entry))
+        (now (chains .entry)) (now (seqs .entry)) (rooms (length (now (forward .entry))) (length (now (reverse .entry))) (length (now (inbound .entry)))))) ⌝ }
     ensures { λ _. ⌜ now (reverse .exit) ≡ writtenOver (now (reverse .entry))
-        (setIn 1 (readLent head (now (fo .entry)) (now (fd .entry)) (now (ro .entry)) (now (rd .entry)) (now (io .entry)) (now (id .entry)) (now (chains .entry))
-        (now (seqs .entry)) (rooms (length (now (forward .entry))) (length (now (reverse .entry))) (length (now (inbound .entry)))))) ⌝ }
+        (setIn 1 (readLent (widthOf kinds) head (now (fo .entry)) (now (fd .entry)) (now (ro .entry)) (now (rd .entry)) (now (io .entry)) (now (id .entry))
+        (now (chains .entry)) (now (seqs .entry)) (rooms (length (now (forward .entry))) (length (now (reverse .entry))) (length (now (inbound .entry)))))) ⌝ }
     ensures { λ _. ⌜ now (inbound .exit) ≡ writtenOver (now (inbound .entry))
-        (setIn 2 (readLent head (now (fo .entry)) (now (fd .entry)) (now (ro .entry)) (now (rd .entry)) (now (io .entry)) (now (id .entry)) (now (chains .entry))
-        (now (seqs .entry)) (rooms (length (now (forward .entry))) (length (now (reverse .entry))) (length (now (inbound .entry)))))) ⌝ }
+        (setIn 2 (readLent (widthOf kinds) head (now (fo .entry)) (now (fd .entry)) (now (ro .entry)) (now (rd .entry)) (now (io .entry)) (now (id .entry))
+        (now (chains .entry)) (now (seqs .entry)) (rooms (length (now (forward .entry))) (length (now (reverse .entry))) (length (now (inbound .entry)))))) ⌝ }
 {
+    let width = kind::width(kinds);
     let tight = is_any_short(forward.len(), reverse.len(), inbound.len());
-    let rules = granule_rules(head, fo, fd, ro, rd, io, id, chains, seqs, tight);
+    let rules = granule_rules(width, head, fo, fd, ro, rd, io, id, chains, seqs, tight);
     match rules {
         Ruling::Kept => Decoded::Edges(write_granule(
+            width,
             head,
             fo,
             fd,

@@ -1,5 +1,6 @@
 // The rules of a file: its subject, its slot offsets, its numbers and its parents (1 to 5), in order.
 use crate::slots::slot_rules;
+use columns::kind::KINDS;
 use columns::refusal::Refusal;
 use columns::refusal::Ruling;
 use columns_slots::sets::is_form;
@@ -39,7 +40,7 @@ pub fn file_rules(
     if !subject_fits(subject) {
         return Ruling::Broken(Refusal::SubjectLength);
     }
-    if !is_form(rows, targets.len() as u64, offsets) {
+    if !is_form(KINDS, rows, targets.len() as u64, offsets) {
         return Ruling::Broken(Refusal::EdgeEntries);
     }
     if !numbers_fit(first, rows) {

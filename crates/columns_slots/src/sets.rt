@@ -7,13 +7,13 @@ use columns::set::Set;
 ghost use mathlib.Core.Path.{_≡_};
 ghost use mathlib.Core.Bool.{true, _&&_};
 ghost use mathlib.Core.List.{[], _∷_, _++_, map};
-ghost use Prim.Native.Nat.{_+_, _-_, _%_, _<_, _≤_};
+ghost use Prim.Native.Nat.{_+_, _-_, _*_, _<_, _≤_};
 ghost use lib.Dec.{ltb};
 ghost use lib.ListN.{length, getD, drop, set};
 ghost use lib.Seq.{slice, sets};
-ghost use Rattle.lists.specs.Lists.{all, any, joined};
+ghost use Rattle.lists.specs.Lists.{all, any, joined, part};
 ghost use Rattle.lists.specs.Order.{climbsTo};
-ghost use Rattle.columns.specs.Limits.{kinds, end64, maxNumbers};
+ghost use Rattle.columns.specs.Limits.{end64, maxNumbers, Served};
 ghost use Rattle.columns.specs.EdgeSet.{cut, eventOf, fromTo, offsetsForm, targetOf, sound};
 ghost use Rattle.columns.specs.Reading.{soundFrom, targetsFrom, slotsOf, setRules, labelRules};
 ghost use Rattle.columns.specs.Answers.{setNumber, named, short32, columnsOf, labelColumns, room, limitsOf, lentRules, bothRules, ruling};
@@ -39,13 +39,18 @@ fn climbs(high: u64, offsets: &[u64]) -> bool
 }
 
 // Whether there is an offset for each slot and one more, from 0 to the number of edges.
-pub fn is_form(rows: usize, count: u64, offsets: &[u64]) -> bool
-    ensures { λ r. ⌜ r ≡ offsetsForm kinds rows count (now (offsets .entry)) ⌝ }
+pub fn is_form(width: usize, rows: usize, count: u64, offsets: &[u64]) -> bool
+    requires { ⌜ Served width ⌝ }
+    ensures { λ r. ⌜ r ≡ offsetsForm width rows count (now (offsets .entry)) ⌝ }
 {
-    if offsets.len() % 2 != 1 {
+    if offsets.len() == 0 {
         return false;
     }
-    if offsets.len() / 2 != rows {
+    let slots = offsets.len() - 1;
+    if slots % width != 0 {
+        return false;
+    }
+    if slots / width != rows {
         return false;
     }
     if offsets[0] != 0 {
@@ -56,21 +61,19 @@ pub fn is_form(rows: usize, count: u64, offsets: &[u64]) -> bool
 
 // ── the side of every target: 19 ──
 
-// Whether the row of a slot has a number of 64 bits.
-fn has_event(first: u64, slot: usize) -> bool
-    ensures { λ r. ⌜ r ≡ ltb (eventOf kinds first slot) end64 ⌝ }
+// Whether a row has a number of 64 bits.
+fn has_event(first: u64, row: usize) -> bool
+    ensures { λ r. ⌜ r ≡ ltb (first + row) end64 ⌝ }
 {
-    let row = (slot / 2) as u64;
-    first <= 18446744073709551615 - row
+    first <= 18446744073709551615 - (row as u64)
 }
 
 // That number.
-fn event(first: u64, slot: usize) -> u64
-    requires { ⌜ eventOf kinds first slot < end64 ⌝ }
-    ensures { λ r. ⌜ r ≡ eventOf kinds first slot ⌝ }
+fn event(first: u64, row: usize) -> u64
+    requires { ⌜ first + row < end64 ⌝ }
+    ensures { λ r. ⌜ r ≡ first + row ⌝ }
 {
-    let row = (slot / 2) as u64;
-    first + row
+    first + (row as u64)
 }
 
 // Whether each of an event's deltas from one place up to another is sound. The set is given by its number, which costs less to hand on than the enum.
@@ -88,61 +91,51 @@ fn all_sound(set: u64, end: u64, event: u64, deltas: &[i64], from: usize, to: us
     true
 }
 
-// Whether a slot's row has a number and its deltas are sound.
-fn is_slot_sound(
-    set: u64,
-    first: u64,
-    end: u64,
-    offsets: &[u64],
-    deltas: &[i64],
-    slot: usize,
-) -> bool
-    requires { ⌜ (slot + 1 < length (now offsets)) × (fromTo 0 (length (now deltas)) (now offsets) ≡ true) ⌝ }
-    ensures { λ r. ⌜ r ≡ (ltb (eventOf kinds first slot) end64 && all (sound set end (eventOf kinds first slot)) (getD (cut (now (offsets .entry)) (now (deltas .entry))) slot [])) ⌝ }
-{
-    if !has_event(first, slot) {
-        return false;
-    }
-    let from = index(offsets[slot]);
-    let to = index(offsets[slot + 1]);
-    all_sound(set, end, event(first, slot), deltas, from, to)
-}
-
-// The same of a slot and the next one, which are of one row.
+// Whether a row has a number and the deltas of its slots are sound.
 fn is_row_sound(
+    width: usize,
     set: u64,
     first: u64,
     end: u64,
     offsets: &[u64],
     deltas: &[i64],
     slot: usize,
+    row: usize,
 ) -> bool
-    requires { ⌜ (slot + 2 < length (now offsets)) × (fromTo 0 (length (now deltas)) (now offsets) ≡ true) ⌝ }
-    ensures { λ r. ⌜ r ≡ (ltb (eventOf kinds first slot) end64 && all (sound set end (eventOf kinds first slot))
-        (getD (cut (now (offsets .entry)) (now (deltas .entry))) slot [] ++ getD (cut (now (offsets .entry)) (now (deltas .entry))) (slot + 1) [])) ⌝ }
+    requires { ⌜ Served width ⌝ }
+    requires { ⌜ (slot + width < length (now offsets)) × (fromTo 0 (length (now deltas)) (now offsets) ≡ true) ⌝ }
+    ensures { λ r. ⌜ r ≡ (ltb (first + row) end64 && all (sound set end (first + row)) (joined (part slot width (cut (now (offsets .entry)) (now (deltas .entry)))))) ⌝ }
 {
-    if !has_event(first, slot) {
+    if !has_event(first, row) {
         return false;
     }
     let from = index(offsets[slot]);
-    let to = index(offsets[slot + 2]);
-    all_sound(set, end, event(first, slot), deltas, from, to)
+    let to = index(offsets[slot + width]);
+    all_sound(set, end, event(first, row), deltas, from, to)
 }
 
-// The same of every slot: row by row, and of the slot that is left over.
-fn are_sound(set: u64, first: u64, end: u64, offsets: &[u64], deltas: &[i64]) -> bool
-    requires { ⌜ fromTo 0 (length (now deltas)) (now offsets) ≡ true ⌝ }
-    ensures { λ r. ⌜ r ≡ soundFrom kinds set first end 0 (cut (now (offsets .entry)) (now (deltas .entry))) ⌝ }
+// The same of every row.
+fn are_sound(
+    width: usize,
+    set: u64,
+    first: u64,
+    rows: usize,
+    end: u64,
+    offsets: &[u64],
+    deltas: &[i64],
+) -> bool
+    requires { ⌜ Served width ⌝ }
+    requires { ⌜ (length (now offsets) ≡ width * rows + 1) × (fromTo 0 (length (now deltas)) (now offsets) ≡ true) ⌝ }
+    ensures { λ r. ⌜ r ≡ soundFrom width set first end 0 (cut (now (offsets .entry)) (now (deltas .entry))) ⌝ }
 {
     let mut slot = 0;
-    while slot + 2 < offsets.len() {
-        if !is_row_sound(set, first, end, offsets, deltas, slot) {
+    let mut row = 0;
+    while row < rows {
+        if !is_row_sound(width, set, first, end, offsets, deltas, slot, row) {
             return false;
         }
-        slot += 2;
-    }
-    if slot + 1 < offsets.len() {
-        return is_slot_sound(set, first, end, offsets, deltas, slot);
+        slot += width;
+        row += 1;
     }
     true
 }
@@ -159,17 +152,27 @@ fn number_of(set: Set) -> u64
 }
 
 // The same of a set.
-fn is_set_sound(set: Set, first: u64, end: u64, offsets: &[u64], deltas: &[i64]) -> bool
-    requires { ⌜ fromTo 0 (length (now deltas)) (now offsets) ≡ true ⌝ }
-    ensures { λ r. ⌜ r ≡ soundFrom kinds (setNumber set) first end 0 (cut (now (offsets .entry)) (now (deltas .entry))) ⌝ }
+fn is_set_sound(
+    width: usize,
+    set: Set,
+    first: u64,
+    rows: usize,
+    end: u64,
+    offsets: &[u64],
+    deltas: &[i64],
+) -> bool
+    requires { ⌜ Served width ⌝ }
+    requires { ⌜ (length (now offsets) ≡ width * rows + 1) × (fromTo 0 (length (now deltas)) (now offsets) ≡ true) ⌝ }
+    ensures { λ r. ⌜ r ≡ soundFrom width (setNumber set) first end 0 (cut (now (offsets .entry)) (now (deltas .entry))) ⌝ }
 {
-    are_sound(number_of(set), first, end, offsets, deltas)
+    are_sound(width, number_of(set), first, rows, end, offsets, deltas)
 }
 
 // ── the rules of one set ──
 
 // 17, 18, 19. A set without edges has no deltas to look at.
 pub fn set_rules(
+    width: usize,
     set: Set,
     first: u64,
     rows: usize,
@@ -178,9 +181,10 @@ pub fn set_rules(
     offsets: &[u64],
     deltas: &[i64],
 ) -> Ruling
-    ensures { λ r. ⌜ r ≡ ruling (setRules kinds (setNumber set) first rows end (columnsOf count (now (offsets .entry)) (now (deltas .entry)))) ⌝ }
+    requires { ⌜ Served width ⌝ }
+    ensures { λ r. ⌜ r ≡ ruling (setRules width (setNumber set) first rows end (columnsOf count (now (offsets .entry)) (now (deltas .entry)))) ⌝ }
 {
-    if !is_form(rows, count, offsets) {
+    if !is_form(width, rows, count, offsets) {
         return Ruling::Broken(Refusal::OffsetsForm);
     }
     if count == 0 {
@@ -189,7 +193,7 @@ pub fn set_rules(
     if deltas.len() as u64 != count {
         return Ruling::Broken(Refusal::DeltaCount);
     }
-    if !is_set_sound(set, first, end, offsets, deltas) {
+    if !is_set_sound(width, set, first, rows, end, offsets, deltas) {
         return Ruling::Broken(Refusal::TargetSide);
     }
     Ruling::Kept
@@ -235,6 +239,7 @@ pub fn limit_rules(rows: usize, over: bool, short: bool) -> Ruling
 
 // The limits and the rules of one set that is lent by itself, with a slice of length `out` for its answer.
 pub fn csr_rules(
+    width: usize,
     set: Set,
     first: u64,
     rows: usize,
@@ -244,18 +249,20 @@ pub fn csr_rules(
     deltas: &[i64],
     out: usize,
 ) -> Ruling
-    ensures { λ r. ⌜ r ≡ ruling (lentRules kinds (setNumber set) first rows end (columnsOf count (now (offsets .entry)) (now (deltas .entry))) (room out)) ⌝ }
+    requires { ⌜ Served width ⌝ }
+    ensures { λ r. ⌜ r ≡ ruling (lentRules width (setNumber set) first rows end (columnsOf count (now (offsets .entry)) (now (deltas .entry))) (room out)) ⌝ }
 {
     let over = is_over(offsets.len(), deltas.len());
     let limit = limit_rules(rows, over, out < 4096);
     match limit {
-        Ruling::Kept => set_rules(set, first, rows, end, count, offsets, deltas),
+        Ruling::Kept => set_rules(width, set, first, rows, end, count, offsets, deltas),
         Ruling::Broken(why) => Ruling::Broken(why),
     }
 }
 
 // The rules of a reverse set, then those of an inbound set.
 pub fn both_rules(
+    width: usize,
     first: u64,
     rows: usize,
     end: u64,
@@ -266,11 +273,30 @@ pub fn both_rules(
     ioffsets: &[u64],
     ideltas: &[i64],
 ) -> Ruling
-    ensures { λ r. ⌜ r ≡ ruling (bothRules kinds first rows end (columnsOf rcount (now (roffsets .entry)) (now (rdeltas .entry))) (columnsOf icount (now (ioffsets .entry)) (now (ideltas .entry)))) ⌝ }
+    requires { ⌜ Served width ⌝ }
+    ensures { λ r. ⌜ r ≡ ruling (bothRules width first rows end (columnsOf rcount (now (roffsets .entry)) (now (rdeltas .entry))) (columnsOf icount (now (ioffsets .entry)) (now (ideltas .entry)))) ⌝ }
 {
-    let rules = set_rules(Set::Reverse, first, rows, end, rcount, roffsets, rdeltas);
+    let rules = set_rules(
+        width,
+        Set::Reverse,
+        first,
+        rows,
+        end,
+        rcount,
+        roffsets,
+        rdeltas,
+    );
     match rules {
-        Ruling::Kept => set_rules(Set::Inbound, first, rows, end, icount, ioffsets, ideltas),
+        Ruling::Kept => set_rules(
+            width,
+            Set::Inbound,
+            first,
+            rows,
+            end,
+            icount,
+            ioffsets,
+            ideltas,
+        ),
         Ruling::Broken(why) => Ruling::Broken(why),
     }
 }
@@ -370,76 +396,86 @@ fn write_within(
     past
 }
 
-// Writes the targets of a slot.
+// Writes the targets of a slot, which is of an event.
 pub fn write_slot(
+    width: usize,
     first: u64,
     offsets: &[u64],
     deltas: &[i64],
     slot: usize,
+    event: u64,
     out: &mut [u64],
     at: usize,
 ) -> usize
-    requires { ⌜ (slot + 1 < length (now offsets)) × (at ≤ maxNumbers) ⌝ }
-    requires { ⌜ Edged kinds first (now offsets) (now deltas) ⌝ }
-    ensures { λ r. ⌜ r ≡ at + length (getD (targetsFrom kinds first 0 (cut (now (offsets .entry)) (now (deltas .entry)))) slot []) ⌝ }
-    ensures { λ _. ⌜ now (out .exit) ≡ sets (now (out .entry)) at (getD (targetsFrom kinds first 0 (cut (now (offsets .entry)) (now (deltas .entry)))) slot []) ⌝ }
+    requires { ⌜ (slot + 1 < length (now offsets)) × ((event ≡ eventOf width first slot) × (at ≤ maxNumbers)) ⌝ }
+    requires { ⌜ Edged width first (now offsets) (now deltas) ⌝ }
+    ensures { λ r. ⌜ r ≡ at + length (getD (targetsFrom width first 0 (cut (now (offsets .entry)) (now (deltas .entry)))) slot []) ⌝ }
+    ensures { λ _. ⌜ now (out .exit) ≡ sets (now (out .entry)) at (getD (targetsFrom width first 0 (cut (now (offsets .entry)) (now (deltas .entry)))) slot []) ⌝ }
 {
     let from = index(offsets[slot]);
     let to = index(offsets[slot + 1]);
-    write_targets(event(first, slot), deltas, from, to, out, at)
+    write_targets(event, deltas, from, to, out, at)
 }
 
-// Writes the targets of a slot and the next one, which are of one row.
+// Writes the targets of a row's slots.
 fn write_row(
+    width: usize,
     first: u64,
     offsets: &[u64],
     deltas: &[i64],
     slot: usize,
+    row: usize,
     out: &mut [u64],
     at: usize,
 ) -> usize
-    requires { ⌜ (slot % 2 ≡ 0) × ((slot + 2 < length (now offsets)) × (at ≤ maxNumbers)) ⌝ }
-    requires { ⌜ Edged kinds first (now offsets) (now deltas) ⌝ }
-    ensures { λ r. ⌜ r ≡ at + length (getD (targetsFrom kinds first 0 (cut (now (offsets .entry)) (now (deltas .entry)))) slot []
-        ++ getD (targetsFrom kinds first 0 (cut (now (offsets .entry)) (now (deltas .entry)))) (slot + 1) []) ⌝ }
-    ensures { λ _. ⌜ now (out .exit) ≡ sets (now (out .entry)) at
-        (getD (targetsFrom kinds first 0 (cut (now (offsets .entry)) (now (deltas .entry)))) slot []
-        ++ getD (targetsFrom kinds first 0 (cut (now (offsets .entry)) (now (deltas .entry)))) (slot + 1) []) ⌝ }
+    requires { ⌜ Served width ⌝ }
+    requires { ⌜ (slot ≡ width * row) × ((slot + width < length (now offsets)) × (at ≤ maxNumbers)) ⌝ }
+    requires { ⌜ Edged width first (now offsets) (now deltas) ⌝ }
+    ensures { λ r. ⌜ r ≡ at + length (joined (part slot width (targetsFrom width first 0 (cut (now (offsets .entry)) (now (deltas .entry)))))) ⌝ }
+    ensures { λ _. ⌜ now (out .exit) ≡ sets (now (out .entry)) at (joined (part slot width (targetsFrom width first 0 (cut (now (offsets .entry)) (now (deltas .entry)))))) ⌝ }
 {
     let from = index(offsets[slot]);
-    let to = index(offsets[slot + 2]);
+    let to = index(offsets[slot + width]);
     if at + (to - from) <= out.len() {
-        return write_within(event(first, slot), deltas, from, to, out, at);
+        return write_within(event(first, row), deltas, from, to, out, at);
     }
-    write_targets(event(first, slot), deltas, from, to, out, at)
+    write_targets(event(first, row), deltas, from, to, out, at)
 }
 
-// Writes the targets of all slots: row by row, and those of the slot that is left over.
-fn write_set(first: u64, offsets: &[u64], deltas: &[i64], out: &mut [u64]) -> usize
-    requires { ⌜ Edged kinds first (now offsets) (now deltas) ⌝ }
-    ensures { λ r. ⌜ r ≡ length (joined (targetsFrom kinds first 0 (cut (now (offsets .entry)) (now (deltas .entry))))) ⌝ }
-    ensures { λ _. ⌜ now (out .exit) ≡ sets (now (out .entry)) 0 (joined (targetsFrom kinds first 0 (cut (now (offsets .entry)) (now (deltas .entry))))) ⌝ }
+// Writes the targets of all slots, row by row.
+fn write_set(width: usize, first: u64, offsets: &[u64], deltas: &[i64], out: &mut [u64]) -> usize
+    requires { ⌜ Served width ⌝ }
+    requires { ⌜ Edged width first (now offsets) (now deltas) ⌝ }
+    ensures { λ r. ⌜ r ≡ length (joined (targetsFrom width first 0 (cut (now (offsets .entry)) (now (deltas .entry))))) ⌝ }
+    ensures { λ _. ⌜ now (out .exit) ≡ sets (now (out .entry)) 0 (joined (targetsFrom width first 0 (cut (now (offsets .entry)) (now (deltas .entry))))) ⌝ }
 {
     let mut at = 0;
     let mut slot = 0;
-    while slot + 2 < offsets.len() {
-        at = write_row(first, offsets, deltas, slot, out, at);
-        slot += 2;
-    }
-    if slot + 1 < offsets.len() {
-        return write_slot(first, offsets, deltas, slot, out, at);
+    let mut row = 0;
+    while slot + width < offsets.len() {
+        at = write_row(width, first, offsets, deltas, slot, row, out, at);
+        slot += width;
+        row += 1;
     }
     at
 }
 
 // Writes the targets of a set whose rules are kept, and answers how many there are.
-pub fn write_csr(first: u64, count: u64, offsets: &[u64], deltas: &[i64], out: &mut [u64]) -> usize
-    requires { ⌜ Readable kinds first (columnsOf count (now offsets) (now deltas)) ⌝ }
-    ensures { λ r. ⌜ r ≡ length (joined (slotsOf kinds first (columnsOf count (now (offsets .entry)) (now (deltas .entry))))) ⌝ }
-    ensures { λ _. ⌜ now (out .exit) ≡ sets (now (out .entry)) 0 (joined (slotsOf kinds first (columnsOf count (now (offsets .entry)) (now (deltas .entry))))) ⌝ }
+pub fn write_csr(
+    width: usize,
+    first: u64,
+    count: u64,
+    offsets: &[u64],
+    deltas: &[i64],
+    out: &mut [u64],
+) -> usize
+    requires { ⌜ Served width ⌝ }
+    requires { ⌜ Readable width first (columnsOf count (now offsets) (now deltas)) ⌝ }
+    ensures { λ r. ⌜ r ≡ length (joined (slotsOf width first (columnsOf count (now (offsets .entry)) (now (deltas .entry))))) ⌝ }
+    ensures { λ _. ⌜ now (out .exit) ≡ sets (now (out .entry)) 0 (joined (slotsOf width first (columnsOf count (now (offsets .entry)) (now (deltas .entry))))) ⌝ }
 {
     if count == 0 {
         return 0;
     }
-    write_set(first, offsets, deltas, out)
+    write_set(width, first, offsets, deltas, out)
 }

@@ -1,5 +1,6 @@
 // The next level of a walk over one file's forward columns, from what was visited and the last level. The set is read first.
 use columns::kind::Kind;
+use columns::kind::Kinds;
 use columns::refusal::Counted;
 use columns::refusal::Refusal;
 use columns_slots::sets;
@@ -15,8 +16,8 @@ ghost use Rattle.lists.specs.Lists.{any};
 ghost use Rattle.lists.specs.Order.{sort};
 ghost use Rattle.columns.specs.Limits.{maxNumbers};
 ghost use Rattle.columns.specs.Walk.{level};
-ghost use Rattle.columns.specs.Answers.{kindOf, columnsOf, room, limitsOf, countedOf, writtenIn, writtenOver};
-ghost use Rattle.columns_levels.specs.frontier.Frontier.{parentsIn};
+ghost use Rattle.columns.specs.Answers.{kindOf, columnsOf, room, limitsOf, countedOf, writtenIn, writtenOver, widthOf};
+ghost use Rattle.columns_levels.specs.frontier.Frontier.{parentsIn, OfKinds};
 ghost use Rattle.columns_walk.specs.level.Step as step;
 ghost use Rattle.columns_walk.specs.level.Step.{unvisited, News};
 
@@ -37,6 +38,7 @@ struct Part {
 
 // Makes what was visited keys, then the parents of the frontier: the part of the keys that those add.
 fn find(
+    width: usize,
     keys: &mut [u64],
     visited: &[u64],
     frontier: &[u64],
@@ -45,13 +47,14 @@ fn find(
     offsets: &[u64],
     targets: &[u64],
 ) -> Part
-    requires { ⌜ (kind < 2) × ((length (now keys) ≡ 8192) × ((length (now visited) ≤ 4096) × (length (now targets) ≤ 4096))) ⌝ }
-    ensures { λ r. ⌜ News (now (keys .exit)) (r .from) (r .to) (unvisited (parentsIn first kind (now (offsets .entry)) (now (targets .entry))) (now (visited .entry)) (now (frontier .entry))) ⌝ }
+    requires { ⌜ (OfKinds width kind) × ((length (now keys) ≡ 8192) × ((length (now visited) ≤ 4096) × (length (now targets) ≤ 4096))) ⌝ }
+    ensures { λ r. ⌜ News (now (keys .exit)) (r .from) (r .to) (unvisited (parentsIn width first kind (now (offsets .entry)) (now (targets .entry))) (now (visited .entry)) (now (frontier .entry))) ⌝ }
 {
     let mut links = [0u64; 8192];
     let mut heads = [0u64; 4099];
     let n = arrays::table::add_list(keys, &mut links, &mut heads, 0, visited, 0, visited.len());
     let r = columns_levels::frontier::collect(
+        width,
         frontier,
         0,
         frontier.len(),
@@ -82,6 +85,7 @@ fn lay(out: &mut [u64], limit: usize, keys: &[u64], n: usize, r: usize) -> usize
 
 // Hands out a level over stored targets.
 fn hand(
+    width: usize,
     out: &mut [u64],
     limit: usize,
     visited: &[u64],
@@ -91,13 +95,22 @@ fn hand(
     offsets: &[u64],
     targets: &[u64],
 ) -> usize
-    requires { ⌜ (kind < 2) × ((4096 ≤ length (now out)) × ((length (now visited) ≤ 4096) × (length (now targets) ≤ 4096))) ⌝ }
-    ensures { λ e. ⌜ e ≡ length (level (parentsIn first kind (now (offsets .entry)) (now (targets .entry))) limit (now (visited .entry)) (now (frontier .entry))) ⌝ }
+    requires { ⌜ (OfKinds width kind) × ((4096 ≤ length (now out)) × ((length (now visited) ≤ 4096) × (length (now targets) ≤ 4096))) ⌝ }
+    ensures { λ e. ⌜ e ≡ length (level (parentsIn width first kind (now (offsets .entry)) (now (targets .entry))) limit (now (visited .entry)) (now (frontier .entry))) ⌝ }
     ensures { λ _. ⌜ now (out .exit) ≡ writtenIn (now (out .entry))
-        (level (parentsIn first kind (now (offsets .entry)) (now (targets .entry))) limit (now (visited .entry)) (now (frontier .entry))) ⌝ }
+        (level (parentsIn width first kind (now (offsets .entry)) (now (targets .entry))) limit (now (visited .entry)) (now (frontier .entry))) ⌝ }
 {
     let mut keys = [0u64; 8192];
-    let part = find(&mut keys, visited, frontier, first, kind, offsets, targets);
+    let part = find(
+        width,
+        &mut keys,
+        visited,
+        frontier,
+        first,
+        kind,
+        offsets,
+        targets,
+    );
     let n = part.from;
     let r = part.to;
     lay(out, limit, &keys, n, r)
@@ -105,6 +118,7 @@ fn hand(
 
 // The level after a frontier, where neither list is too long.
 fn step_from(
+    kinds: Kinds,
     first: u64,
     rows: usize,
     end: u64,
@@ -118,15 +132,17 @@ fn step_from(
     out: &mut [u64],
 ) -> Counted
     requires { ⌜ any (ltb maxNumbers) (length (now visited) ∷ length (now frontier) ∷ []) ≡ false ⌝ }
-    ensures { λ r. ⌜ r ≡ countedOf (step.next first rows end (columnsOf count (now (offsets .entry)) (now (deltas .entry))) (kindOf kind) limit (now (visited .entry))
-        (now (frontier .entry)) (room (length (now (out .entry))))) ⌝ }
+    ensures { λ r. ⌜ r ≡ countedOf (step.next (widthOf kinds) first rows end (columnsOf count (now (offsets .entry)) (now (deltas .entry))) (kindOf kind) limit
+        (now (visited .entry)) (now (frontier .entry)) (room (length (now (out .entry))))) ⌝ }
     ensures { λ _. ⌜ now (out .exit) ≡ writtenOver (now (out .entry))
-        (step.next first rows end (columnsOf count (now (offsets .entry)) (now (deltas .entry))) (kindOf kind) limit (now (visited .entry)) (now (frontier .entry))
-        (room (length (now (out .entry))))) ⌝ }
+        (step.next (widthOf kinds) first rows end (columnsOf count (now (offsets .entry)) (now (deltas .entry))) (kindOf kind) limit (now (visited .entry))
+        (now (frontier .entry)) (room (length (now (out .entry))))) ⌝ }
 {
+    let width = columns::kind::width(kinds);
     let mut decoded = [0u64; 4096];
     let n = least(out.len(), 4096);
     let answer = columns_levels::targets::read(
+        kinds,
         &mut decoded,
         n,
         first,
@@ -140,6 +156,7 @@ fn step_from(
     match answer {
         Counted::Refused(why) => Counted::Refused(why),
         Counted::Entries(_) => Counted::Entries(hand(
+            width,
             out,
             limit,
             visited,
@@ -164,6 +181,7 @@ fn too_long(rows: usize) -> Refusal
 
 // The level after a frontier, of which at most `limit` numbers are handed out: the parents that were not visited, each once, in order.
 pub fn next(
+    kinds: Kinds,
     first: u64,
     rows: usize,
     end: u64,
@@ -176,16 +194,17 @@ pub fn next(
     frontier: &[u64],
     out: &mut [u64],
 ) -> Counted
-    ensures { λ r. ⌜ r ≡ countedOf (step.next first rows end (columnsOf count (now (offsets .entry)) (now (deltas .entry))) (kindOf kind) limit (now (visited .entry))
-        (now (frontier .entry)) (room (length (now (out .entry))))) ⌝ }
+    ensures { λ r. ⌜ r ≡ countedOf (step.next (widthOf kinds) first rows end (columnsOf count (now (offsets .entry)) (now (deltas .entry))) (kindOf kind) limit
+        (now (visited .entry)) (now (frontier .entry)) (room (length (now (out .entry))))) ⌝ }
     ensures { λ _. ⌜ now (out .exit) ≡ writtenOver (now (out .entry))
-        (step.next first rows end (columnsOf count (now (offsets .entry)) (now (deltas .entry))) (kindOf kind) limit (now (visited .entry)) (now (frontier .entry))
-        (room (length (now (out .entry))))) ⌝ }
+        (step.next (widthOf kinds) first rows end (columnsOf count (now (offsets .entry)) (now (deltas .entry))) (kindOf kind) limit (now (visited .entry))
+        (now (frontier .entry)) (room (length (now (out .entry))))) ⌝ }
 {
     if sets::is_over(visited.len(), frontier.len()) {
         return Counted::Refused(too_long(rows));
     }
     step_from(
+        kinds,
         first,
         rows,
         end,

@@ -113,13 +113,13 @@ module _ (first rows end : ℕ) (s : EdgeSet) (lent : List Lent) (n m : ℕ) (h 
 
   module _ (limit : ℕ) where
     module _ (visited frontier : List ℕ) where
-      pub next-told : (x : Counted) {r : Answer} → x ≡ countedOf (next first rows end s m limit visited frontier lent) → r ≡ countOf x
-          → r ≡ countOf (countedOf (after (unnamed kinds n) (next first rows end s n limit visited frontier lent)))
-      next-told = named-counted 1 n m h e (λ k. next first rows end s k limit visited frontier lent)
+      pub next-told : (x : Counted) {r : Answer} → x ≡ countedOf (next kinds first rows end s m limit visited frontier lent) → r ≡ countOf x
+          → r ≡ countOf (countedOf (after (unnamed kinds n) (next kinds first rows end s n limit visited frontier lent)))
+      next-told = named-counted 1 n m h e (λ k. next kinds first rows end s k limit visited frontier lent)
 
-      pub next-written : (old out : List ℕ) → out ≡ writtenOver old (next first rows end s m limit visited frontier lent)
-          → out ≡ writtenOver old (after (unnamed kinds n) (next first rows end s n limit visited frontier lent))
-      next-written = named-written 1 n m h e (λ k. next first rows end s k limit visited frontier lent)
+      pub next-written : (old out : List ℕ) → out ≡ writtenOver old (next kinds first rows end s m limit visited frontier lent)
+          → out ≡ writtenOver old (after (unnamed kinds n) (next kinds first rows end s n limit visited frontier lent))
+      next-written = named-written 1 n m h e (λ k. next kinds first rows end s k limit visited frontier lent)
 
     module _ (start : ℕ) where
       named-walk : after (unnamed kinds n) (walk kinds first rows end s n limit start lent) ≡ walk kinds first rows end s m limit start lent

@@ -2,6 +2,7 @@
 use crate::numbers::count_of;
 use crate::numbers::kind_of;
 use crate::numbers::set_of;
+use columns::kind::Kinds;
 use columns::refusal::Counted;
 use columns::refusal::Refusal;
 use columns::refusal::number;
@@ -50,6 +51,7 @@ pub extern "C" fn ridgeoven_read_set(
         return count_of(Counted::Refused(Refusal::InboundParent));
     }
     count_of(columns_read::sets::decode_csr(
+        Kinds::Two,
         set_of(set),
         first,
         rows,
@@ -92,18 +94,18 @@ pub extern "C" fn ridgeoven_read_granule(
     reverse: &mut [u64],
     inbound: &mut [u64],
 ) -> Granule
-    ensures { λ r. ⌜ r ≡ granuleOf (decodedOf (readLent (headAt first rows end fcount rcount icount cover) (now (fo .entry)) (now (fd .entry)) (now (ro .entry))
+    ensures { λ r. ⌜ r ≡ granuleOf (decodedOf (readLent kinds (headAt first rows end fcount rcount icount cover) (now (fo .entry)) (now (fd .entry)) (now (ro .entry))
         (now (rd .entry)) (now (io .entry)) (now (id .entry)) (now (chains .entry)) (now (seqs .entry))
         (rooms (length (now (forward .entry))) (length (now (reverse .entry))) (length (now (inbound .entry)))))) ⌝ }
     ensures { λ _. ⌜ now (forward .exit) ≡ writtenOver (now (forward .entry))
-        (setIn 0 (readLent (headAt first rows end fcount rcount icount cover) (now (fo .entry)) (now (fd .entry)) (now (ro .entry)) (now (rd .entry)) (now (io .entry))
-        (now (id .entry)) (now (chains .entry)) (now (seqs .entry)) (rooms (length (now (forward .entry))) (length (now (reverse .entry))) (length (now (inbound .entry)))))) ⌝ }
+        (setIn 0 (readLent kinds (headAt first rows end fcount rcount icount cover) (now (fo .entry)) (now (fd .entry)) (now (ro .entry)) (now (rd .entry))
+        (now (io .entry)) (now (id .entry)) (now (chains .entry)) (now (seqs .entry)) (rooms (length (now (forward .entry))) (length (now (reverse .entry))) (length (now (inbound .entry)))))) ⌝ }
     ensures { λ _. ⌜ now (reverse .exit) ≡ writtenOver (now (reverse .entry))
-        (setIn 1 (readLent (headAt first rows end fcount rcount icount cover) (now (fo .entry)) (now (fd .entry)) (now (ro .entry)) (now (rd .entry)) (now (io .entry))
-        (now (id .entry)) (now (chains .entry)) (now (seqs .entry)) (rooms (length (now (forward .entry))) (length (now (reverse .entry))) (length (now (inbound .entry)))))) ⌝ }
+        (setIn 1 (readLent kinds (headAt first rows end fcount rcount icount cover) (now (fo .entry)) (now (fd .entry)) (now (ro .entry)) (now (rd .entry))
+        (now (io .entry)) (now (id .entry)) (now (chains .entry)) (now (seqs .entry)) (rooms (length (now (forward .entry))) (length (now (reverse .entry))) (length (now (inbound .entry)))))) ⌝ }
     ensures { λ _. ⌜ now (inbound .exit) ≡ writtenOver (now (inbound .entry))
-        (setIn 2 (readLent (headAt first rows end fcount rcount icount cover) (now (fo .entry)) (now (fd .entry)) (now (ro .entry)) (now (rd .entry)) (now (io .entry))
-        (now (id .entry)) (now (chains .entry)) (now (seqs .entry)) (rooms (length (now (forward .entry))) (length (now (reverse .entry))) (length (now (inbound .entry)))))) ⌝ }
+        (setIn 2 (readLent kinds (headAt first rows end fcount rcount icount cover) (now (fo .entry)) (now (fd .entry)) (now (ro .entry)) (now (rd .entry))
+        (now (io .entry)) (now (id .entry)) (now (chains .entry)) (now (seqs .entry)) (rooms (length (now (forward .entry))) (length (now (reverse .entry))) (length (now (inbound .entry)))))) ⌝ }
 {
     let head = Head {
         first: first,
@@ -115,6 +117,7 @@ pub extern "C" fn ridgeoven_read_granule(
         cover: flag_at(cover),
     };
     granule_of(columns_read::decode_granule_edges(
+        Kinds::Two,
         head,
         fo,
         fd,
@@ -152,6 +155,7 @@ pub extern "C" fn ridgeoven_parents(
         return count_of(Counted::Refused(Refusal::InboundParent));
     }
     count_of(columns_ask::parents(
+        Kinds::Two,
         first,
         rows,
         end,
@@ -190,6 +194,7 @@ pub extern "C" fn ridgeoven_children(
         return count_of(Counted::Refused(Refusal::InboundParent));
     }
     count_of(columns_ask::children(
+        Kinds::Two,
         first,
         rows,
         end,

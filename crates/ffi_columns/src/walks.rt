@@ -1,6 +1,7 @@
 // The walk, its single step, and the shared ancestor.
 use crate::numbers::count_of;
 use crate::numbers::kind_of;
+use columns::kind::Kinds;
 use columns::refusal::Counted;
 use columns::refusal::Refusal;
 use columns::refusal::number;
@@ -74,6 +75,7 @@ pub extern "C" fn ridgeoven_walk(
         return walked_of(Handed::Refused(Refusal::InboundParent));
     }
     walked_of(columns_walk::walk(
+        Kinds::Two,
         first,
         rows,
         end,
@@ -104,15 +106,17 @@ pub extern "C" fn ridgeoven_next(
     level: &mut [u64],
 ) -> Answer
     ensures { λ r. ⌜ r ≡ countOf (countedOf (after (unnamed kinds kind)
-        (step.next first rows end (columnsOf count (now (offsets .entry)) (now (deltas .entry))) kind limit (now (visited .entry)) (now (frontier .entry)) (room (length (now (level .entry))))))) ⌝ }
+        (step.next kinds first rows end (columnsOf count (now (offsets .entry)) (now (deltas .entry))) kind limit (now (visited .entry)) (now (frontier .entry))
+        (room (length (now (level .entry))))))) ⌝ }
     ensures { λ _. ⌜ now (level .exit) ≡ writtenOver (now (level .entry))
-        (after (unnamed kinds kind) (step.next first rows end (columnsOf count (now (offsets .entry)) (now (deltas .entry))) kind limit (now (visited .entry))
+        (after (unnamed kinds kind) (step.next kinds first rows end (columnsOf count (now (offsets .entry)) (now (deltas .entry))) kind limit (now (visited .entry))
         (now (frontier .entry)) (room (length (now (level .entry)))))) ⌝ }
 {
     if 1 < kind {
         return count_of(Counted::Refused(Refusal::InboundParent));
     }
     count_of(columns_walk::level::next(
+        Kinds::Two,
         first,
         rows,
         end,
@@ -176,6 +180,7 @@ pub extern "C" fn ridgeoven_ancestor(
         return ancestor_of(Shared::Refused(Refusal::InboundParent));
     }
     ancestor_of(columns_walk::ancestor(
+        Kinds::Two,
         first,
         rows,
         end,

@@ -66,7 +66,8 @@ module _ (k : LinkColumns) (chains a b c d : List ℕ) (pa : length a ≡ 1024) 
   long : chainLinks k chains (forRecords (length a ∷ length b ∷ length c ∷ length d ∷ [])) ≡ asked k chains
   long = rw (pa, pb, pc, pd)
 
-  pub long-told : {r : Answer} → r ≡ recordsOf (counted (λ x. x) (chainLinks k chains (forRecords (length a ∷ length b ∷ length c ∷ length d ∷ [])))) → r ≡ recordsOf (counted (λ x. x) (asked k chains))
+  pub long-told : {r : Answer} → r ≡ recordsOf (counted (λ x. x) (chainLinks k chains (forRecords (length a ∷ length b ∷ length c ∷ length d ∷ []))))
+      → r ≡ recordsOf (counted (λ x. x) (asked k chains))
   long-told e = e ∙ ap (λ v. recordsOf (counted (λ x. x) v)) long
 
   pub long-written : {o′ : LinkColumns} (o : LinkColumns) → o′ ≡ linksAfter (λ x. x) (chainLinks k chains (forRecords (length a ∷ length b ∷ length c ∷ length d ∷ []))) o

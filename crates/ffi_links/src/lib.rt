@@ -160,7 +160,8 @@ fn store_first(
     requires { ⌜ n ≤ 1024 ⌝ }
     requires { ⌜ (length (now a) ≡ 1024) × ((length (now b) ≡ 1024) × ((length (now c) ≡ 1024) × (length (now d) ≡ 1024))) ⌝ }
     requires { ⌜ (length (now x) ≡ 1024) × ((length (now y) ≡ 1024) × ((length (now z) ≡ 1024) × (length (now w) ≡ 1024))) ⌝ }
-    ensures { λ _. ⌜ linkColumns (take n (now (x .exit))) (take n (now (y .exit))) (take n (now (z .exit))) (take n (now (w .exit))) ≡ columnsOf (firstLinks n (linkColumns (now (a .entry)) (now (b .entry)) (now (c .entry)) (now (d .entry)))) ⌝ }
+    ensures { λ _. ⌜ linkColumns (take n (now (x .exit))) (take n (now (y .exit))) (take n (now (z .exit))) (take n (now (w .exit)))
+        ≡ columnsOf (firstLinks n (linkColumns (now (a .entry)) (now (b .entry)) (now (c .entry)) (now (d .entry)))) ⌝ }
 {
     cover_build::encode::encode_links(&a[..n], &b[..n], &c[..n], &d[..n], x, y, z, w);
 }
@@ -181,7 +182,11 @@ fn ask_part(
     requires { ⌜ n ≤ 1024 ⌝ }
     requires { ⌜ (length (now x) ≡ 1024) × ((length (now y) ≡ 1024) × ((length (now z) ≡ 1024) × (length (now w) ≡ 1024))) ⌝ }
     requires { ⌜ (length (now a) ≡ 1024) × ((length (now b) ≡ 1024) × ((length (now c) ≡ 1024) × (length (now d) ≡ 1024))) ⌝ }
-    ensures { λ r. ⌜ (r ≡ recordsOf (counted (λ x. x) (chainLinks (linkColumns (take n (now (x .entry))) (take n (now (y .entry))) (take n (now (z .entry))) (take n (now (w .entry)))) (now (chains .entry)) (forRecords (1024 ∷ 1024 ∷ 1024 ∷ 1024 ∷ []))))) × (linkColumns (now (a .exit)) (now (b .exit)) (now (c .exit)) (now (d .exit)) ≡ linksAfter (λ x. x) (chainLinks (linkColumns (take n (now (x .entry))) (take n (now (y .entry))) (take n (now (z .entry))) (take n (now (w .entry)))) (now (chains .entry)) (forRecords (1024 ∷ 1024 ∷ 1024 ∷ 1024 ∷ []))) (linkColumns (now (a .entry)) (now (b .entry)) (now (c .entry)) (now (d .entry)))) ⌝ }
+    ensures { λ r. ⌜ (r ≡ recordsOf (counted (λ x. x) (chainLinks
+        (linkColumns (take n (now (x .entry))) (take n (now (y .entry))) (take n (now (z .entry))) (take n (now (w .entry)))) (now (chains .entry))
+        (forRecords (1024 ∷ 1024 ∷ 1024 ∷ 1024 ∷ []))))) × (linkColumns (now (a .exit)) (now (b .exit)) (now (c .exit)) (now (d .exit))
+        ≡ linksAfter (λ x. x) (chainLinks (linkColumns (take n (now (x .entry))) (take n (now (y .entry))) (take n (now (z .entry))) (take n (now (w .entry))))
+        (now (chains .entry)) (forRecords (1024 ∷ 1024 ∷ 1024 ∷ 1024 ∷ []))) (linkColumns (now (a .entry)) (now (b .entry)) (now (c .entry)) (now (d .entry)))) ⌝ }
 {
     ffi_cover::covers::ridgeoven_chain_links(&x[..n], &y[..n], &z[..n], &w[..n], chains, a, b, c, d)
 }
@@ -202,7 +207,11 @@ fn ask_by(
     requires { ⌜ n ≤ 1024 ⌝ }
     requires { ⌜ (length (now a) ≡ 1024) × ((length (now b) ≡ 1024) × ((length (now c) ≡ 1024) × (length (now d) ≡ 1024))) ⌝ }
     requires { ⌜ (length (now x) ≡ 1024) × ((length (now y) ≡ 1024) × ((length (now z) ≡ 1024) × (length (now w) ≡ 1024))) ⌝ }
-    ensures { λ r. ⌜ (r ≡ recordsOf (counted (λ x. x) (chainLinks (columnsOf (firstLinks n (linkColumns (now (a .entry)) (now (b .entry)) (now (c .entry)) (now (d .entry))))) (now (chains .entry)) (forRecords (1024 ∷ 1024 ∷ 1024 ∷ 1024 ∷ []))))) × (linkColumns (now (a .exit)) (now (b .exit)) (now (c .exit)) (now (d .exit)) ≡ linksAfter (λ x. x) (chainLinks (columnsOf (firstLinks n (linkColumns (now (a .entry)) (now (b .entry)) (now (c .entry)) (now (d .entry))))) (now (chains .entry)) (forRecords (1024 ∷ 1024 ∷ 1024 ∷ 1024 ∷ []))) (linkColumns (now (a .entry)) (now (b .entry)) (now (c .entry)) (now (d .entry)))) ⌝ }
+    ensures { λ r. ⌜ (r ≡ recordsOf (counted (λ x. x) (chainLinks
+        (columnsOf (firstLinks n (linkColumns (now (a .entry)) (now (b .entry)) (now (c .entry)) (now (d .entry))))) (now (chains .entry))
+        (forRecords (1024 ∷ 1024 ∷ 1024 ∷ 1024 ∷ []))))) × (linkColumns (now (a .exit)) (now (b .exit)) (now (c .exit)) (now (d .exit))
+        ≡ linksAfter (λ x. x) (chainLinks (columnsOf (firstLinks n (linkColumns (now (a .entry)) (now (b .entry)) (now (c .entry)) (now (d .entry)))))
+        (now (chains .entry)) (forRecords (1024 ∷ 1024 ∷ 1024 ∷ 1024 ∷ []))) (linkColumns (now (a .entry)) (now (b .entry)) (now (c .entry)) (now (d .entry)))) ⌝ }
 {
     store_first(n, a, b, c, d, x, y, z, w);
     ask_part(n, x, y, z, w, chains, a, b, c, d)
@@ -219,7 +228,11 @@ fn ask_first(
 ) -> Answer
     requires { ⌜ n ≤ 1024 ⌝ }
     requires { ⌜ (length (now a) ≡ 1024) × ((length (now b) ≡ 1024) × ((length (now c) ≡ 1024) × (length (now d) ≡ 1024))) ⌝ }
-    ensures { λ r. ⌜ (r ≡ recordsOf (counted (λ x. x) (chainLinks (columnsOf (firstLinks n (linkColumns (now (a .entry)) (now (b .entry)) (now (c .entry)) (now (d .entry))))) (now (chains .entry)) (forRecords (1024 ∷ 1024 ∷ 1024 ∷ 1024 ∷ []))))) × (linkColumns (now (a .exit)) (now (b .exit)) (now (c .exit)) (now (d .exit)) ≡ linksAfter (λ x. x) (chainLinks (columnsOf (firstLinks n (linkColumns (now (a .entry)) (now (b .entry)) (now (c .entry)) (now (d .entry))))) (now (chains .entry)) (forRecords (1024 ∷ 1024 ∷ 1024 ∷ 1024 ∷ []))) (linkColumns (now (a .entry)) (now (b .entry)) (now (c .entry)) (now (d .entry)))) ⌝ }
+    ensures { λ r. ⌜ (r ≡ recordsOf (counted (λ x. x) (chainLinks
+        (columnsOf (firstLinks n (linkColumns (now (a .entry)) (now (b .entry)) (now (c .entry)) (now (d .entry))))) (now (chains .entry))
+        (forRecords (1024 ∷ 1024 ∷ 1024 ∷ 1024 ∷ []))))) × (linkColumns (now (a .exit)) (now (b .exit)) (now (c .exit)) (now (d .exit))
+        ≡ linksAfter (λ x. x) (chainLinks (columnsOf (firstLinks n (linkColumns (now (a .entry)) (now (b .entry)) (now (c .entry)) (now (d .entry)))))
+        (now (chains .entry)) (forRecords (1024 ∷ 1024 ∷ 1024 ∷ 1024 ∷ []))) (linkColumns (now (a .entry)) (now (b .entry)) (now (c .entry)) (now (d .entry)))) ⌝ }
 {
     let mut x = [0u32; 1024];
     let mut y = [0u32; 1024];
@@ -239,7 +252,11 @@ fn ask_taken(
     d: &mut [u32],
 ) -> Answer
     requires { ⌜ (length (now a) ≡ 1024) × ((length (now b) ≡ 1024) × ((length (now c) ≡ 1024) × (length (now d) ≡ 1024))) ⌝ }
-    ensures { λ r. ⌜ (r ≡ recordsOf (counted (λ x. x) (given n (chainLent (firstLinks n (linkColumns (now (a .entry)) (now (b .entry)) (now (c .entry)) (now (d .entry)))) (now (chains .entry)) room)))) × (linkColumns (now (a .exit)) (now (b .exit)) (now (c .exit)) (now (d .exit)) ≡ linksAfter (λ x. x) (given n (chainLent (firstLinks n (linkColumns (now (a .entry)) (now (b .entry)) (now (c .entry)) (now (d .entry)))) (now (chains .entry)) room)) (linkColumns (now (a .entry)) (now (b .entry)) (now (c .entry)) (now (d .entry)))) ⌝ }
+    ensures { λ r. ⌜ (r ≡ recordsOf (counted (λ x. x) (given n
+        (chainLent (firstLinks n (linkColumns (now (a .entry)) (now (b .entry)) (now (c .entry)) (now (d .entry)))) (now (chains .entry)) room))))
+        × (linkColumns (now (a .exit)) (now (b .exit)) (now (c .exit)) (now (d .exit))
+        ≡ linksAfter (λ x. x) (given n (chainLent (firstLinks n (linkColumns (now (a .entry)) (now (b .entry)) (now (c .entry)) (now (d .entry))))
+        (now (chains .entry)) room)) (linkColumns (now (a .entry)) (now (b .entry)) (now (c .entry)) (now (d .entry)))) ⌝ }
 {
     if 1024 < n {
         return no_entries(Refusal::OverRecords);
@@ -257,7 +274,8 @@ fn ask_taken(
 // them stays. The links rise.
 #[no_mangle]
 pub extern "C" fn ridgeoven_links_from(links: &[Link], chains: &[u32], out: &mut [Link]) -> Answer
-    ensures { λ r. ⌜ (r ≡ recordsOf (counted (λ x. x) (chainLent (map meant (now (links .entry))) (now (chains .entry)) (length (now (out .entry)))))) × (map meant (now (out .exit)) ≡ recordsAfter (chainLent (map meant (now (links .entry))) (now (chains .entry)) (length (now (out .entry)))) (map meant (now (out .entry)))) ⌝ }
+    ensures { λ r. ⌜ (r ≡ recordsOf (counted (λ x. x) (chainLent (map meant (now (links .entry))) (now (chains .entry)) (length (now (out .entry))))))
+        × (map meant (now (out .exit)) ≡ recordsAfter (chainLent (map meant (now (links .entry))) (now (chains .entry)) (length (now (out .entry)))) (map meant (now (out .entry)))) ⌝ }
 {
     let mut a = [0u32; 1024];
     let mut b = [0u32; 1024];

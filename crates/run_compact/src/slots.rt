@@ -1,5 +1,6 @@
 // The lists of the rows that survive, out of the lists of all rows: a table of offsets and a column of numbers.
 use arrays::index;
+use columns::kind::KINDS;
 ghost use mathlib.Core.Path.{_≡_};
 ghost use mathlib.Core.Bool.{true};
 ghost use mathlib.Core.List.{[], _∷_, _++_};
@@ -12,8 +13,6 @@ ghost use Rattle.run_renumber.specs.Answers.{Built};
 ghost use Rattle.cleaning.specs.Survivors.{keepSlots};
 ghost use Rattle.run_compact.specs.Columns.{gone};
 ghost use Rattle.run_compact.specs.slots.Slots.{slotsFrom};
-
-const KINDS: usize = 2;
 
 // targets[a..b] behind all[..end].
 fn append(all: &mut [u64], end: usize, targets: &[u64], a: usize, b: usize) -> usize

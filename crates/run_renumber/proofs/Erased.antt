@@ -45,7 +45,7 @@ module _ {t : Bool} (start : ℕ) (flags : List ℕ) (i b : ℕ) (ps : List ℕ)
 
 -- ── an event ─────────────────────────────────────────────────────────────────────────────────
 
-module _ (K : ℕ) (start : ℕ) (flags offsets targets : List ℕ) (i : ℕ) where
+module _ (K start : ℕ) (flags offsets targets : List ℕ) (i : ℕ) where
   pub not-erased : (getD flags i 0 ≡ 0 → ⊥) → false ≡ isReparented K start flags (cut offsets targets) i
   unfolding isReparented
   not-erased h = rw (ne-eqb (getD flags i 0) 0 h)
@@ -74,14 +74,14 @@ module _ (K : ℕ) (start : ℕ) (flags offsets targets : List ℕ) (i : ℕ) wh
 
 -- ── all events ───────────────────────────────────────────────────────────────────────────────
 
-module _ (K : ℕ) (start : ℕ) (flags : List ℕ) (slots : List (List ℕ)) where
+module _ (K start : ℕ) (flags : List ℕ) (slots : List (List ℕ)) where
   pub count-begins : reparented K start flags slots ≡ 0 + length (filter (isReparented K start flags slots) (upFrom 0 (length flags - 0)))
   unfolding reparented
   count-begins =
       let z : length flags - 0 ≡ length flags = omega arith in
       rw z (omega arith)
 
-module _ (K : ℕ) (start : ℕ) (flags : List ℕ) (slots : List (List ℕ)) (n i : ℕ) {t : ℕ}
+module _ (K start : ℕ) (flags : List ℕ) (slots : List (List ℕ)) (n i : ℕ) {t : ℕ}
     (e : t ≡ n + length (filter (isReparented K start flags slots) (upFrom i (length flags - i)))) where
   pub count-ends : length flags ≤ i → n ≡ t
   unfolding upFrom filter

@@ -72,7 +72,7 @@ module _ (offs : List ℕ) (t b : ℕ) (l : b ≡ getD offs (t + 1) 0) (s base :
 
 -- ── by cases ─────────────────────────────────────────────────────────────────────────────────
 
-module _ (K : ℕ) (start kind : ℕ) (flags numbers offs : List ℕ) (s base end p : ℕ) (was is : List ℕ) (r : Grown) where
+module _ (K start kind : ℕ) (flags numbers offs : List ℕ) (s base end p : ℕ) (was is : List ℕ) (r : Grown) where
   pub exact-before : Exact r base was is (add (slice base end was) p) → p < start
       → Exact r base was is (addParent K start flags numbers kind (cut (take (s + 1) offs) (take base was)) (slice base end was) p)
   unfolding addParent
@@ -94,7 +94,7 @@ module _ (K : ℕ) (start kind : ℕ) (flags numbers offs : List ℕ) (s base en
       unfolding addParent
       exact-merged a b c i ok k l = rw (le-ltb p start h, ← e, erased, own-list offs (K * q + kind) b l s base ok o i a k was) c
 
-pub grew-none : (K : ℕ) → (start kind : ℕ) (flags numbers offs : List ℕ) (s base end p : ℕ) (was : List ℕ) (q x : ℕ) → q ≡ p - start → start ≤ p → x ≡ getD flags q 0
+pub grew-none : (K start kind : ℕ) (flags numbers offs : List ℕ) (s base end p : ℕ) (was : List ℕ) (q x : ℕ) → q ≡ p - start → start ≤ p → x ≡ getD flags q 0
     → (x ≡ 0 → ⊥) → s < length offs → base ≤ end → end ≤ length was → s ≤ K * q + kind
     → Grew base was was end (addParent K start flags numbers kind (cut (take (s + 1) offs) (take base was)) (slice base end was) p)
 unfolding addParent
@@ -108,7 +108,7 @@ grew-none K start kind flags numbers offs s base end p was q x e h f z o a b i =
 
 -- ── the loop over the parents ────────────────────────────────────────────────────────────────
 
-module _ (K : ℕ) (start : ℕ) (flags numbers : List ℕ) (kind : ℕ) (lists : List (List ℕ)) where
+module _ (K start : ℕ) (flags numbers : List ℕ) (kind : ℕ) (lists : List (List ℕ)) where
   parent-grows : (acc : List ℕ) (p : ℕ) → length acc ≤ length (addParent K start flags numbers kind lists acc p)
   unfolding addParent
   parent-grows acc p = go (ltb p start) (eqb (getD flags (p - start) 0) 0)
@@ -132,7 +132,7 @@ module _ (K : ℕ) (start : ℕ) (flags numbers : List ℕ) (kind : ℕ) (lists 
 abbrev after : (K : ℕ) → ℕ → List ℕ → List ℕ → ℕ → List ℕ → ℕ → ℕ → ℕ → List ℕ → ℕ → List ℕ
 after K start flags numbers kind offs s base n all p = addParent K start flags numbers kind (cut (take (s + 1) offs) (take base all)) (slice base n all) p
 
-module _ (K : ℕ) (start : ℕ) (flags numbers : List ℕ) (kind : ℕ) (offs : List ℕ) (s : ℕ) {t : List ℕ} (base n i b : ℕ) (was l ps : List ℕ)
+module _ (K start : ℕ) (flags numbers : List ℕ) (kind : ℕ) (offs : List ℕ) (s : ℕ) {t : List ℕ} (base n i b : ℕ) (was l ps : List ℕ)
     (k : take base l ≡ take base was) (e : t ≡ foldl (addParent K start flags numbers kind (cut (take (s + 1) offs) (take base was))) (slice base n l) (slice i b ps)) where
   pub list-done : b ≤ i → base ≤ n → n ≤ length l → Grew base was l n t
   list-done h a o = record { room = o; above = a; kept = k; holds = rw (e, slice-none i b ps h) }

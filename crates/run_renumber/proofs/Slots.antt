@@ -27,7 +27,7 @@ use Rattle.run_renumber.proofs.Tables.{table-rises, table-within, form-
 
 -- ── the slots that are read ──────────────────────────────────────────────────────────────────
 
-module _ (K : ℕ) (rows : ℕ) (offsets targets : List ℕ) (s : ℕ) (ok : offsetsForm K rows (length targets) offsets ≡ true) (h : s < K * rows) where
+module _ (K rows : ℕ) (offsets targets : List ℕ) (s : ℕ) (ok : offsetsForm K rows (length targets) offsets ≡ true) (h : s < K * rows) where
   pub read-this : s < length offsets
   read-this = omega (arith, form-length K rows (length targets) offsets ok)
 
@@ -111,13 +111,13 @@ module _ (offs all : List ℕ) (s end : ℕ) (lists : List (List ℕ)) (b : Buil
       }
 
 -- and has 17's form
-pub built-form : (K : ℕ) → (offs all : List ℕ) (s end : ℕ) (lists : List (List ℕ)) → Built offs all s end lists → (rows : ℕ) → s ≡ K * rows → offsetsForm K rows end (take (s + 1) offs) ≡ true
+pub built-form : (K : ℕ) (offs all : List ℕ) (s end : ℕ) (lists : List (List ℕ)) → Built offs all s end lists → (rows : ℕ) → s ≡ K * rows → offsetsForm K rows end (take (s + 1) offs) ≡ true
 unfolding offsetsForm
 built-form K offs all s end lists b rows e =
     rw (eq-eqb (length (take (s + 1) offs)) (K * rows + 1) (length-take-le (s + 1) offs (b .room) ∙ omega arith)) (built-table offs all s end lists b)
 
 -- what the call for slot s left, under the slot's name
-module _ (K : ℕ) (rows : ℕ) (offsets targets : List ℕ) (s : ℕ) (ok : offsetsForm K rows (length targets) offsets ≡ true) (h : s < K * rows)
+module _ (K rows : ℕ) (offsets targets : List ℕ) (s : ℕ) (ok : offsetsForm K rows (length targets) offsets ≡ true) (h : s < K * rows)
     (a b : ℕ) (e : a ≡ getD offsets s 0) (f : b ≡ getD offsets (s + 1) 0) (start : ℕ) (flags numbers offs all : List ℕ) (end : ℕ) (lists : List (List ℕ))
     (table : Built offs all s end lists) (r : Grown) (all′ : List ℕ) (x : Exact r end all all′ (newList K start flags numbers (s % K) lists (slice a b targets))) where
   pub slot-put : (m : ℕ) → r ≡ Upto m → K * rows < length offs
@@ -137,18 +137,18 @@ built-same offs all s end lists b = rw (built-cut offs all s end lists b) b
 pub begin-cut : (offs all : List ℕ) → Built offs all 0 0 [] → Built offs all 0 0 (cut (take (0 + 1) offs) (take 0 all))
 begin-cut offs all b = built-same offs all 0 0 [] b
 
-pub begin-lists : (K : ℕ) → (start : ℕ) (flags numbers offs all : List ℕ) (slots : List (List ℕ)) → Built offs all 0 0 []
+pub begin-lists : (K start : ℕ) (flags numbers offs all : List ℕ) (slots : List (List ℕ)) → Built offs all 0 0 []
     → newListsFrom K start flags numbers [] slots ≡ newListsFrom K start flags numbers (cut (take (0 + 1) offs) (take 0 all)) slots
 begin-lists K start flags numbers offs all slots b = rw (built-cut offs all 0 0 [] b)
 
-pub rows-length : (K : ℕ) → (rows : ℕ) (offsets targets : List ℕ) → offsetsForm K rows (length targets) offsets ≡ true → length (cut offsets targets) ≡ K * rows
+pub rows-length : (K rows : ℕ) (offsets targets : List ℕ) → offsetsForm K rows (length targets) offsets ≡ true → length (cut offsets targets) ≡ K * rows
 rows-length K rows offsets targets ok = cut-length offsets targets ∙ omega (arith, form-length K rows (length targets) offsets ok)
 
 -- the lists of the table and the one of slot s
 abbrev more : (K : ℕ) → ℕ → List ℕ → List ℕ → List (List ℕ) → ℕ → List (List ℕ) → List (List ℕ)
 more K start flags numbers lists s slots = lists ++ (newList K start flags numbers (s % K) lists (getD slots s []) ∷ [])
 
-module _ (K : ℕ) (start : ℕ) (flags numbers : List ℕ) where
+module _ (K start : ℕ) (flags numbers : List ℕ) where
   lists-grow : (ls slots : List (List ℕ)) → length (joined ls) ≤ length (joined (newListsFrom K start flags numbers ls slots))
   unfolding newListsFrom
   lists-grow ls [] = le-refl _
@@ -210,7 +210,7 @@ begins (x ∷ xs) all n h = record { count = refl; room = omega arith; filled = 
 pub same-after : (x y : List ℕ) (i v : ℕ) → length x ≡ length (set y i v) → length x ≡ length y
 same-after x y i v e = e ∙ simp length-set
 
-pub lists-named : (K : ℕ) → (r : Grown) (offs all : List ℕ) (s start : ℕ) (flags numbers : List ℕ) (slots : List (List ℕ))
+pub lists-named : (K : ℕ) (r : Grown) (offs all : List ℕ) (s start : ℕ) (flags numbers : List ℕ) (slots : List (List ℕ))
     → Result r offs all s (newListsFrom K start flags numbers [] slots) → numbers ≡ numbersFrom start flags → Result r offs all s (newLists K start flags slots)
 unfolding newLists
 lists-named K r offs all s start flags numbers slots k e = rw e at k

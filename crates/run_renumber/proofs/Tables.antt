@@ -66,7 +66,7 @@ joined-slots count os all e k (suc n) s h =
 
 -- ── 17's form ────────────────────────────────────────────────────────────────────────────────
 
-module _ (K : ℕ) (rows count : ℕ) (os : List ℕ) (e : offsetsForm K rows count os ≡ true) where
+module _ (K rows count : ℕ) (os : List ℕ) (e : offsetsForm K rows count os ≡ true) where
   pub form-length : length os ≡ K * rows + 1
   unfolding offsetsForm
   form-length = eqb-true _ _ (both (eqb (length os) (K * rows + 1)) (fromTo 0 count os) e .0)

@@ -8,7 +8,7 @@ use lib.ListN.{length, getD}
 use Rattle.lists.specs.Lists.{add}
 use Rattle.run_renumber.specs.Numbers.{numbersFrom}
 
-module _ (K : ℕ) (start : ℕ) (flags numbers : List ℕ) where
+module _ (K start : ℕ) (flags numbers : List ℕ) where
   -- a parent more: itself before the start, its new number where it survives, its own new list of the same kind where it is erased
   unfoldable pub addParent : ℕ → List (List ℕ) → List ℕ → ℕ → List ℕ
   addParent kind lists acc p =

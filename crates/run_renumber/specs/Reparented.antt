@@ -10,7 +10,7 @@ use Rattle.lists.specs.Lists.{any, filter, joined, part, upFrom}
 unfoldable pub isErased : ℕ → List ℕ → ℕ → Bool
 isErased start flags p = cond (ltb p start) false (not (eqb (getD flags (p - start) 0) 0))
 
-module _ (K : ℕ) (start : ℕ) (flags : List ℕ) where
+module _ (K start : ℕ) (flags : List ℕ) where
   -- whether the i-th event survives and names an erased parent
   unfoldable pub isReparented : List (List ℕ) → ℕ → Bool
   isReparented slots i = eqb (getD flags i 0) 0 && any (isErased start flags) (joined (part (K * i) K slots))

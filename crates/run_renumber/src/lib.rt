@@ -1,6 +1,7 @@
 // The inner loops of resolving, over flat columns: new numbers, new lists slot by slot, the count of reparented survivors. specs/ says what each is.
 use arrays::index;
 use arrays::searching::among;
+use columns::kind::KINDS;
 ghost use mathlib.Core.Path.{_≡_};
 ghost use mathlib.Core.Bool.{true};
 ghost use mathlib.Core.List.{[], _∷_, _++_, foldl};
@@ -14,8 +15,6 @@ ghost use Rattle.run_renumber.specs.Numbers.{takes, numbersFrom, survivo
 ghost use Rattle.run_renumber.specs.NewLists.{addParent, newList, newListsFrom, newLists};
 ghost use Rattle.run_renumber.specs.Reparented.{isErased, isReparented, reparented};
 ghost use Rattle.run_renumber.specs.Answers.{Exact, Built, Result};
-
-const KINDS: usize = 2;
 
 // How far a column is filled, or that it has no room for what belongs there.
 pub enum Grown {

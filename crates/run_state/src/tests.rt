@@ -1,5 +1,6 @@
 // Tests of one or two columns: the form of offsets, numbers below their event and once in a list, records of rows that are there.
 use arrays::index;
+use columns::kind::KINDS;
 use columns::refusal::Ruling;
 use columns_rules::records::parts::is_in_file;
 use columns_rules::slots::slot_rules;
@@ -23,7 +24,7 @@ pub fn table_ok(n: usize, count: usize, offsets: &[u64]) -> bool
     ensures { λ r. ⌜ r ≡ offsetsForm kinds n count (take (2 * n + 1) (now (offsets .entry))) ⌝ }
 {
     let k = 2 * n + 1;
-    is_form(n, count as u64, &offsets[..k])
+    is_form(KINDS, n, count as u64, &offsets[..k])
 }
 
 // Whether each of targets[from..to] is below the event.

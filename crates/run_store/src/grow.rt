@@ -2,6 +2,7 @@
 // bytes stand one after the other from `base` on, and of each the number that starts `skip` bytes after its first is taken.
 use archive_bytes::load_u32;
 use archive_bytes::load_u64;
+use columns::kind::KINDS;
 ghost use mathlib.Core.Path.{_≡_};
 ghost use mathlib.Core.Bool.{true};
 ghost use mathlib.Core.List.{map};
@@ -191,7 +192,7 @@ fn put_behind(out: &mut [u64], at: usize, first: u64, count: u64, offsets: &[u64
     requires { ⌜ Readable kinds first (columnsOf count (now offsets) (now deltas)) ⌝ }
     ensures { λ _. ⌜ now (out .exit) ≡ sets (now (out .entry)) at (joined (slotsOf kinds first (columnsOf count (now (offsets .entry)) (now (deltas .entry))))) ⌝ }
 {
-    columns_slots::sets::write_csr(first, count, offsets, deltas, &mut out[at..]);
+    columns_slots::sets::write_csr(KINDS, first, count, offsets, deltas, &mut out[at..]);
 }
 
 // The targets of a set whose rules are kept.

@@ -10,6 +10,7 @@ use crate::parts::kind;
 use crate::parts::list;
 use crate::parts::list_i64;
 use crate::parts::number;
+use columns::kind::Kinds;
 use columns_ask::Labelled;
 use columns_build::roots::Roots;
 use columns_read::Decoded;
@@ -60,6 +61,7 @@ pub fn read_agrees(words: &[u64], signed: &[i64]) -> bool {
         cover: number(words, labels_at) != 0,
     };
     let decoded = columns_read::decode_granule_edges(
+        Kinds::Two,
         head,
         list(words, 4, 0),
         list_i64(words, signed, 4, 1),
@@ -82,6 +84,7 @@ pub fn parents_agree(words: &[u64], signed: &[i64]) -> bool {
     let asked = behind_all(words, 4, 2);
     let mut out = [0u64; 4096];
     let counted = columns_ask::parents(
+        Kinds::Two,
         number(words, 0),
         count(words, 1),
         number(words, 2),
@@ -101,6 +104,7 @@ pub fn children_agree(words: &[u64], signed: &[i64]) -> bool {
     let asked = behind_all(words, after(inbound_at), 2);
     let mut out = [0u64; 4096];
     let counted = columns_ask::children(
+        Kinds::Two,
         number(words, 0),
         count(words, 1),
         number(words, 2),

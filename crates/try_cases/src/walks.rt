@@ -10,6 +10,7 @@ use crate::parts::list;
 use crate::parts::list_i64;
 use crate::parts::number;
 use crate::parts::part;
+use columns::kind::Kinds;
 use columns_walk::Handed;
 use columns_walk::level::next;
 
@@ -64,6 +65,7 @@ pub fn walk_agrees(words: &[u64], signed: &[i64]) -> bool {
     let mut out = [0u64; 4096];
     let mut ends = [0u64; 4096];
     let handed = columns_walk::walk(
+        Kinds::Two,
         number(words, 0),
         count(words, 1),
         number(words, 2),
@@ -85,6 +87,7 @@ pub fn next_agrees(words: &[u64], signed: &[i64]) -> bool {
     let limit = after(asked);
     let mut out = [0u64; 4096];
     let counted = next(
+        Kinds::Two,
         number(words, 0),
         count(words, 1),
         number(words, 2),

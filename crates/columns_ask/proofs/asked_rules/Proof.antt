@@ -6,7 +6,7 @@ use Rattle.columns_ask.proofs.asked_rules.Statement.{statement}
 use Rattle.columns_ask.proofs.asked_rules.Tie as tie
 
 are-children-over-requires : tie.Need-are-children-over-requires
-are-children-over-requires c κs = (search needs, (search readable-reverse, search readable-inbound))
+are-children-over-requires c κs = (search needs, (search needs, (search readable-reverse, search readable-inbound)))
 
 returns : tie.Need-returns
 returns c = search over-children

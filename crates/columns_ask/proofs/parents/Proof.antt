@@ -7,7 +7,7 @@ use Rattle.columns_ask.proofs.parents.Statement.{statement}
 use Rattle.columns_ask.proofs.parents.Tie as tie
 
 write-list-requires : tie.Need-write-list-requires
-write-list-requires c κs = ((search kind-in, search needs), search readable)
+write-list-requires c κs = (search needs, ((search kind-in, search needs), search readable))
 
 returns : tie.Need-returns
 returns c = (search parents-counted, search parents-written)
@@ -18,5 +18,5 @@ returns-2 c = (search parents-refused, search parents-as-were)
 pub parents-spec : {M : Type 1} → statement M
 parents-spec =
     tie.close
-    (tie.spec (λ c κs. search needs) (λ c. search needs) (λ c κs. search needs) write-list-requires (λ c. search needs) (λ c. search needs)
-    returns returns-2)
+    (tie.spec (λ c κs. search needs) (λ c κs. search needs) (λ c. search needs) (λ c κs. search needs) write-list-requires
+    (λ c. search needs) (λ c. search needs) returns returns-2)

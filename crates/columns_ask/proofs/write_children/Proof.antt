@@ -6,10 +6,10 @@ use Rattle.columns_ask.proofs.write_children.Statement.{statement}
 use Rattle.columns_ask.proofs.write_children.Tie as tie
 
 write-list-requires : tie.Need-write-list-requires
-write-list-requires c κs = ((search needs, search needs), search needs)
+write-list-requires c κs = (search needs, ((search needs, search needs), search needs))
 
 write-list-requires-2 : tie.Need-write-list-requires-2
-write-list-requires-2 c κs = ((search needs, search list-few), search needs)
+write-list-requires-2 c κs = (search needs, ((search needs, search list-few), search needs))
 
 returns : tie.Need-returns
 returns c = (search both-counted, search both-written)

@@ -1,5 +1,5 @@
 -- `columns_ask::write_list` meets its contract.
-use Rattle.columns_ask.proofs.Found.{empty-ends, empty-put, in-granule, row-fits, slot-fits, there, there-edged, list-ends, list-put}
+use Rattle.columns_ask.proofs.Found.{empty-ends, empty-put, in-granule, row-fits, slot-fits, there, there-event, there-edged, list-ends, list-put}
 use borrow.Author.Needs.{needs}
 use Rattle.columns_ask.proofs.write_list.Statement.{statement}
 use Rattle.columns_ask.proofs.write_list.Tie as tie
@@ -17,7 +17,7 @@ add-slot : tie.Need-add-slot
 add-slot c = search slot-fits
 
 write-slot-requires : tie.Need-write-slot-requires
-write-slot-requires c κs = ((search there, search needs), search there-edged)
+write-slot-requires c κs = ((search there, (search there-event, search needs)), search there-edged)
 
 returns-2 : tie.Need-returns-2
 returns-2 c = (search list-ends, search list-put)

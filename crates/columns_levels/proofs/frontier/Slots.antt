@@ -2,13 +2,16 @@
 use mathlib.Core.Path.{_≡_, refl, sym, _∙_, ap}
 use mathlib.Core.Bool.{Bool, true, false, cond, _||_, or-true, false≢true}
 use mathlib.Core.List.{List, [], _∷_, _++_}
-use Prim.Native.Nat.{ℕ, _≤_, _<_, _+_, _-_, _*_, min}
+use Prim.Native.Nat.{ℕ, _≤_, _<_, _+_, _-_, _*_, min, _^_}
+use native.Mathlib.Nat.{mul-le-mul-left, mul-le-mul-right}
 use native.Mathlib.Numerals.{add-one}
 use native.Mathlib.Omega.{arith}
 use lib.Dec.{ltb}
 use lib.ListN.{length, take, drop, getD, take-append-drop, List·getD-eq-default}
 use lib.Seq.{slice, slice-cons, take-all}
 use borrow.Author.Tests.{le-ltb, lt-ltb}
+use mir.Syntax.{w64}
+use mir.Val.{Fits}
 use Rattle.lists.specs.Lists.{mem, flat}
 use Rattle.lists.proofs.Once.{mem-append}
 use Rattle.lists.proofs.Slices.{slice-none}
@@ -17,7 +20,7 @@ use Rattle.columns.specs.Questions.{listOf}
 use Rattle.columns.proofs.Offsets.{cut-length, cut-at}
 use Rattle.arrays.specs.table.Table.{addCap, addsCap, Keys, Table}
 use Rattle.arrays.proofs.table.Chains.{keys-are}
-use Rattle.columns_levels.specs.frontier.Frontier.{parentsIn}
+use Rattle.columns_levels.specs.frontier.Frontier.{OfKinds, parentsIn}
 
 -- ── slots ────────────────────────────────────────────────────────────────────────────────────
 
@@ -33,37 +36,54 @@ clamped a b l = go (ltb b (length l)) refl
 
 -- ── the parents of a number ──────────────────────────────────────────────────────────────────
 
-module _ (first kind v : ℕ) (offsets targets : List ℕ) where
-  before : v < first → parentsIn first kind offsets targets v ≡ []
+module _ (K first kind v : ℕ) (offsets targets : List ℕ) where
+  before : v < first → parentsIn K first kind offsets targets v ≡ []
   unfolding parentsIn listOf
   before h = rw (lt-ltb v first h)
 
-  after : first ≤ v → length offsets ≤ 2 * (v - first) + kind + 1 → parentsIn first kind offsets targets v ≡ []
+  after : first ≤ v → length offsets ≤ K * (v - first) + kind + 1 → parentsIn K first kind offsets targets v ≡ []
   unfolding parentsIn listOf
-  after h k = rw (le-ltb v first h) (List·getD-eq-default (cut offsets targets) [] {n = 2 * (v - first) + kind} (rw cut-length (omega arith)))
+  after h k = rw (le-ltb v first h) (List·getD-eq-default (cut offsets targets) [] {n = K * (v - first) + kind} (rw cut-length (omega arith)))
 
-  within : first ≤ v → (i s a b : ℕ) → i ≡ v - first → s ≡ 2 * i + kind → s + 1 < length offsets → a ≡ getD offsets s 0 → b ≡ min (getD offsets (s + 1) 0) (length targets)
-      → slice a b targets ≡ parentsIn first kind offsets targets v
+  within : first ≤ v → (i s a b : ℕ) → i ≡ v - first → s ≡ K * i + kind → s + 1 < length offsets → a ≡ getD offsets s 0 → b ≡ min (getD offsets (s + 1) 0) (length targets)
+      → slice a b targets ≡ parentsIn K first kind offsets targets v
   unfolding parentsIn listOf
   within h i s a b e f k g j = rw (le-ltb v first h, ← e, ← f, cut-at offsets targets s k, ← g, j) (clamped a (getD offsets (s + 1) 0) targets)
 
   module _ (keys : List ℕ) (n : ℕ) where
-    stays : n ≤ length keys → parentsIn first kind offsets targets v ≡ [] → Keys keys keys n n (parentsIn first kind offsets targets v)
+    stays : n ≤ length keys → parentsIn K first kind offsets targets v ≡ [] → Keys keys keys n n (parentsIn K first kind offsets targets v)
     unfolding addsCap
     stays u e = record { size = refl; more = omega arith; upto = u; are = rw e }
 
-    pub stays-before : n ≤ length keys → v < first → Keys keys keys n n (parentsIn first kind offsets targets v)
+    pub stays-before : n ≤ length keys → v < first → Keys keys keys n n (parentsIn K first kind offsets targets v)
     stays-before u h = stays u (before h)
 
-    pub stays-far : (m : ℕ) → n ≤ length keys → first ≤ v → m ≡ length offsets → m ≤ v - first → Keys keys keys n n (parentsIn first kind offsets targets v)
-    stays-far m u h e k = stays u (after h (omega arith))
+    pub stays-far : (m : ℕ) → OfKinds K kind → n ≤ length keys → first ≤ v → m ≡ length offsets → m ≤ v - first → Keys keys keys n n (parentsIn K first kind offsets targets v)
+    stays-far m o u h e k = stays u (after h (omega (arith, mul-le-mul-right (v - first) (o .served .some))))
 
-    pub stays-after : (i : ℕ) → n ≤ length keys → first ≤ v → i ≡ v - first → length offsets ≤ 2 * i + kind + 1 → Keys keys keys n n (parentsIn first kind offsets targets v)
-    stays-after i u h e k = stays u (after h (omega arith))
+    pub stays-after : (i : ℕ) → n ≤ length keys → first ≤ v → i ≡ v - first → length offsets ≤ K * i + kind + 1 → Keys keys keys n n (parentsIn K first kind offsets targets v)
+    stays-after i u h e k = stays u (after h (omega (arith, ap (λ (x : ℕ). K * x) e)))
 
-    pub expanded : {keys′ : List ℕ} {r : ℕ} (i a b : ℕ) → Keys keys keys′ n r (slice a b targets) → first ≤ v → i ≡ v - first → 2 * i + kind + 1 < length offsets
-        → a ≡ getD offsets (2 * i + kind) 0 → b ≡ min (getD offsets (2 * i + kind + 1) 0) (length targets) → Keys keys keys′ n r (parentsIn first kind offsets targets v)
-    expanded i a b x h e k f g = rw (within h i (2 * i + kind) a b e refl k f g) at x
+    pub expanded : {keys′ : List ℕ} {r : ℕ} (i a b : ℕ) → Keys keys keys′ n r (slice a b targets) → first ≤ v → i ≡ v - first → K * i + kind + 1 < length offsets
+        → a ≡ getD offsets (K * i + kind) 0 → b ≡ min (getD offsets (K * i + kind + 1) 0) (length targets) → Keys keys keys′ n r (parentsIn K first kind offsets targets v)
+    expanded i a b x h e k f g = rw (within h i (K * i + kind) a b e refl k f g) at x
+
+-- a number below as many as there are offsets has a slot whose place is a number of 64 bits, and so has its place in bytes
+module _ (K kind v first i m : ℕ) (offsets : List ℕ) (o : OfKinds K kind) (e : i ≡ v - first) (f : m ≡ length offsets) (h : v - first < m) (g : length offsets * 8 < 2 ^ 63) where
+  below : i < length offsets
+  below = omega arith
+
+  few : K * i + K ≤ 3 * length offsets
+  few = omega (arith, mul-le-mul-left K below, mul-le-mul-right (length offsets) (o .served .few))
+
+  pub row-fits : Fits w64 (K * i)
+  row-fits = record { fits = omega (arith, few) }
+
+  pub slot-fits : Fits w64 (K * i + kind)
+  slot-fits = record { fits = omega (arith, few, o .below) }
+
+  pub next-fits : Fits w64 (K * i + kind + 1)
+  next-fits = record { fits = omega (arith, few, o .below) }
 
 -- parents are among the targets
 or-yes : (a b : Bool) {t : Bool} → (a ≡ true → t ≡ true) → (b ≡ true → t ≡ true) → a || b ≡ true → t ≡ true
@@ -92,19 +112,19 @@ mem-slot x offsets t s e = go (ltb (s + 1) (length offsets)) refl
         let z : getD (cut offsets t) s [] ≡ [] = List·getD-eq-default (cut offsets t) [] {n = s} (rw cut-length (omega arith)) in
         mem-none x t (rw z at e)
 
-pub parents-in : (first kind : ℕ) (offsets targets : List ℕ) (v x : ℕ) → mem x (parentsIn first kind offsets targets v) ≡ true → mem x targets ≡ true
+pub parents-in : (K first kind : ℕ) (offsets targets : List ℕ) (v x : ℕ) → mem x (parentsIn K first kind offsets targets v) ≡ true → mem x targets ≡ true
 unfolding parentsIn listOf
-parents-in first kind offsets targets v x e = go (ltb v first) e
+parents-in K first kind offsets targets v x e = go (ltb v first) e
   where
-    go : (b : Bool) → mem x (cond b [] (getD (cut offsets targets) (2 * (v - first) + kind) [])) ≡ true → mem x targets ≡ true
+    go : (b : Bool) → mem x (cond b [] (getD (cut offsets targets) (K * (v - first) + kind) [])) ≡ true → mem x targets ≡ true
     go true f = mem-none x targets f
-    go false f = mem-slot x offsets targets (2 * (v - first) + kind) f
+    go false f = mem-slot x offsets targets (K * (v - first) + kind) f
 
-pub all-parents-in : (first kind : ℕ) (offsets targets lvl : List ℕ) (x : ℕ) → mem x (flat (parentsIn first kind offsets targets) lvl) ≡ true → mem x targets ≡ true
-all-parents-in first kind offsets targets [] x e = mem-none x targets e
-all-parents-in first kind offsets targets (v ∷ vs) x e =
-    or-yes (mem x (parentsIn first kind offsets targets v)) (mem x (flat (parentsIn first kind offsets targets) vs)) (parents-in first kind offsets targets v x)
-    (all-parents-in first kind offsets targets vs x) (sym (mem-append x (parentsIn first kind offsets targets v) (flat (parentsIn first kind offsets targets) vs)) ∙ e)
+pub all-parents-in : (K first kind : ℕ) (offsets targets lvl : List ℕ) (x : ℕ) → mem x (flat (parentsIn K first kind offsets targets) lvl) ≡ true → mem x targets ≡ true
+all-parents-in K first kind offsets targets [] x e = mem-none x targets e
+all-parents-in K first kind offsets targets (v ∷ vs) x e =
+    or-yes (mem x (parentsIn K first kind offsets targets v)) (mem x (flat (parentsIn K first kind offsets targets) vs)) (parents-in K first kind offsets targets v x)
+    (all-parents-in K first kind offsets targets vs x) (sym (mem-append x (parentsIn K first kind offsets targets v) (flat (parentsIn K first kind offsets targets) vs)) ∙ e)
 
 -- ── the parents of many ──────────────────────────────────────────────────────────────────────
 

@@ -110,32 +110,32 @@ level-zero : (p : ℕ → List ℕ) (visited frontier x : List ℕ) → take 0 x
 unfolding level
 level-zero p visited frontier x = take-none x ∙ sym (take-none (sort (once (filter (λ n. not (mem n visited)) (flat p frontier)))))
 
-module _ (first kind left n r : ℕ) (offsets targets visited frontier keys keys′ : List ℕ) (q : Seen left n visited keys targets)
-    (k : Keys keys keys′ n r (flat (parentsIn first kind offsets targets) frontier)) (u : n ≤ length keys) where
+module _ (K first kind left n r : ℕ) (offsets targets visited frontier keys keys′ : List ℕ) (q : Seen left n visited keys targets)
+    (k : Keys keys keys′ n r (flat (parentsIn K first kind offsets targets) frontier)) (u : n ≤ length keys) where
   new : List ℕ
-  new = newFrom visited [] (flat (parentsIn first kind offsets targets) frontier)
+  new = newFrom visited [] (flat (parentsIn K first kind offsets targets) frontier)
 
-  all-made : 0 < left → (addsCap (length keys) (take n keys) (flat (parentsIn first kind offsets targets) frontier) ≡ take n keys
-      ++ newFrom visited [] (flat (parentsIn first kind offsets targets) frontier))
-      × (length (take n keys ++ newFrom visited [] (flat (parentsIn first kind offsets targets) frontier)) ≤ hitsIn
-      (take n keys ++ newFrom visited [] (flat (parentsIn first kind offsets targets) frontier)) (q .bound))
+  all-made : 0 < left → (addsCap (length keys) (take n keys) (flat (parentsIn K first kind offsets targets) frontier) ≡ take n keys
+      ++ newFrom visited [] (flat (parentsIn K first kind offsets targets) frontier))
+      × (length (take n keys ++ newFrom visited [] (flat (parentsIn K first kind offsets targets) frontier)) ≤ hitsIn
+      (take n keys ++ newFrom visited [] (flat (parentsIn K first kind offsets targets) frontier)) (q .bound))
   all-made h =
-      made-all (length keys) (take n keys) (q .bound) visited (q .same h) (q .fits) (flat (parentsIn first kind offsets targets) frontier)
-      (λ x e. q .every x (all-parents-in first kind offsets targets frontier x e)) (q .within h)
+      made-all (length keys) (take n keys) (q .bound) visited (q .same h) (q .fits) (flat (parentsIn K first kind offsets targets) frontier)
+      (λ x e. q .every x (all-parents-in K first kind offsets targets frontier x e)) (q .within h)
 
-  keys-new : 0 < left → take r keys′ ≡ take n keys ++ newFrom visited [] (flat (parentsIn first kind offsets targets) frontier)
+  keys-new : 0 < left → take r keys′ ≡ take n keys ++ newFrom visited [] (flat (parentsIn K first kind offsets targets) frontier)
   keys-new h = k .are ∙ all-made h .0
 
-  pub slice-new : 0 < left → slice n r keys′ ≡ newFrom visited [] (flat (parentsIn first kind offsets targets) frontier)
+  pub slice-new : 0 < left → slice n r keys′ ≡ newFrom visited [] (flat (parentsIn K first kind offsets targets) frontier)
   slice-new h =
-      ap (λ (l : List ℕ). drop n l) (keys-new h) ∙ drop-at (take n keys) (newFrom visited [] (flat (parentsIn first kind offsets targets) frontier)) n (length-take-le n keys u)
+      ap (λ (l : List ℕ). drop n l) (keys-new h) ∙ drop-at (take n keys) (newFrom visited [] (flat (parentsIn K first kind offsets targets) frontier)) n (length-take-le n keys u)
 
-  pub by-keys : take left (sort (slice n r keys′)) ≡ level (parentsIn first kind offsets targets) left visited frontier
+  pub by-keys : take left (sort (slice n r keys′)) ≡ level (parentsIn K first kind offsets targets) left visited frontier
   by-keys = go left refl
     where
-      go : (j : ℕ) → left ≡ j → take left (sort (slice n r keys′)) ≡ level (parentsIn first kind offsets targets) left visited frontier
-      go zero e = rw e (level-zero (parentsIn first kind offsets targets) visited frontier (sort (slice n r keys′)))
-      go (suc j) e = rw (slice-new (omega (arith, e))) (level-new (parentsIn first kind offsets targets) left visited frontier)
+      go : (j : ℕ) → left ≡ j → take left (sort (slice n r keys′)) ≡ level (parentsIn K first kind offsets targets) left visited frontier
+      go zero e = rw e (level-zero (parentsIn K first kind offsets targets) visited frontier (sort (slice n r keys′)))
+      go (suc j) e = rw (slice-new (omega (arith, e))) (level-new (parentsIn K first kind offsets targets) left visited frontier)
 
   pub seen-after : (m e : ℕ) (buf buf′ : List ℕ) → visited ≡ take m buf → Laid m buf buf′ e (take left (sort (slice n r keys′))) → e ≤ m + left
       → Seen (left - (e - m)) r (take e buf′) keys′ targets
@@ -163,14 +163,14 @@ module _ (first kind left n r : ℕ) (offsets targets visited frontier keys keys
           ∙ ap (λ (b : Bool). b || mem y (slice n r keys′)) (q .same j y) ∙ ap (λ (b : Bool). mem y visited || b) (sym (mem-sort y (slice n r keys′)))
           ∙ sym (mem-append y visited (sort (slice n r keys′))) ∙ ap (λ (l : List ℕ). mem y l) (sym w)
 
-module _ (first kind left lo m n r : ℕ) (offsets targets buf keys keys′ links heads : List ℕ) (q : Seen left n (take m buf) keys targets)
-    (k : Keys keys keys′ n r (flat (parentsIn first kind offsets targets) (slice lo m buf))) (tab : Table keys links heads n) (e : ℕ) (buf′ : List ℕ)
+module _ (K first kind left lo m n r : ℕ) (offsets targets buf keys keys′ links heads : List ℕ) (q : Seen left n (take m buf) keys targets)
+    (k : Keys keys keys′ n r (flat (parentsIn K first kind offsets targets) (slice lo m buf))) (tab : Table keys links heads n) (e : ℕ) (buf′ : List ℕ)
     (x : Laid m buf buf′ e (take left (sort (slice n r keys′)))) where
-  pub level-laid : Laid m buf buf′ e (level (parentsIn first kind offsets targets) left (take m buf) (slice lo m buf))
-  level-laid = moved m e buf buf′ _ _ (by-keys first kind left n r offsets targets (take m buf) (slice lo m buf) keys keys′ q k (tab .upto)) x
+  pub level-laid : Laid m buf buf′ e (level (parentsIn K first kind offsets targets) left (take m buf) (slice lo m buf))
+  level-laid = moved m e buf buf′ _ _ (by-keys K first kind left n r offsets targets (take m buf) (slice lo m buf) keys keys′ q k (tab .upto)) x
 
   pub level-seen : e ≤ m + left → Seen (left - (e - m)) r (take e buf′) keys′ targets
-  level-seen a = seen-after first kind left n r offsets targets (take m buf) (slice lo m buf) keys keys′ q k (tab .upto) m e buf buf′ refl x a
+  level-seen a = seen-after K first kind left n r offsets targets (take m buf) (slice lo m buf) keys keys′ q k (tab .upto) m e buf buf′ refl x a
 
 pub keys-more : (keys keys′ ps : List ℕ) (n r : ℕ) → Keys keys keys′ n r ps → n ≤ r
 keys-more keys keys′ ps n r x = x .more

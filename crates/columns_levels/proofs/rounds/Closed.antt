@@ -145,45 +145,46 @@ grown-first p a targets = record {
   within = first-within a targets;
 }
 
-module _ (first kind a i n r : ℕ) (offsets targets keys keys′ : List ℕ) (w : Grown (parentsIn first kind offsets targets) a targets (take n keys) i)
-    (k : Keys keys keys′ n r (parentsIn first kind offsets targets (getD keys i 0))) (h : i < n) (u : n ≤ length keys) (o : length targets < length keys) where
+module _ (K first kind a i n r : ℕ) (offsets targets keys keys′ : List ℕ) (w : Grown (parentsIn K first kind offsets targets) a targets (take n keys) i)
+    (k : Keys keys keys′ n r (parentsIn K first kind offsets targets (getD keys i 0))) (h : i < n) (u : n ≤ length keys) (o : length targets < length keys) where
   many : length (take n keys) ≡ n
   many = length-take-le n keys u
 
   same-at : getD (take n keys) i 0 ≡ getD keys i 0
   same-at = getD-take n keys i 0 h
 
-  put-in : Put (length keys) (take n keys) (parentsIn first kind offsets targets (getD keys i 0)) (a ∷ targets)
+  put-in : Put (length keys) (take n keys) (parentsIn K first kind offsets targets (getD keys i 0)) (a ∷ targets)
   put-in =
-      put-keys (length keys) (a ∷ targets) (take n keys) (parentsIn first kind offsets targets (getD keys i 0))
-      (λ x e. mem-later x a targets (parents-in first kind offsets targets (getD keys i 0) x e)) (omega arith) (w .within)
+      put-keys (length keys) (a ∷ targets) (take n keys) (parentsIn K first kind offsets targets (getD keys i 0))
+      (λ x e. mem-later x a targets (parents-in K first kind offsets targets (getD keys i 0) x e)) (omega arith) (w .within)
 
-  was-reached : Reaches (parentsIn first kind offsets targets) a (getD keys i 0)
+  was-reached : Reaches (parentsIn K first kind offsets targets) a (getD keys i 0)
   was-reached = w .only (getD keys i 0) (ap (λ (y : ℕ). mem y (take n keys)) (sym same-at) ∙ mem-at (take n keys) i (omega (arith, many)))
 
-  only′ : (x : ℕ) → mem x (addsCap (length keys) (take n keys) (parentsIn first kind offsets targets (getD keys i 0))) ≡ true → Reaches (parentsIn first kind offsets targets) a x
+  only′ : (x : ℕ) → mem x (addsCap (length keys) (take n keys) (parentsIn K first kind offsets targets (getD keys i 0))) ≡ true → Reaches (parentsIn K first kind offsets targets) a x
   only′ x e = elim (tested (mem x (take n keys))) [
     | inl f ↦ w .only x f
-    | inr f ↦ reach-one (parentsIn first kind offsets targets) a (getD keys i 0) x was-reached (from-all (length keys) (take n keys) (parentsIn first kind offsets targets (getD keys i 0)) x e f)
+    | inr f ↦ reach-one (parentsIn K first kind offsets targets) a (getD keys i 0) x was-reached (from-all (length keys) (take n keys) (parentsIn K first kind offsets targets (getD keys i 0)) x e f)
   ]
 
-  closed′ : (j : ℕ) → j < i + 1 → (x : ℕ) → mem x (parentsIn first kind offsets targets (getD (addsCap (length keys) (take n keys) (parentsIn first kind offsets targets (getD keys i 0))) j 0)) ≡ true
-      → mem x (addsCap (length keys) (take n keys) (parentsIn first kind offsets targets (getD keys i 0))) ≡ true
+  closed′ : (j : ℕ) → j < i + 1 → (x : ℕ) → mem x (parentsIn K first kind offsets targets
+      (getD (addsCap (length keys) (take n keys) (parentsIn K first kind offsets targets (getD keys i 0))) j 0)) ≡ true
+      → mem x (addsCap (length keys) (take n keys) (parentsIn K first kind offsets targets (getD keys i 0))) ≡ true
   closed′ j q x e =
-      let f : mem x (parentsIn first kind offsets targets (getD (take n keys) j 0)) ≡ true =
-      ap (λ (y : ℕ). mem x (parentsIn first kind offsets targets y)) (sym (put-in .front j (omega (arith, many, q)))) ∙ e in
+      let f : mem x (parentsIn K first kind offsets targets (getD (take n keys) j 0)) ≡ true =
+      ap (λ (y : ℕ). mem x (parentsIn K first kind offsets targets y)) (sym (put-in .front j (omega (arith, many, q)))) ∙ e in
       elim (tested (eqb j i)) [
-        | inl d ↦ put-in .all x (ap (λ (y : ℕ). mem x (parentsIn first kind offsets targets y)) (sym (ap (λ (y : ℕ). getD (take n keys) y 0) (eqb-true j i d) ∙ same-at)) ∙ f)
+        | inl d ↦ put-in .all x (ap (λ (y : ℕ). mem x (parentsIn K first kind offsets targets y)) (sym (ap (λ (y : ℕ). getD (take n keys) y 0) (eqb-true j i d) ∙ same-at)) ∙ f)
         | inr d ↦ let z = eqb-false j i d in put-in .kept x (w .closed j (omega (arith, q, z)) x f)
       ]
 
-  grown-turn : Grown (parentsIn first kind offsets targets) a targets (take r keys′) (i + 1)
+  grown-turn : Grown (parentsIn K first kind offsets targets) a targets (take r keys′) (i + 1)
   grown-turn = rw (k .are) (record { only = only′; start = put-in .kept a (w .start); closed = closed′; within = put-in .within })
 
-pub turn-grown : (first kind a i n r : ℕ) (offsets targets keys keys′ keys₀ : List ℕ) → Grown (parentsIn first kind offsets targets) a targets (take n keys) i
-    → Keys keys keys′ n r (parentsIn first kind offsets targets (getD keys i 0)) → length keys ≡ length keys₀ → length targets < length keys₀ → i < n → n ≤ length keys
-    → Grown (parentsIn first kind offsets targets) a targets (take r keys′) (i + 1)
-turn-grown first kind a i n r offsets targets keys keys′ keys₀ w k e o h u = grown-turn first kind a i n r offsets targets keys keys′ w k h u (omega (arith, e))
+pub turn-grown : (K first kind a i n r : ℕ) (offsets targets keys keys′ keys₀ : List ℕ) → Grown (parentsIn K first kind offsets targets) a targets (take n keys) i
+    → Keys keys keys′ n r (parentsIn K first kind offsets targets (getD keys i 0)) → length keys ≡ length keys₀ → length targets < length keys₀ → i < n → n ≤ length keys
+    → Grown (parentsIn K first kind offsets targets) a targets (take r keys′) (i + 1)
+turn-grown K first kind a i n r offsets targets keys keys′ keys₀ w k e o h u = grown-turn K first kind a i n r offsets targets keys keys′ w k h u (omega (arith, e))
 
 pub reach-done : (p : ℕ → List ℕ) (a n i : ℕ) (targets keys links heads : List ℕ) → Grown p a targets (take n keys) i → n ≤ i → Table keys links heads n → All p a (take n keys)
 reach-done p a n i targets keys links heads w h t = all-closed p a targets (take n keys) i w (let l = length-take-le n keys (t .upto) in omega (arith, l))

@@ -6,8 +6,8 @@ use Prim.Native.Nat.{ℕ, _≤_, _<_}
 use native.Mathlib.Omega.{arith}
 use lib.ListN.{length, take, drop}
 use lib.Seq.{length-take-le}
-use Rattle.columns.specs.Limits.{kinds}
 use Rattle.lists.specs.Lists.{any, joined}
+use Rattle.columns.specs.Limits.{Served}
 use Rattle.columns.specs.Refusal.{unless, firstOf, short, limits}
 use Rattle.columns.specs.EdgeSet.{EdgeSet, cut}
 use Rattle.columns.specs.Reading.{setRules, slotsOf, setLengths, decodeSet}
@@ -21,7 +21,7 @@ use Rattle.columns.specs.declared.refusal.Counted.{Counted}
 use Rattle.columns.specs.declared.refusal.Counted.the-variants as counted
 use Rattle.columns.proofs.FirstBroken.{each-none}
 use Rattle.columns.proofs.Checks.{lent-room}
-use Rattle.columns_levels.specs.frontier.Frontier.{parentsIn}
+use Rattle.columns_levels.specs.frontier.Frontier.{OfKinds, parentsIn}
 use Rattle.columns_levels.proofs.targets.Stored.{stored}
 
 -- ── limits ───────────────────────────────────────────────────────────────────────────────────
@@ -30,61 +30,62 @@ no-room : any short (room 4096) ≡ any short []
 unfolding any short
 no-room = refl
 
-pub same-alone : (first rows end : ℕ) (s : EdgeSet) → lentRules kinds 0 first rows end s (room 4096) ≡ lentRules kinds 0 first rows end s []
+pub same-alone : (K first rows end : ℕ) (s : EdgeSet) → lentRules K 0 first rows end s (room 4096) ≡ lentRules K 0 first rows end s []
 unfolding lentRules limits
-same-alone first rows end s = rw no-room
+same-alone K first rows end s = rw no-room
 
 -- ── the reading ──────────────────────────────────────────────────────────────────────────────
 
-module _ (n first rows end : ℕ) (s : EdgeSet) (r : Counted) (e : r ≡ countedOf (inOne (decodeSet kinds 0 first rows end s (room n)))) where
-  pub was-read : (k : ℕ) → r ≡ counted.Entries k → lentRules kinds 0 first rows end s (room n) ≡ none
+module _ (K n first rows end : ℕ) (s : EdgeSet) (r : Counted) (e : r ≡ countedOf (inOne (decodeSet K 0 first rows end s (room n)))) where
+  pub was-read : (k : ℕ) → r ≡ counted.Entries k → lentRules K 0 first rows end s (room n) ≡ none
   unfolding countedOf inOne decodeSet lentRules unless
-  was-read k f = go (firstOf (limits (rows ∷ []) (setLengths s) (room n) ∷ setRules kinds 0 first rows end s ∷ [])) (sym f ∙ e)
+  was-read k f = go (firstOf (limits (rows ∷ []) (setLengths s) (room n) ∷ setRules K 0 first rows end s ∷ [])) (sym f ∙ e)
     where
-      go : (o : Option Refusal) → counted.Entries k ≡ countedOf (inOne (unless o (slotsOf kinds first s))) → o ≡ none
+      go : (o : Option Refusal) → counted.Entries k ≡ countedOf (inOne (unless o (slotsOf K first s))) → o ≡ none
       go none q = refl
       go (some w) q = let z : _≡_ {A = ℕ} 0 1 = cc in absurd (omega arith)
 
-  pub was-refused : (why : Refusal) → r ≡ counted.Refused why → lentRules kinds 0 first rows end s (room n) ≡ some why
+  pub was-refused : (why : Refusal) → r ≡ counted.Refused why → lentRules K 0 first rows end s (room n) ≡ some why
   unfolding countedOf inOne decodeSet lentRules unless
-  was-refused why f = go (firstOf (limits (rows ∷ []) (setLengths s) (room n) ∷ setRules kinds 0 first rows end s ∷ [])) (sym f ∙ e)
+  was-refused why f = go (firstOf (limits (rows ∷ []) (setLengths s) (room n) ∷ setRules K 0 first rows end s ∷ [])) (sym f ∙ e)
     where
-      go : (o : Option Refusal) → counted.Refused why ≡ countedOf (inOne (unless o (slotsOf kinds first s))) → o ≡ some why
+      go : (o : Option Refusal) → counted.Refused why ≡ countedOf (inOne (unless o (slotsOf K first s))) → o ≡ some why
       go none q = let z : _≡_ {A = ℕ} 0 1 = cc in absurd (omega arith)
       go (some w) q = let z : w ≡ why = cc in rw z
 
-module _ (n first rows end : ℕ) (s : EdgeSet) (k : lentRules kinds 0 first rows end s (room n) ≡ none) where
+module _ (K n first rows end : ℕ) (s : EdgeSet) (k : lentRules K 0 first rows end s (room n) ≡ none) where
   pub whole : 4096 ≤ n
-  whole = lent-room kinds 0 first rows end s n Kept (ap ruling (sym k)) refl
+  whole = lent-room K 0 first rows end s n Kept (ap ruling (sym k)) refl
 
-  kept : setRules kinds 0 first rows end s ≡ none
+  kept : setRules K 0 first rows end s ≡ none
   unfolding lentRules
   kept = each-none _ k .1 .0
 
-  pub parents-are : (l t : List ℕ) → t ≡ writtenOver (take n l) (inOne (decodeSet kinds 0 first rows end s (room n))) ++ drop n l → cut (s .offsets) t ≡ slotsOf kinds first s
+  pub parents-are : (l t : List ℕ) → t ≡ writtenOver (take n l) (inOne (decodeSet K 0 first rows end s (room n))) ++ drop n l → cut (s .offsets) t ≡ slotsOf K first s
   unfolding writtenOver inOne decodeSet lentRules unless
   parents-are l t e =
-      let ts = joined (slotsOf kinds first s) in
+      let ts = joined (slotsOf K first s) in
       let c : t ≡ (ts ++ drop (length ts) (take n l)) ++ drop n l = rw k at e in
-      rw (c, append-assoc ts (drop (length ts) (take n l)) (drop n l)) (stored 0 first rows end s kept (drop (length ts) (take n l) ++ drop n l))
+      rw (c, append-assoc ts (drop (length ts) (take n l)) (drop n l)) (stored K 0 first rows end s kept (drop (length ts) (take n l) ++ drop n l))
 
 -- stored targets have the parents of the set
-pub parents-fun : (first kind : ℕ) (offsets t : List ℕ) (lists : List (List ℕ)) → cut offsets t ≡ lists → parentsIn first kind offsets t ≡ listOf kinds first lists kind
+pub parents-fun : (K first kind : ℕ) (offsets t : List ℕ) (lists : List (List ℕ)) → cut offsets t ≡ lists → parentsIn K first kind offsets t ≡ listOf K first lists kind
 unfolding parentsIn
-parents-fun first kind offsets t lists e = fun-ext (λ v. ap (λ (g : List (List ℕ)). listOf kinds first g kind v) e)
+parents-fun K first kind offsets t lists e = fun-ext (λ v. ap (λ (g : List (List ℕ)). listOf K first g kind v) e)
 
 -- ── read ─────────────────────────────────────────────────────────────────────────────────────
 
-pub read-count : (n first rows end : ℕ) (s : EdgeSet) (l : List ℕ) (r : Counted) → r ≡ countedOf (inOne (decodeSet kinds 0 first rows end s (room (length (take n l))))) → n ≤ length l
-    → r ≡ countedOf (inOne (decodeSet kinds 0 first rows end s (room n)))
-read-count n first rows end s l r e h = e ∙ ap (λ (k : ℕ). countedOf (inOne (decodeSet kinds 0 first rows end s (room k)))) (length-take-le n l h)
+pub read-count : (K n first rows end : ℕ) (s : EdgeSet) (l : List ℕ) (r : Counted) → r ≡ countedOf (inOne (decodeSet K 0 first rows end s (room (length (take n l))))) → n ≤ length l
+    → r ≡ countedOf (inOne (decodeSet K 0 first rows end s (room n)))
+read-count K n first rows end s l r e h = e ∙ ap (λ (k : ℕ). countedOf (inOne (decodeSet K 0 first rows end s (room k)))) (length-take-le n l h)
 
-pub read-written : {t : List ℕ} (n first rows end : ℕ) (s : EdgeSet) (l : List ℕ) → t ≡ writtenOver (take n l) (inOne (decodeSet kinds 0 first rows end s (room (length (take n l))))) → n ≤ length l
-    → t ++ drop n l ≡ writtenOver (take n l) (inOne (decodeSet kinds 0 first rows end s (room n))) ++ drop n l
-read-written n first rows end s l e h = ap (λ (m : List ℕ). m ++ drop n l) (e ∙ ap (λ (k : ℕ). writtenOver (take n l) (inOne (decodeSet kinds 0 first rows end s (room k)))) (length-take-le n l h))
+pub read-written : (K : ℕ) {t : List ℕ} (n first rows end : ℕ) (s : EdgeSet) (l : List ℕ)
+    → t ≡ writtenOver (take n l) (inOne (decodeSet K 0 first rows end s (room (length (take n l))))) → n ≤ length l
+    → t ++ drop n l ≡ writtenOver (take n l) (inOne (decodeSet K 0 first rows end s (room n))) ++ drop n l
+read-written K n first rows end s l e h = ap (λ (m : List ℕ). m ++ drop n l) (e ∙ ap (λ (k : ℕ). writtenOver (take n l) (inOne (decodeSet K 0 first rows end s (room k)))) (length-take-le n l h))
 
 -- ── leaves ───────────────────────────────────────────────────────────────────────────────────
 
-pub kind-below : (k : Kind) (n : ℕ) → n ≡ kindOf k → n < 2
-kind-below Prev n e = omega arith
-kind-below Auth n e = omega arith
+pub kind-below : (K : ℕ) → Served K → (k : Kind) (n : ℕ) → n ≡ kindOf k → OfKinds K n
+kind-below K s Prev n e = record { served = s; below = omega arith }
+kind-below K s Auth n e = record { served = s; below = omega arith }

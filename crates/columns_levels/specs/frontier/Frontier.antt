@@ -5,14 +5,19 @@ use mathlib.Core.List.{List, [], _∷_}
 use Prim.Native.Nat.{ℕ, _+_, _≤_, _<_}
 use lib.ListN.{length, take}
 use lib.Seq.{slice, sets}
-use Rattle.columns.specs.Limits.{kinds}
 use Rattle.lists.specs.Lists.{mem}
+use Rattle.columns.specs.Limits.{Served}
 use Rattle.columns.specs.EdgeSet.{cut}
 use Rattle.columns.specs.Questions.{listOf}
 
+-- a kind that is asked for, of a number of kinds that is served
+pub record OfKinds (K kind : ℕ) : Type 0 where
+  pub served : Served K
+  pub below : kind < K
+
 -- the parents of a number of a kind, out of targets that offsets cut into the lists of the slots from `first` on
-unfoldable pub parentsIn : ℕ → ℕ → List ℕ → List ℕ → ℕ → List ℕ
-parentsIn first kind offsets targets number = listOf kinds first (cut offsets targets) kind number
+unfoldable pub parentsIn : (K : ℕ) → ℕ → ℕ → List ℕ → List ℕ → ℕ → List ℕ
+parentsIn K first kind offsets targets number = listOf K first (cut offsets targets) kind number
 
 -- a list written from a place on
 unfoldable pub copied : List ℕ → ℕ → List ℕ → List ℕ

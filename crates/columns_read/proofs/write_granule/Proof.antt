@@ -5,13 +5,13 @@ use Rattle.columns_read.proofs.write_granule.Statement.{statement}
 use Rattle.columns_read.proofs.write_granule.Tie as tie
 
 write-csr-requires : tie.Need-write-csr-requires
-write-csr-requires c κs = c .before .before .before .before .before .before .before .pre .0
+write-csr-requires c κs = (search needs, c .before .before .before .before .before .before .before .pre .1 .0)
 
 write-csr-requires-2 : tie.Need-write-csr-requires-2
-write-csr-requires-2 c κs = c .before .before .before .before .before .before .before .before .before .before .before .pre .1 .0
+write-csr-requires-2 c κs = (search needs, c .before .before .before .before .before .before .before .before .before .before .before .pre .1 .1 .0)
 
 write-csr-requires-3 : tie.Need-write-csr-requires-3
-write-csr-requires-3 c κs = c .before .before .before .before .before .before .before .before .before .before .before .before .before .before .before .pre .1 .1
+write-csr-requires-3 c κs = (search needs, c .before .before .before .before .before .before .before .before .before .before .before .before .before .before .before .pre .1 .1 .1)
 
 returns : tie.Need-returns
 returns c =

@@ -1,8 +1,9 @@
 -- The turns of the loops that check offsets and deltas, and the tests between them, as laws of the definitions.
 use mathlib.Core.Path.{_≡_, refl, sym, ap, _∙_}
-use mathlib.Core.Bool.{Bool, true, false, _&&_, not, and-true}
+use mathlib.Core.Bool.{Bool, true, false, _&&_, not}
 use mathlib.Core.List.{List, [], _∷_}
-use Prim.Native.Nat.{ℕ, suc, _≤_, _<_, _+_, _-_, _*_, _/_, _%_, _^_}
+use Prim.Native.Nat.{ℕ, _≤_, _<_, _+_, _-_, _*_, _/_, _%_, _^_}
+use native.Mathlib.Nat.{div-add-mod, mul-div-right, mul-mod-right}
 use native.Mathlib.Numerals.{add-one}
 use native.Mathlib.Omega.{arith}
 use lib.Dec.{leb, ltb, eqb}
@@ -17,14 +18,14 @@ use Rattle.lists.specs.Lists.{all}
 use Rattle.lists.specs.Order.{climbsTo}
 use Rattle.lists.proofs.Tests.{same-test}
 use Rattle.lists.proofs.Slices.{slice-none}
-use Rattle.columns.specs.Limits.{kinds, end64, end32}
+use Rattle.columns.specs.Limits.{end64, end32, Served}
 use Rattle.columns.specs.Refusal.{firstOf}
-use Rattle.columns.specs.EdgeSet.{cut, eventOf, fromTo, offsetsForm, sound}
+use Rattle.columns.specs.EdgeSet.{cut, fromTo, offsetsForm, sound}
 use Rattle.columns.specs.Reading.{soundFrom, setRules, labelRules}
 use Rattle.columns.specs.Answers.{short32, columnsOf, labelColumns, ruling}
 use Rattle.columns.specs.declared.refusal.Ruling.the-variants.{Kept, Broken}
 use Rattle.columns.specs.declared.refusal.Refusal.the-variants.{OffsetsForm, DeltaCount, TargetSide, LabelColumns, LabelRange}
-use Rattle.columns.proofs.Offsets.{cut-length, form-climbs}
+use Rattle.columns.proofs.Offsets.{form-climbs, form-length}
 
 -- ── offsets ──────────────────────────────────────────────────────────────────────────────────
 
@@ -41,41 +42,46 @@ module _ {t : Bool} (high low i : ℕ) (l : List ℕ) (e : t ≡ climbsTo high l
   unfolding climbsTo
   climb-on h k = rw (e, drop-cons l i 0, le-leb low (getD l i 0) k, add-one)
 
-module _ (rows count : ℕ) (l : List ℕ) where
-  pub even-offsets : (length l % 2 ≡ 1 → ⊥) → false ≡ offsetsForm kinds rows count l
+module _ (K rows count : ℕ) (l : List ℕ) where
+  pub no-offsets : length l ≡ 0 → false ≡ offsetsForm K rows count l
   unfolding offsetsForm
-  even-offsets h = rw (ne-eqb (length l) (2 * rows + 1) (λ e. h (omega arith)))
+  no-offsets h = rw (ne-eqb (length l) (K * rows + 1) (λ e. omega arith))
 
-  pub other-rows : (length l / 2 ≡ rows → ⊥) → false ≡ offsetsForm kinds rows count l
-  unfolding offsetsForm
-  other-rows h = rw (ne-eqb (length l) (2 * rows + 1) (λ e. h (omega arith)))
+  module _ (served : Served K) where
+    pub part-row : ((length l - 1) % K ≡ 0 → ⊥) → false ≡ offsetsForm K rows count l
+    unfolding offsetsForm
+    part-row h = rw (ne-eqb (length l) (K * rows + 1) (λ e. h (let i : length l - 1 ≡ K * rows = omega arith in rw (i, mul-mod-right K rows))))
 
-  module _ (h : length l % 2 ≡ 1) (k : length l / 2 ≡ rows) where
-    pub some-form : 0 < length l
-    some-form = omega arith
+    pub other-rows : ((length l - 1) / K ≡ rows → ⊥) → false ≡ offsetsForm K rows count l
+    unfolding offsetsForm
+    other-rows h = rw (ne-eqb (length l) (K * rows + 1) (λ e. h (let i : length l - 1 ≡ K * rows = omega arith in rw (i, mul-div-right rows (served .some)))))
+
+  module _ (g : length l ≡ 0 → ⊥) (h : (length l - 1) % K ≡ 0) (k : (length l - 1) / K ≡ rows) where
+    whole-rows : length l ≡ K * rows + 1
+    whole-rows = let i : K * rows + (length l - 1) % K ≡ length l - 1 = rw (← k) (div-add-mod (length l - 1) K) in omega arith
 
     rest : (os : List ℕ) → 0 < length os → fromTo 0 count os ≡ (eqb (getD os 0 0) 0 && climbsTo count (getD os 0 0) (drop 1 os))
     unfolding fromTo
-    rest [] g = absurd (omega arith)
-    rest (x ∷ xs) g = refl
+    rest [] f = absurd (omega arith)
+    rest (x ∷ xs) f = refl
 
-    formed : offsetsForm kinds rows count l ≡ (eqb (getD l 0 0) 0 && climbsTo count (getD l 0 0) (drop 1 l))
+    formed : offsetsForm K rows count l ≡ (eqb (getD l 0 0) 0 && climbsTo count (getD l 0 0) (drop 1 l))
     unfolding offsetsForm
-    formed = rw (eq-eqb (length l) (2 * rows + 1) (omega arith)) (rest l some-form)
+    formed = rw (eq-eqb (length l) (K * rows + 1) whole-rows) (rest l (omega arith))
 
-    pub starts-late : (getD l 0 0 ≡ 0 → ⊥) → false ≡ offsetsForm kinds rows count l
-    starts-late g = rw (formed, ne-eqb (getD l 0 0) 0 g)
+    pub starts-late : (getD l 0 0 ≡ 0 → ⊥) → false ≡ offsetsForm K rows count l
+    starts-late f = rw (formed, ne-eqb (getD l 0 0) 0 f)
 
-    pub then-climbs : (r : Bool) → getD l 0 0 ≡ 0 → r ≡ climbsTo count 0 (drop 1 l) → r ≡ offsetsForm kinds rows count l
-    then-climbs r g e = rw (formed, g) e
+    pub then-climbs : (r : Bool) → getD l 0 0 ≡ 0 → r ≡ climbsTo count 0 (drop 1 l) → r ≡ offsetsForm K rows count l
+    then-climbs r f e = rw (formed, f) e
 
 -- ── deltas ───────────────────────────────────────────────────────────────────────────────────
 
-pub row-number : (first slot : ℕ) → Fits w64 slot → leb first (18446744073709551615 - slot / 2) ≡ ltb (first + slot / 2) (2 ^ 64)
-row-number first slot f =
-    same-test (leb first (18446744073709551615 - slot / 2)) (ltb (first + slot / 2) (2 ^ 64))
-    (λ e. lt-ltb (first + slot / 2) (2 ^ 64) (omega (arith, f .fits, leb-true first (18446744073709551615 - slot / 2) e)))
-    (λ e. le-leb first (18446744073709551615 - slot / 2) (omega (arith, ltb-true (first + slot / 2) (2 ^ 64) e)))
+pub row-number : (first row : ℕ) → Fits w64 row → leb first (18446744073709551615 - row) ≡ ltb (first + row) (2 ^ 64)
+row-number first row f =
+    same-test (leb first (18446744073709551615 - row)) (ltb (first + row) (2 ^ 64))
+    (λ e. lt-ltb (first + row) (2 ^ 64) (omega (arith, f .fits, leb-true first (18446744073709551615 - row) e)))
+    (λ e. le-leb first (18446744073709551615 - row) (omega (arith, ltb-true (first + row) (2 ^ 64) e)))
 
 -- the delta at a place, as the machine reads it back from its bits
 abbrev pub at : List ℤ → ℕ → ℤ
@@ -98,61 +104,51 @@ module _ {t : Bool} (set end event i to : ℕ) (ds : List ℤ) (e : t ≡ all (s
     unfolding all
     sound-on f = rw (e, slice-cons i to ds (pos 0), here, not-false b f, add-one)
 
--- ── slots ────────────────────────────────────────────────────────────────────────────────────
+-- ── rows ─────────────────────────────────────────────────────────────────────────────────────
 
-module _ (first slot : ℕ) (b : Bool) (e : b ≡ ltb (eventOf kinds first slot) end64) where
-  pub no-event : (p : Bool) → not b ≡ true → false ≡ (ltb (eventOf kinds first slot) end64 && p)
+module _ (first row : ℕ) (b : Bool) (e : b ≡ ltb (first + row) end64) where
+  pub no-event : (p : Bool) → not b ≡ true → false ≡ (ltb (first + row) end64 && p)
   no-event p h = rw (sym e ∙ not-true b h)
 
   module _ (h : not b ≡ false) where
-    pub an-event : eventOf kinds first slot < end64
+    pub an-event : first + row < end64
     an-event = ltb-true _ _ (sym e ∙ not-false b h)
 
     -- an event's deltas that stand in a column from one place up to another
-    pub deltas-tell : (set end event from to : ℕ) (deltas list : List ℤ) (r : Bool) → list ≡ slice from to deltas → event ≡ eventOf kinds first slot
-        → r ≡ all (sound set end event) (slice from to deltas) → r ≡ (ltb (eventOf kinds first slot) end64 && all (sound set end (eventOf kinds first slot)) list)
+    pub deltas-tell : (set end event from to : ℕ) (deltas list : List ℤ) (r : Bool) → list ≡ slice from to deltas → event ≡ first + row
+        → r ≡ all (sound set end event) (slice from to deltas) → r ≡ (ltb (first + row) end64 && all (sound set end (first + row)) list)
     deltas-tell set end event from to deltas list r l i p = rw (sym e ∙ not-false b h, l, ← i) p
-
--- what the tests of a slot say of all slots from it on
-module _ {t : Bool} (set first end slot : ℕ) (offsets : List ℕ) (deltas : List ℤ) (e : t ≡ soundFrom kinds set first end slot (drop slot (cut offsets deltas))) where
-  pub slots-done : length offsets ≤ slot + 1 → true ≡ t
-  unfolding soundFrom
-  slots-done h = rw (e, drop-of-length-le (cut offsets deltas) {i = slot} (omega (arith, cut-length offsets deltas)))
-
-  pub slots-last : slot + 1 < length offsets → length offsets ≤ slot + 2 → (r : Bool)
-      → r ≡ (ltb (eventOf kinds first slot) end64 && all (sound set end (eventOf kinds first slot)) (getD (cut offsets deltas) slot [])) → r ≡ t
-  unfolding soundFrom
-  slots-last h k r g =
-      let in-cut : slot < length (cut offsets deltas) = omega (arith, cut-length offsets deltas) in
-      rw (e, drop-cons (cut offsets deltas) slot [] in-cut, drop-of-length-le (cut offsets deltas) {i = suc slot} (omega (arith, cut-length offsets deltas)), and-true) g
 
 -- ── the rules of one set ─────────────────────────────────────────────────────────────────────
 
-module _ (set first rows end count : ℕ) (offsets : List ℕ) (deltas : List ℤ) (b : Bool) (e : b ≡ offsetsForm kinds rows count offsets) where
-  pub bad-form : not b ≡ true → Broken OffsetsForm ≡ ruling (setRules kinds set first rows end (columnsOf count offsets deltas))
+module _ (K set first rows end count : ℕ) (offsets : List ℕ) (deltas : List ℤ) (b : Bool) (e : b ≡ offsetsForm K rows count offsets) where
+  pub bad-form : not b ≡ true → Broken OffsetsForm ≡ ruling (setRules K set first rows end (columnsOf count offsets deltas))
   unfolding setRules firstOf
   bad-form h = rw (sym e ∙ not-true b h)
 
   module _ (h : not b ≡ false) where
-    pub no-edges : count ≡ 0 → Kept ≡ ruling (setRules kinds set first rows end (columnsOf count offsets deltas))
+    pub no-edges : count ≡ 0 → Kept ≡ ruling (setRules K set first rows end (columnsOf count offsets deltas))
     unfolding setRules firstOf
     no-edges k = rw (sym e ∙ not-false b h, le-ltb 0 count (omega arith))
 
     module _ (k : count ≡ 0 → ⊥) where
-      pub bad-count : (length deltas ≡ count → ⊥) → Broken DeltaCount ≡ ruling (setRules kinds set first rows end (columnsOf count offsets deltas))
+      pub bad-count : (length deltas ≡ count → ⊥) → Broken DeltaCount ≡ ruling (setRules K set first rows end (columnsOf count offsets deltas))
       unfolding setRules firstOf
       bad-count f = rw (sym e ∙ not-false b h, lt-ltb 0 count (omega arith), ne-eqb (length deltas) count f)
 
       module _ (f : length deltas ≡ count) where
-        pub deltas-climb : fromTo 0 (length deltas) offsets ≡ true
-        deltas-climb = rw f (form-climbs kinds rows count offsets (sym e ∙ not-false b h))
+        pub deltas-whole : length offsets ≡ K * rows + 1
+        deltas-whole = form-length K rows count offsets (sym e ∙ not-false b h)
 
-        module _ (r : Bool) (g : r ≡ soundFrom kinds set first end 0 (cut offsets deltas)) where
-          pub bad-side : not r ≡ true → Broken TargetSide ≡ ruling (setRules kinds set first rows end (columnsOf count offsets deltas))
+        pub deltas-climb : fromTo 0 (length deltas) offsets ≡ true
+        deltas-climb = rw f (form-climbs K rows count offsets (sym e ∙ not-false b h))
+
+        module _ (r : Bool) (g : r ≡ soundFrom K set first end 0 (cut offsets deltas)) where
+          pub bad-side : not r ≡ true → Broken TargetSide ≡ ruling (setRules K set first rows end (columnsOf count offsets deltas))
           unfolding setRules firstOf
           bad-side q = rw (sym e ∙ not-false b h, lt-ltb 0 count (omega arith), eq-eqb (length deltas) count f, sym g ∙ not-true r q)
 
-          pub all-kept : not r ≡ false → Kept ≡ ruling (setRules kinds set first rows end (columnsOf count offsets deltas))
+          pub all-kept : not r ≡ false → Kept ≡ ruling (setRules K set first rows end (columnsOf count offsets deltas))
           unfolding setRules firstOf
           all-kept q = rw (sym e ∙ not-false b h, lt-ltb 0 count (omega arith), eq-eqb (length deltas) count f, sym g ∙ not-false r q)
 
@@ -196,6 +192,6 @@ module _ (rows : ℕ) (chains seqs : List ℕ) where
         labels-kept q = rw (eq-eqb (length chains) rows h, eq-eqb (length seqs) rows k, sym e ∙ not-false b f, sym g ∙ not-false c q)
 
 -- a set by its number
-pub by-number : {r : Bool} {n k : ℕ} (first end : ℕ) (offsets : List ℕ) (deltas : List ℤ) → n ≡ k → r ≡ soundFrom kinds n first end 0 (cut offsets deltas)
-    → r ≡ soundFrom kinds k first end 0 (cut offsets deltas)
-by-number first end offsets deltas e f = f ∙ ap (λ m. soundFrom kinds m first end 0 (cut offsets deltas)) e
+pub by-number : (K : ℕ) {r : Bool} {n k : ℕ} (first end : ℕ) (offsets : List ℕ) (deltas : List ℤ) → n ≡ k → r ≡ soundFrom K n first end 0 (cut offsets deltas)
+    → r ≡ soundFrom K k first end 0 (cut offsets deltas)
+by-number K first end offsets deltas e f = f ∙ ap (λ m. soundFrom K m first end 0 (cut offsets deltas)) e

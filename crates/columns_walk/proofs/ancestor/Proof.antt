@@ -17,5 +17,5 @@ returns-2 c = search ancestor-found
 pub ancestor-spec : {M : Type 1} → statement M
 ancestor-spec =
     tie.close
-    (tie.spec (λ c. search needs) (λ c κs. search needs) (λ c κs. search needs) (λ c. search needs) (λ c. search needs) (λ c. search needs)
-    shared-requires (λ c κs. search needs) returns returns-2)
+    (tie.spec (λ c κs. search needs) (λ c. search needs) (λ c κs. search needs) (λ c κs. search needs) (λ c. search needs)
+    (λ c. search needs) (λ c. search needs) shared-requires (λ c κs. search needs) returns returns-2)

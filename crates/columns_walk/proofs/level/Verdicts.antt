@@ -12,7 +12,7 @@ use borrow.Author.Tests.{lt-ltb, le-ltb, ltb-true, ltb-false}
 use Rattle.lists.specs.Lists.{any}
 use Rattle.lists.proofs.Tests.{tested, any-append}
 use Rattle.lists.proofs.Once.{or-is-false}
-use Rattle.columns.specs.Limits.{kinds, maxRecords, maxNumbers}
+use Rattle.columns.specs.Limits.{maxRecords, maxNumbers}
 use Rattle.columns.specs.Refusal.{refused, accepted, unless, refuse, firstOf, short, limits}
 use Rattle.columns.specs.EdgeSet.{EdgeSet}
 use Rattle.columns.specs.Reading.{setRules, slotsOf, setLengths, decodeSet}
@@ -36,52 +36,52 @@ same-short n a e = elim (tested (ltb a 4096)) [
   | inr f ↦ rw (le-ltb n 4096 (omega (arith, ltb-false a 4096 f)), f)
 ]
 
-module _ (first rows end : ℕ) (s : EdgeSet) (kind limit : ℕ) (visited frontier : List ℕ) (i : any (ltb maxNumbers) (length visited ∷ length frontier ∷ []) ≡ false) (n a : ℕ) (m : n ≡ min a 4096) where
+module _ (K first rows end : ℕ) (s : EdgeSet) (kind limit : ℕ) (visited frontier : List ℕ) (i : any (ltb maxNumbers) (length visited ∷ length frontier ∷ []) ≡ false)
+    (n a : ℕ) (m : n ≡ min a 4096) where
   no-longer : any (ltb maxNumbers) (setLengths s ++ (length visited ∷ length frontier ∷ [])) ≡ any (ltb maxNumbers) (setLengths s)
   no-longer = any-append (ltb maxNumbers) (setLengths s) (length visited ∷ length frontier ∷ []) ∙ rw i (or-false (any (ltb maxNumbers) (setLengths s)))
 
-  as-read : next first rows end s kind limit visited frontier (room a)
-      ≡ unless (lentRules kinds 0 first rows end s (room n)) (level (listOf kinds first (slotsOf kinds first s) kind) limit visited frontier)
+  as-read : next K first rows end s kind limit visited frontier (room a) ≡ unless (lentRules K 0 first rows end s (room n)) (level (listOf K first (slotsOf K first s) kind) limit visited frontier)
   unfolding next lentRules limits
   as-read = rw (no-longer, same-short n a m)
 
-  module _ (r : Counted) (e : r ≡ countedOf (inOne (decodeSet kinds 0 first rows end s (room n)))) where
-    next-is-refused : (why : Refusal) → r ≡ counted.Refused why → next first rows end s kind limit visited frontier (room a) ≡ refused why
+  module _ (r : Counted) (e : r ≡ countedOf (inOne (decodeSet K 0 first rows end s (room n)))) where
+    next-is-refused : (why : Refusal) → r ≡ counted.Refused why → next K first rows end s kind limit visited frontier (room a) ≡ refused why
     unfolding unless
-    next-is-refused why f = as-read ∙ rw (was-refused n first rows end s r e why f)
+    next-is-refused why f = as-read ∙ rw (was-refused K n first rows end s r e why f)
 
-    pub next-refused : (why : Refusal) → r ≡ counted.Refused why → counted.Refused why ≡ countedOf (next first rows end s kind limit visited frontier (room a))
+    pub next-refused : (why : Refusal) → r ≡ counted.Refused why → counted.Refused why ≡ countedOf (next K first rows end s kind limit visited frontier (room a))
     unfolding countedOf
     next-refused why f = rw (next-is-refused why f)
 
-    pub next-kept : (why : Refusal) → r ≡ counted.Refused why → (out : List ℕ) → out ≡ writtenOver out (next first rows end s kind limit visited frontier (room a))
+    pub next-kept : (why : Refusal) → r ≡ counted.Refused why → (out : List ℕ) → out ≡ writtenOver out (next K first rows end s kind limit visited frontier (room a))
     unfolding writtenOver
     next-kept why f out = rw (next-is-refused why f)
 
     module _ (k : ℕ) (f : r ≡ counted.Entries k) where
-      all-kept : lentRules kinds 0 first rows end s (room n) ≡ none
-      all-kept = was-read n first rows end s r e k f
+      all-kept : lentRules K 0 first rows end s (room n) ≡ none
+      all-kept = was-read K n first rows end s r e k f
 
       pub room-out : 4096 ≤ a
-      room-out = let w = whole n first rows end s all-kept in omega arith
+      room-out = let w = whole K n first rows end s all-kept in omega arith
 
-      module _ (l t : List ℕ) (g : t ≡ writtenOver (take n l) (inOne (decodeSet kinds 0 first rows end s (room n))) ++ drop n l) (slot : ℕ) (ks : slot ≡ kind) where
-        same-level : level (parentsIn first slot (s .offsets) t) limit visited frontier ≡ level (listOf kinds first (slotsOf kinds first s) kind) limit visited frontier
+      module _ (l t : List ℕ) (g : t ≡ writtenOver (take n l) (inOne (decodeSet K 0 first rows end s (room n))) ++ drop n l) (slot : ℕ) (ks : slot ≡ kind) (U : ℕ) (w : U ≡ K) where
+        same-level : level (parentsIn U first slot (s .offsets) t) limit visited frontier ≡ level (listOf K first (slotsOf K first s) kind) limit visited frontier
         same-level =
-            ap (λ (i : ℕ). level (parentsIn first i (s .offsets) t) limit visited frontier) ks
-            ∙ ap (λ (p : ℕ → List ℕ). level p limit visited frontier) (parents-fun first kind (s .offsets) t (slotsOf kinds first s) (parents-are n first rows end s all-kept l t g))
+            rw w (ap (λ (i : ℕ). level (parentsIn K first i (s .offsets) t) limit visited frontier) ks
+            ∙ ap (λ (p : ℕ → List ℕ). level p limit visited frontier) (parents-fun K first kind (s .offsets) t (slotsOf K first s) (parents-are K n first rows end s all-kept l t g)))
 
-        accepted-next : next first rows end s kind limit visited frontier (room a) ≡ accepted (level (parentsIn first slot (s .offsets) t) limit visited frontier)
+        accepted-next : next K first rows end s kind limit visited frontier (room a) ≡ accepted (level (parentsIn U first slot (s .offsets) t) limit visited frontier)
         unfolding unless
         accepted-next = as-read ∙ rw (all-kept, same-level)
 
-        pub next-counted : (c : ℕ) → c ≡ length (level (parentsIn first slot (s .offsets) t) limit visited frontier)
-            → counted.Entries c ≡ countedOf (next first rows end s kind limit visited frontier (room a))
+        pub next-counted : (c : ℕ) → c ≡ length (level (parentsIn U first slot (s .offsets) t) limit visited frontier)
+            → counted.Entries c ≡ countedOf (next K first rows end s kind limit visited frontier (room a))
         unfolding countedOf
         next-counted c q = rw (accepted-next, q)
 
-        pub next-written : (out out′ : List ℕ) → out′ ≡ writtenIn out (level (parentsIn first slot (s .offsets) t) limit visited frontier)
-            → out′ ≡ writtenOver out (next first rows end s kind limit visited frontier (room a))
+        pub next-written : (out out′ : List ℕ) → out′ ≡ writtenIn out (level (parentsIn U first slot (s .offsets) t) limit visited frontier)
+            → out′ ≡ writtenOver out (next K first rows end s kind limit visited frontier (room a))
         unfolding writtenOver
         next-written out out′ q = rw (accepted-next, q)
 
@@ -99,26 +99,26 @@ pub long-list : (rows : ℕ) → rows ≤ 1024 → some OverNumbers ≡ limitsOf
 unfolding limitsOf any firstOf
 long-list rows h = rw (le-ltb 1024 rows h)
 
-module _ (first rows end : ℕ) (s : EdgeSet) (kind limit : ℕ) (visited frontier : List ℕ) (a : ℕ) (why : Refusal) (e : some why ≡ limitsOf rows true false) (b : Bool)
+module _ (K first rows end : ℕ) (s : EdgeSet) (kind limit : ℕ) (visited frontier : List ℕ) (a : ℕ) (why : Refusal) (e : some why ≡ limitsOf rows true false) (b : Bool)
     (h : b ≡ any (ltb maxNumbers) (length visited ∷ length frontier ∷ [])) (k : b ≡ true) where
   some-long : any (ltb maxNumbers) (setLengths s ++ (length visited ∷ length frontier ∷ [])) ≡ true
   some-long = any-append (ltb maxNumbers) (setLengths s) (length visited ∷ length frontier ∷ []) ∙ rw (sym h ∙ k) (or-true (any (ltb maxNumbers) (setLengths s)))
 
-  long-verdict : next first rows end s kind limit visited frontier (room a) ≡ refused why
+  long-verdict : next K first rows end s kind limit visited frontier (room a) ≡ refused why
   unfolding next limits limitsOf firstOf unless
   long-verdict = rw some-long (go (any (ltb maxRecords) (rows ∷ [])) e)
     where
       go : (b : Bool) → some why ≡ firstOf (refuse OverRecords b ∷ some OverNumbers ∷ none ∷ [])
-          → unless (firstOf (firstOf (refuse OverRecords b ∷ some OverNumbers ∷ refuse SliceShort (any short (room a)) ∷ []) ∷ setRules kinds 0 first rows end s ∷ []))
-          (level (listOf kinds first (slotsOf kinds first s) kind) limit visited frontier) ≡ refused why
+          → unless (firstOf (firstOf (refuse OverRecords b ∷ some OverNumbers ∷ refuse SliceShort (any short (room a)) ∷ []) ∷ setRules K 0 first rows end s ∷ []))
+          (level (listOf K first (slotsOf K first s) kind) limit visited frontier) ≡ refused why
       go true q = let z : why ≡ OverRecords = cc in rw z
       go false q = let z : why ≡ OverNumbers = cc in rw z
 
-  pub long-refused : counted.Refused why ≡ countedOf (next first rows end s kind limit visited frontier (room a))
+  pub long-refused : counted.Refused why ≡ countedOf (next K first rows end s kind limit visited frontier (room a))
   unfolding countedOf
   long-refused = rw long-verdict
 
-  pub long-kept : (out : List ℕ) → out ≡ writtenOver out (next first rows end s kind limit visited frontier (room a))
+  pub long-kept : (out : List ℕ) → out ≡ writtenOver out (next K first rows end s kind limit visited frontier (room a))
   unfolding writtenOver
   long-kept out = rw long-verdict
 

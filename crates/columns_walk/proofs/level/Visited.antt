@@ -60,8 +60,8 @@ few-once ps l i =
 
 -- ── find ─────────────────────────────────────────────────────────────────────────────────────
 
-module _ (n : ℕ) (visited targets keys keys′ : List ℕ) (k : Keys keys keys′ 0 n (slice 0 (length visited) visited)) (h : length keys ≡ 8192) (i : length visited ≤ 4096)
-    (j : length targets ≤ 4096) where
+module _ (K n : ℕ) (visited targets keys keys′ : List ℕ) (k : Keys keys keys′ 0 n (slice 0 (length visited) visited)) (h : length keys ≡ 8192)
+    (i : length visited ≤ 4096) (j : length targets ≤ 4096) where
   room-for-all : length (visited ++ targets) ≤ length keys
   room-for-all = rw length-append (omega arith)
 
@@ -82,28 +82,28 @@ module _ (n : ℕ) (visited targets keys keys′ : List ℕ) (k : Keys keys keys
     within = λ q. rw visited-keys (visited-made .1);
   }
 
-  module _ (first kind r : ℕ) (offsets frontier keys″ : List ℕ) (g : Keys keys′ keys″ n r (flat (parentsIn first kind offsets targets) (slice 0 (length frontier) frontier))) where
-    all-parents : (x : ℕ) → mem x (filter (λ n. not (mem n visited)) (flat (parentsIn first kind offsets targets) frontier)) ≡ true → mem x targets ≡ true
+  module _ (first kind r : ℕ) (offsets frontier keys″ : List ℕ) (g : Keys keys′ keys″ n r (flat (parentsIn K first kind offsets targets) (slice 0 (length frontier) frontier))) where
+    all-parents : (x : ℕ) → mem x (filter (λ n. not (mem n visited)) (flat (parentsIn K first kind offsets targets) frontier)) ≡ true → mem x targets ≡ true
     all-parents x e =
-        all-parents-in first kind offsets targets frontier x
-        (both _ _ (sym (mem-filter x (λ n. not (mem n visited)) (flat (parentsIn first kind offsets targets) frontier)) ∙ e) .0)
+        all-parents-in K first kind offsets targets frontier x
+        (both _ _ (sym (mem-filter x (λ n. not (mem n visited)) (flat (parentsIn K first kind offsets targets) frontier)) ∙ e) .0)
 
     whole : slice 0 (length frontier) frontier ≡ frontier
     whole = take-all (length frontier) frontier (omega arith)
 
-    keys-are : slice n r keys″ ≡ unvisited (parentsIn first kind offsets targets) visited frontier
+    keys-are : slice n r keys″ ≡ unvisited (parentsIn K first kind offsets targets) visited frontier
     unfolding unvisited newFrom once
-    keys-are = slice-new first kind 1 n r offsets targets visited frontier keys′ keys″ seen-all (rw whole at g) (let u = k .upto in omega arith) (omega arith)
+    keys-are = slice-new K first kind 1 n r offsets targets visited frontier keys′ keys″ seen-all (rw whole at g) (let u = k .upto in omega arith) (omega arith)
 
-    pub found : News keys″ n r (unvisited (parentsIn first kind offsets targets) visited frontier)
+    pub found : News keys″ n r (unvisited (parentsIn K first kind offsets targets) visited frontier)
     unfolding unvisited
     found = record {
       more = g .more;
       upto = g .upto;
       few =
           let a : length (slice n r keys″) ≡ r - n = length-slice n r keys″ (g .upto) in
-          let b = few-once (filter (λ n. not (mem n visited)) (flat (parentsIn first kind offsets targets) frontier)) targets all-parents in
-          let d : length (slice n r keys″) ≡ length (once (filter (λ n. not (mem n visited)) (flat (parentsIn first kind offsets targets) frontier))) = ap length keys-are in
+          let b = few-once (filter (λ n. not (mem n visited)) (flat (parentsIn K first kind offsets targets) frontier)) targets all-parents in
+          let d : length (slice n r keys″) ≡ length (once (filter (λ n. not (mem n visited)) (flat (parentsIn K first kind offsets targets) frontier))) = ap length keys-are in
           omega arith;
       are = keys-are;
     }

@@ -7,7 +7,7 @@ use Prim.Native.Nat.{ℕ, _-_, _≤_}
 use lib.ListN.{length}
 use lib.Seq.{slice}
 use Rattle.lists.specs.Lists.{flat, filter, mem, once}
-use Rattle.columns.specs.Limits.{kinds, maxNumbers}
+use Rattle.columns.specs.Limits.{maxNumbers}
 use Rattle.columns.specs.Refusal.{Verdict, unless, firstOf, Lent, limits}
 use Rattle.columns.specs.EdgeSet.{EdgeSet, forward}
 use Rattle.columns.specs.Reading.{setRules, slotsOf, setLengths}
@@ -15,10 +15,10 @@ use Rattle.columns.specs.Questions.{listOf}
 use Rattle.columns.specs.Walk.{level}
 
 -- the level after a frontier, of which at most `limit` numbers are handed out. The two lists are columns like the file's own (43)
-unfoldable pub next : ℕ → ℕ → ℕ → EdgeSet → ℕ → ℕ → List ℕ → List ℕ → List Lent → Verdict (List ℕ)
-next first rows end f kind limit visited frontier lent =
-    unless (firstOf (limits (rows ∷ []) (setLengths f ++ (length visited ∷ length frontier ∷ [])) lent ∷ setRules kinds forward first rows end f ∷ []))
-    (level (listOf kinds first (slotsOf kinds first f) kind) limit visited frontier)
+unfoldable pub next : (K : ℕ) → ℕ → ℕ → ℕ → EdgeSet → ℕ → ℕ → List ℕ → List ℕ → List Lent → Verdict (List ℕ)
+next K first rows end f kind limit visited frontier lent =
+    unless (firstOf (limits (rows ∷ []) (setLengths f ++ (length visited ∷ length frontier ∷ [])) lent ∷ setRules K forward first rows end f ∷ []))
+    (level (listOf K first (slotsOf K first f) kind) limit visited frontier)
 
 -- ── how it is made ───────────────────────────────────────────────────────────────────────────
 

@@ -50,7 +50,8 @@ returns c =
     let given = c .before .before .before .before .before .before .before .before .before .before .before .before .before .before .before .before .before .before .before .before .before .before .before .before .before .before .args in
     let stored = linkColumns (take (given .n) (given .x .now)) (take (given .n) (given .y .now)) (take (given .n) (given .z .now)) (take (given .n) (given .w .now)) in (
       long-told stored (given .chains .now) (given .a .now) (given .b .now) (given .c .now) (given .d .now) (lent .0) (lent .1 .0) (lent .1 .1 .0) (lent .1 .1 .1) (told .0),
-      long-written stored (given .chains .now) (given .a .now) (given .b .now) (given .c .now) (given .d .now) (lent .0) (lent .1 .0) (lent .1 .1 .0) (lent .1 .1 .1) (linkColumns (given .a .now) (given .b .now) (given .c .now) (given .d .now)) (told .1),
+      long-written stored (given .chains .now) (given .a .now) (given .b .now) (given .c .now) (given .d .now) (lent .0) (lent .1 .0) (lent .1 .1 .0) (lent .1 .1 .1)
+          (linkColumns (given .a .now) (given .b .now) (given .c .now) (given .d .now)) (told .1),
     )
 
 pub ask-part-spec : {M : Type 1} → statement M

@@ -19,7 +19,8 @@ use ghost.Atoms.{Atoms}
 use contract.Lifetimes.{Lfts, Shares}
 use contract.Monad.{Fun, fact}
 use contract.Running.{givenOf, tables, tablesOf}
-use types.Kit.{Given, Item, Goal, Soaks, Seq, Sq, runs, atRet, ‵, raw, some, later, _⊛_, ⋆, _$_, _∵_, !, qed, by as hence, cut, move, keep, drop, use1, split, join, pick, rewrite, fsplit, fjoin, suffices, frame, await, done}
+use types.Kit.{Given, Item, Goal, Soaks, Seq, Sq, runs, atRet, ‵, raw, some, later, _⊛_, ⋆, _$_, _∵_, !, qed, by as hence, cut, move, keep, drop, use1, split, join, pick}
+use types.Kit.{rewrite, fsplit, fjoin, suffices, frame, await, done}
 use types.Part.{agg, rep, whole, sub, look-in}
 use types.Run.{look, store, init, forget, stop, hop, fld, from, load, lit, addr, no-more, and-then, land, of-opd, assigns, returns, enter, alloc1, alloc0, params1, pass1, pass0, free1, free0}
 use sound.WpLaws.{FmC, fmOf, WpFn-mono}
@@ -56,7 +57,8 @@ use Rattle.ffi.proofs.answer.Answer as Q
 use Rattle.ffi.proofs.answer.Answer.Laws as Q′
 use Rattle.ffi_links.specs.Records.{chainLent}
 use Rattle.ffi_links.proofs.Loans.{Loan, life, by, big-lit, zeros-typed, zeros-row}
-use Rattle.ffi_links.proofs.Four.{Quad, quad, word, array, writesArray, writesColumn, readsArray, readsColumn, Empty, Filled, Lending, Four, Long, Loaned, Tokens, TokensOf, Writers, open-tokens, join-tokens, open-lasts, join-four, lend-four, back-four, four-room}
+use Rattle.ffi_links.proofs.Four.{Quad, quad, word, array, writesArray, writesColumn, readsArray, readsColumn, Empty, Filled, Lending, Four, Long, Loaned, Tokens}
+use Rattle.ffi_links.proofs.Four.{TokensOf, Writers, open-tokens, join-tokens, open-lasts, join-four, lend-four, back-four, four-room}
 use Rattle.ffi_links.proofs.Taken.{Taken, Put, Apart, Together, to-apart, to-together, lend-apart, back-apart, lend-together, back-together}
 use Rattle.ffi_links.proofs.Asking.{many-asked, ask-room}
 use Rattle.ffi_links.proofs.Meaning.{Done, Answered, done-few, done-answered}
@@ -162,7 +164,13 @@ module _ {M : Type 1} (𝓤 : URA M) (H : Heap 𝓤) (A : Atoms 𝓤) (W : Given
         (sc .share, (fullShare, (fullShare, (fullShare, (fullShare, tt))))),
         tt,
         (length ys, (length os, (ref sc cs, (ref (by (z .a) (l .a) 0) (x .a), (ref (by (z .b) (l .b) 0) (x .b), (ref (by (z .c) (l .c) 0) (x .c), (ref (by (z .d) (l .d) 0) (x .d), tt))))))),
-        (vint w64 (length ys) ∷ [], (vint w64 (length os) ∷ [], (vc ∷ [], (sliceVal (l .a, 0) 1024 ∷ [], (sliceVal (l .b, 0) 1024 ∷ [], (sliceVal (l .c, 0) 1024 ∷ [], (sliceVal (l .d, 0) 1024 ∷ [], tt))))))),
+        (
+          vint w64 (length ys) ∷ [],
+          (
+            vint w64 (length os) ∷ [],
+            (vc ∷ [], (sliceVal (l .a, 0) 1024 ∷ [], (sliceVal (l .b, 0) 1024 ∷ [], (sliceVal (l .c, 0) 1024 ∷ [], (sliceVal (l .d, 0) 1024 ∷ [], tt))))),
+          ),
+        ),
       ),
       tt,
     )
@@ -227,34 +235,55 @@ module _ {M : Type 1} (𝓤 : URA M) (H : Heap 𝓤) (A : Atoms 𝓤) (W : Given
           assigns ! (of-opd ! (load ! (from ! (fld ! refl (stop !))) (look-in ! 75 (sub ! 1 refl (whole !))))) (from ! (stop !)) (init ! 61 refl (tt, record { fits = room .0 })) $
           assigns ! (of-opd ! (load ! (from ! (fld ! refl (stop !))) (look-in ! 71 (sub ! 1 refl (whole !))))) (from ! (stop !)) (init ! 43 refl (tt, record { fits = ro .0 })) $
           assigns ! (addr ! (from ! (stop !))) (from ! (stop !)) (init ! 41 refl (tt, tt)) $
-          assigns ! (agg ! (and-then ! (load ! (from ! (stop !)) (look ! 41 refl)) (and-then ! (big-lit ! (record { fits = lit< tt })) (no-more !)))) (from ! (stop !)) (init ! 39 refl (tt, (tt, (record { fits = lit< tt }, tt)))) $
+          assigns ! (agg ! (and-then ! (load ! (from ! (stop !)) (look ! 41 refl)) (and-then ! (big-lit ! (record { fits = lit< tt })) (no-more !)))) (from ! (stop !))
+          (init ! 39 refl (tt, (tt, (record { fits = lit< tt }, tt)))) $
           assigns ! (addr ! (from ! (stop !))) (from ! (stop !)) (init ! 37 refl (tt, tt)) $
-          assigns ! (agg ! (and-then ! (load ! (from ! (stop !)) (look ! 37 refl)) (and-then ! (big-lit ! (record { fits = lit< tt })) (no-more !)))) (from ! (stop !)) (init ! 35 refl (tt, (tt, (record { fits = lit< tt }, tt)))) $
+          assigns ! (agg ! (and-then ! (load ! (from ! (stop !)) (look ! 37 refl)) (and-then ! (big-lit ! (record { fits = lit< tt })) (no-more !)))) (from ! (stop !))
+          (init ! 35 refl (tt, (tt, (record { fits = lit< tt }, tt)))) $
           assigns ! (addr ! (from ! (stop !))) (from ! (stop !)) (init ! 33 refl (tt, tt)) $
-          assigns ! (agg ! (and-then ! (load ! (from ! (stop !)) (look ! 33 refl)) (and-then ! (big-lit ! (record { fits = lit< tt })) (no-more !)))) (from ! (stop !)) (init ! 31 refl (tt, (tt, (record { fits = lit< tt }, tt)))) $
+          assigns ! (agg ! (and-then ! (load ! (from ! (stop !)) (look ! 33 refl)) (and-then ! (big-lit ! (record { fits = lit< tt })) (no-more !)))) (from ! (stop !))
+          (init ! 31 refl (tt, (tt, (record { fits = lit< tt }, tt)))) $
           assigns ! (addr ! (from ! (stop !))) (from ! (stop !)) (init ! 29 refl (tt, tt)) $
-          assigns ! (agg ! (and-then ! (load ! (from ! (stop !)) (look ! 29 refl)) (and-then ! (big-lit ! (record { fits = lit< tt })) (no-more !)))) (from ! (stop !)) (init ! 27 refl (tt, (tt, (record { fits = lit< tt }, tt)))) $
+          assigns ! (agg ! (and-then ! (load ! (from ! (stop !)) (look ! 29 refl)) (and-then ! (big-lit ! (record { fits = lit< tt })) (no-more !)))) (from ! (stop !))
+          (init ! 27 refl (tt, (tt, (record { fits = lit< tt }, tt)))) $
           move ! (4 ∷ []) $ use1 W (Chains ⊛ Chains) (shr-slice-copy 𝓤 H A W (named 1) (sc .lft) u32 .twice (ref sc cs) (vc ∷ [])) $ split ! $ move ! (2 ∷ 7 ∷ 0 ∷ []) $
           lend-ask (quad l₄ l₅ l₆ l₇) x long ! tt (λ z₂.
-          calls-at ! fm (AskTaken 𝓤 H A mem run) known-ask (to-ask (quad l₄ l₅ l₆ l₇) x z₂) (and-then ! (load ! (from ! (stop !)) (look ! 61 refl)) (and-then ! (load ! (from ! (stop !)) (look ! 43 refl)) (and-then ! (load ! (from ! (stop !)) (look ! 73 refl)) (and-then ! (load ! (from ! (stop !)) (look ! 39 refl)) (and-then ! (load ! (from ! (stop !)) (look ! 35 refl)) (and-then ! (load ! (from ! (stop !)) (look ! 31 refl)) (and-then ! (load ! (from ! (stop !)) (look ! 27 refl)) (no-more !)))))))) (λ v₂.
+          calls-at ! fm (AskTaken 𝓤 H A mem run) known-ask (to-ask (quad l₄ l₅ l₆ l₇) x z₂)
+          (and-then ! (load ! (from ! (stop !)) (look ! 61 refl))
+          (and-then ! (load ! (from ! (stop !)) (look ! 43 refl))
+          (and-then ! (load ! (from ! (stop !)) (look ! 73 refl))
+          (and-then ! (load ! (from ! (stop !)) (look ! 39 refl))
+          (and-then ! (load ! (from ! (stop !)) (look ! 35 refl))
+          (and-then ! (load ! (from ! (stop !)) (look ! 31 refl)) (and-then ! (load ! (from ! (stop !)) (look ! 27 refl)) (no-more !)))))))) (λ v₂.
           back-ask (quad l₄ l₅ l₆ l₇) x ! tt z₂ v₂ (λ answer y found long′. peeks ! Q.the-row (Is Q.the-row) (shows 𝓤 H A Q.the-row) answer (v₂ ∷ []) (λ is₂.
           land ! (from ! (stop !)) (init ! 66 refl (LL.lawful Q.the-type Q′.the-laws 𝓤 H A W .typed answer _ is₂ .0)) $
           rewrite ! 66 (λ (u : Val). ‵ (fat fullShare Q′.mir l₈ 0 u)) (answer-spelled answer v₂ is₂) refl $ drop ! $
-          assigns ! (of-opd ! (load ! (from ! (fld ! refl (stop !))) (look-in ! 65 (sub ! 1 refl (whole !))))) (from ! (stop !)) (init ! 63 refl (tt, record { fits = few-small (answer .length) (few x answer y found long′) })) $
+          assigns ! (of-opd ! (load ! (from ! (fld ! refl (stop !))) (look-in ! 65 (sub ! 1 refl (whole !))))) (from ! (stop !))
+          (init ! 63 refl (tt, record { fits = few-small (answer .length) (few x answer y found long′) })) $
           -- the answer's links go over the first records of `out`, which is given to the call
           assigns ! (addr ! (from ! (stop !))) (from ! (stop !)) (init ! 25 refl (tt, tt)) $
-          assigns ! (agg ! (and-then ! (load ! (from ! (stop !)) (look ! 25 refl)) (and-then ! (load ! (from ! (stop !)) (look ! 63 refl)) (no-more !)))) (from ! (stop !)) (init ! 23 refl (tt, (tt, (record { fits = few-small (answer .length) (few x answer y found long′) }, tt)))) $
+          assigns ! (agg ! (and-then ! (load ! (from ! (stop !)) (look ! 25 refl)) (and-then ! (load ! (from ! (stop !)) (look ! 63 refl)) (no-more !))))
+          (from ! (stop !)) (init ! 23 refl (tt, (tt, (record { fits = few-small (answer .length) (few x answer y found long′) }, tt)))) $
           assigns ! (addr ! (from ! (stop !))) (from ! (stop !)) (init ! 21 refl (tt, tt)) $
-          assigns ! (agg ! (and-then ! (load ! (from ! (stop !)) (look ! 21 refl)) (and-then ! (big-lit ! (record { fits = lit< tt })) (no-more !)))) (from ! (stop !)) (init ! 19 refl (tt, (tt, (record { fits = lit< tt }, tt)))) $
+          assigns ! (agg ! (and-then ! (load ! (from ! (stop !)) (look ! 21 refl)) (and-then ! (big-lit ! (record { fits = lit< tt })) (no-more !)))) (from ! (stop !))
+          (init ! 19 refl (tt, (tt, (record { fits = lit< tt }, tt)))) $
           assigns ! (addr ! (from ! (stop !))) (from ! (stop !)) (init ! 17 refl (tt, tt)) $
-          assigns ! (agg ! (and-then ! (load ! (from ! (stop !)) (look ! 17 refl)) (and-then ! (big-lit ! (record { fits = lit< tt })) (no-more !)))) (from ! (stop !)) (init ! 15 refl (tt, (tt, (record { fits = lit< tt }, tt)))) $
+          assigns ! (agg ! (and-then ! (load ! (from ! (stop !)) (look ! 17 refl)) (and-then ! (big-lit ! (record { fits = lit< tt })) (no-more !)))) (from ! (stop !))
+          (init ! 15 refl (tt, (tt, (record { fits = lit< tt }, tt)))) $
           assigns ! (addr ! (from ! (stop !))) (from ! (stop !)) (init ! 13 refl (tt, tt)) $
-          assigns ! (agg ! (and-then ! (load ! (from ! (stop !)) (look ! 13 refl)) (and-then ! (big-lit ! (record { fits = lit< tt })) (no-more !)))) (from ! (stop !)) (init ! 11 refl (tt, (tt, (record { fits = lit< tt }, tt)))) $
+          assigns ! (agg ! (and-then ! (load ! (from ! (stop !)) (look ! 13 refl)) (and-then ! (big-lit ! (record { fits = lit< tt })) (no-more !)))) (from ! (stop !))
+          (init ! 11 refl (tt, (tt, (record { fits = lit< tt }, tt)))) $
           assigns ! (addr ! (from ! (fld ! refl (hop ! (look-in ! 71 (sub ! 0 refl (whole !))) (stop !))))) (from ! (stop !)) (init ! 9 refl (tt, tt)) $
-          assigns ! (agg ! (and-then ! (load ! (from ! (stop !)) (look ! 9 refl)) (and-then ! (load ! (from ! (fld ! refl (stop !))) (look-in ! 71 (sub ! 1 refl (whole !)))) (no-more !)))) (from ! (stop !)) (init ! 7 refl (tt, (tt, (record { fits = ro .0 }, tt)))) $
+          assigns ! (agg ! (and-then ! (load ! (from ! (stop !)) (look ! 9 refl))
+          (and-then ! (load ! (from ! (fld ! refl (stop !))) (look-in ! 71 (sub ! 1 refl (whole !)))) (no-more !)))) (from ! (stop !)) (init ! 7 refl (tt, (tt, (record { fits = ro .0 }, tt)))) $
           move ! (0 ∷ 5 ∷ 6 ∷ []) $
-          lend-together 𝓤 H A mem run so os 1024 (quad l₄ l₅ l₆ l₇) y ! tt (answer .length) (few-room (answer .length) (few x answer y found long′)) full long′ (few-fits (answer .length) (y .a) (few x answer y found long′) (long′ .0)) (λ z₃.
-          calls-at ! fm (Together 𝓤 H A mem run) known-together (to-together 𝓤 H A mem run so os 1024 (quad l₄ l₅ l₆ l₇) y (answer .length) z₃) (and-then ! (load ! (from ! (stop !)) (look ! 22 refl)) (and-then ! (load ! (from ! (stop !)) (look ! 18 refl)) (and-then ! (load ! (from ! (stop !)) (look ! 14 refl)) (and-then ! (load ! (from ! (stop !)) (look ! 10 refl)) (and-then ! (load ! (from ! (stop !)) (look ! 6 refl)) (no-more !)))))) (λ v₃.
+          lend-together 𝓤 H A mem run so os 1024 (quad l₄ l₅ l₆ l₇) y ! tt (answer .length) (few-room (answer .length) (few x answer y found long′)) full long′
+          (few-fits (answer .length) (y .a) (few x answer y found long′) (long′ .0)) (λ z₃.
+          calls-at ! fm (Together 𝓤 H A mem run) known-together (to-together 𝓤 H A mem run so os 1024 (quad l₄ l₅ l₆ l₇) y (answer .length) z₃)
+          (and-then ! (load ! (from ! (stop !)) (look ! 22 refl))
+          (and-then ! (load ! (from ! (stop !)) (look ! 18 refl))
+          (and-then ! (load ! (from ! (stop !)) (look ! 14 refl))
+          (and-then ! (load ! (from ! (stop !)) (look ! 10 refl)) (and-then ! (load ! (from ! (stop !)) (look ! 6 refl)) (no-more !)))))) (λ v₃.
           back-together 𝓤 H A mem run so os 1024 (quad l₄ l₅ l₆ l₇) y ! tt (answer .length) z₃ v₃ (λ n₃ zs put same. peeks ! usize (Is usize) (shows 𝓤 H A usize) n₃ (v₃ ∷ []) (λ is₃.
           land ! (from ! (stop !)) (store ! 62 refl (uint-lawful 𝓤 H A W w64 .typed n₃ _ is₃ .0)) $ drop ! $
           assigns ! (of-opd ! (load ! (from ! (stop !)) (look ! 65 refl))) (from ! (stop !)) (init ! 77 refl (LL.lawful Q.the-type Q′.the-laws 𝓤 H A W .typed answer _ (answer-is answer v₂ is₂) .0)) $
@@ -267,8 +296,10 @@ module _ {M : Type 1} (𝓤 : URA M) (H : Heap 𝓤) (A : Atoms 𝓤) (W : Given
 
     walk : ent 𝓤 (onEntry 𝓤 H A asks.signature κs qs args at) (WpFn 𝓤 H C Λ code.function (v ∷ vc ∷ vo ∷ []) Post)
     walk =
-        qed W ((Tok s ⊛ (Tok sc ⊛ (Tok so ⊛ ‵ ftrue))) ∷ ‵ (owns (ShrSlice (named 0) (s .lft) T.the-row ∷ ShrSlice (named 1) (sc .lft) u32 ∷ MutSlice (named 2) (so .lft) T.the-row ∷ []) args at) ∷ []) ∵
-        split ! $ move ! (1 ∷ []) $ split ! $ move ! (1 ∷ []) $ split ! $ move ! (1 ∷ []) $ drop ! $ move ! (3 ∷ []) $ fsplit ! $ move ! (1 ∷ []) $ fsplit ! $ move ! (1 ∷ []) $ fsplit ! $ move ! (1 ∷ []) $ drop ! $
+        qed W ((Tok s ⊛ (Tok sc ⊛ (Tok so ⊛ ‵ ftrue))) ∷ ‵ (owns
+        (ShrSlice (named 0) (s .lft) T.the-row ∷ ShrSlice (named 1) (sc .lft) u32 ∷ MutSlice (named 2) (so .lft) T.the-row ∷ []) args at) ∷ []) ∵
+        split ! $ move ! (1 ∷ []) $ split ! $ move ! (1 ∷ []) $ split ! $ move ! (1 ∷ []) $ drop ! $ move ! (3 ∷ []) $ fsplit ! $ move ! (1 ∷ []) $ fsplit ! $ move !
+        (1 ∷ []) $ fsplit ! $ move ! (1 ∷ []) $ drop ! $
         enter ! C Λ code.function (v ∷ vc ∷ vo ∷ []) _ $ alloc1 ! (λ l₀. alloc1 ! (λ l₁. alloc1 ! (λ l₂. alloc1 ! (λ l₃. alloc1 ! (λ l₄. alloc1 ! (λ l₅. alloc1 ! (λ l₆. alloc1 ! (λ l₇.
         alloc1 ! (λ l₈. alloc1 ! (λ l₉. alloc1 ! (λ l₁₀. alloc1 ! (λ l₁₁. alloc1 ! (λ l₁₂. alloc1 ! (λ l₁₃. alloc1 ! (λ l₁₄. alloc1 ! (λ l₁₅. alloc1 ! (λ l₁₆. alloc1 ! (λ l₁₇. alloc1 ! (λ l₁₈.
         alloc1 ! (λ l₁₉. alloc1 ! (λ l₂₀. alloc1 ! (λ l₂₁. alloc1 ! (λ l₂₂. alloc1 ! (λ l₂₃. alloc1 ! (λ l₂₄. alloc1 ! (λ l₂₅. alloc1 ! (λ l₂₆. alloc1 ! (λ l₂₇. alloc1 ! (λ l₂₈. alloc1 ! (λ l₂₉.
@@ -283,16 +314,24 @@ module _ {M : Type 1} (𝓤 : URA M) (H : Heap 𝓤) (A : Atoms 𝓤) (W : Given
         use1 W (‵ (row u32 fullShare (replicate 1024 0) l₇ 0)) (zeros-row 𝓤 H A W 1024 l₇) $ move ! (1 ∷ 0 ∷ []) $ fjoin ! $ move ! (1 ∷ 0 ∷ []) $ fjoin ! $ move ! (1 ∷ 0 ∷ []) $ fjoin ! $
         -- the links go over into the columns
         assigns ! (addr ! (from ! (stop !))) (from ! (stop !)) (init ! 53 refl (tt, tt)) $
-        assigns ! (agg ! (and-then ! (load ! (from ! (stop !)) (look ! 53 refl)) (and-then ! (big-lit ! (record { fits = lit< tt })) (no-more !)))) (from ! (stop !)) (init ! 51 refl (tt, (tt, (record { fits = lit< tt }, tt)))) $
+        assigns ! (agg ! (and-then ! (load ! (from ! (stop !)) (look ! 53 refl)) (and-then ! (big-lit ! (record { fits = lit< tt })) (no-more !)))) (from ! (stop !))
+        (init ! 51 refl (tt, (tt, (record { fits = lit< tt }, tt)))) $
         assigns ! (addr ! (from ! (stop !))) (from ! (stop !)) (init ! 49 refl (tt, tt)) $
-        assigns ! (agg ! (and-then ! (load ! (from ! (stop !)) (look ! 49 refl)) (and-then ! (big-lit ! (record { fits = lit< tt })) (no-more !)))) (from ! (stop !)) (init ! 47 refl (tt, (tt, (record { fits = lit< tt }, tt)))) $
+        assigns ! (agg ! (and-then ! (load ! (from ! (stop !)) (look ! 49 refl)) (and-then ! (big-lit ! (record { fits = lit< tt })) (no-more !)))) (from ! (stop !))
+        (init ! 47 refl (tt, (tt, (record { fits = lit< tt }, tt)))) $
         assigns ! (addr ! (from ! (stop !))) (from ! (stop !)) (init ! 45 refl (tt, tt)) $
-        assigns ! (agg ! (and-then ! (load ! (from ! (stop !)) (look ! 45 refl)) (and-then ! (big-lit ! (record { fits = lit< tt })) (no-more !)))) (from ! (stop !)) (init ! 43 refl (tt, (tt, (record { fits = lit< tt }, tt)))) $
+        assigns ! (agg ! (and-then ! (load ! (from ! (stop !)) (look ! 45 refl)) (and-then ! (big-lit ! (record { fits = lit< tt })) (no-more !)))) (from ! (stop !))
+        (init ! 43 refl (tt, (tt, (record { fits = lit< tt }, tt)))) $
         assigns ! (addr ! (from ! (stop !))) (from ! (stop !)) (init ! 41 refl (tt, tt)) $
-        assigns ! (agg ! (and-then ! (load ! (from ! (stop !)) (look ! 41 refl)) (and-then ! (big-lit ! (record { fits = lit< tt })) (no-more !)))) (from ! (stop !)) (init ! 39 refl (tt, (tt, (record { fits = lit< tt }, tt)))) $
+        assigns ! (agg ! (and-then ! (load ! (from ! (stop !)) (look ! 41 refl)) (and-then ! (big-lit ! (record { fits = lit< tt })) (no-more !)))) (from ! (stop !))
+        (init ! 39 refl (tt, (tt, (record { fits = lit< tt }, tt)))) $
         move ! (75 ∷ []) $ use1 W (Links ⊛ Links) (shr-slice-copy 𝓤 H A W (named 0) (s .lft) T.the-row .twice (ref s ys) (v ∷ [])) $ split ! $ move ! (2 ∷ 0 ∷ 79 ∷ []) $
         lend-apart 𝓤 H A mem run s ys 1024 (quad l₄ l₅ l₆ l₇) zeros ! tt full even (λ z₁.
-        calls-at ! fm (Apart 𝓤 H A mem run) known-apart (to-apart 𝓤 H A mem run s ys 1024 (quad l₄ l₅ l₆ l₇) zeros z₁) (and-then ! (load ! (from ! (stop !)) (look ! 71 refl)) (and-then ! (load ! (from ! (stop !)) (look ! 53 refl)) (and-then ! (load ! (from ! (stop !)) (look ! 49 refl)) (and-then ! (load ! (from ! (stop !)) (look ! 45 refl)) (and-then ! (load ! (from ! (stop !)) (look ! 41 refl)) (no-more !)))))) (λ v₁.
+        calls-at ! fm (Apart 𝓤 H A mem run) known-apart (to-apart 𝓤 H A mem run s ys 1024 (quad l₄ l₅ l₆ l₇) zeros z₁)
+        (and-then ! (load ! (from ! (stop !)) (look ! 71 refl))
+        (and-then ! (load ! (from ! (stop !)) (look ! 53 refl))
+        (and-then ! (load ! (from ! (stop !)) (look ! 49 refl))
+        (and-then ! (load ! (from ! (stop !)) (look ! 45 refl)) (and-then ! (load ! (from ! (stop !)) (look ! 41 refl)) (no-more !)))))) (λ v₁.
         back-apart 𝓤 H A mem run s ys 1024 (quad l₄ l₅ l₆ l₇) zeros ! tt z₁ v₁ (λ n₁ x taken long. peeks ! usize (Is usize) (shows 𝓤 H A usize) n₁ (v₁ ∷ []) (λ is₁.
         land ! (from ! (stop !)) (init ! 58 refl (uint-lawful 𝓤 H A W w64 .typed n₁ _ is₁ .0)) $ drop ! $ forget ! 57 refl $ forget ! 55 refl $ forget ! 53 refl $ forget ! 51 refl $
         forget ! 49 refl $ forget ! 47 refl $ forget ! 45 refl $ forget ! 43 refl $ forget ! 41 refl $
@@ -303,7 +342,10 @@ ridgeoven-links-from-meets : {M : Type 1} (𝓤 : URA M) (H : Heap 𝓤) (A : At
     → Triple 𝓤 (𝓣 .C apart-def.name) (Apart 𝓤 H A mem run) → Triple 𝓤 (𝓣 .C ask-taken-def.name) (AskTaken 𝓤 H A mem run) → Triple 𝓤 (𝓣 .C together-def.name) (Together 𝓤 H A mem run)
     → Meets 𝓤 H A asks.signature (WpFn 𝓤 H (𝓣 .C) (𝓣 .Λ) code.function) (asks.spec 𝓤 H A mem run)
 ridgeoven-links-from-meets 𝓤 H A W mem run 𝓣 k₁ k₂ k₃ =
-    walk-meets 𝓤 H A asks.ended stayed W (goes-none-slice 𝓤 H A W 3 (0 ∷ []) tt (plain (λ _. T.the-row)) yes, (goes-none-slice 𝓤 H A W 3 (1 ∷ []) tt (plain (λ _. u32)) yes, (goes-gave-slice 𝓤 H A W 3 2 tt (plain (λ _. T.the-row)), tt))) (asks.clauses 𝓤 H A mem run)
+    walk-meets 𝓤 H A asks.ended stayed W (
+      goes-none-slice 𝓤 H A W 3 (0 ∷ []) tt (plain (λ _. T.the-row)) yes,
+      (goes-none-slice 𝓤 H A W 3 (1 ∷ []) tt (plain (λ _. u32)) yes, (goes-gave-slice 𝓤 H A W 3 2 tt (plain (λ _. T.the-row)), tt)),
+    ) (asks.clauses 𝓤 H A mem run)
     (WpFn 𝓤 H (𝓣 .C) (𝓣 .Λ) code.function) (WpFn-mono 𝓤 H (W .laws) 𝓣 code.function)
     (walked 𝓤 H A asks.ended stayed (asks.clauses 𝓤 H A mem run) (WpFn 𝓤 H (𝓣 .C) (𝓣 .Λ) code.function) (λ κs. (slice-vals, (slice-vals, (slice-vals, tt))))
     (λ κs. (shr-slice-tells (named 0) (κs .0) T.the-row, (shr-slice-tells (named 1) (κs .1 .0) u32, (mut-slice-tells (named 2) (κs .1 .1 .0) T.the-row, tt))))

@@ -19,7 +19,8 @@ use prog.Wp.{Heap, Calls, Loops, WpFn, Tables}
 use ghost.Atoms.{Atoms}
 use contract.Monad.{Fun, fact}
 use contract.Running.{givenOf, tables, tablesOf}
-use types.Kit.{Given, Item, Goal, Soaks, Seq, ‵, raw, some, later, _⊛_, ⋆, _$_, _∵_, !, qed, by as hence, cut, move, keep, drop, use1, split, join, pick, rewrite, fsplit, fjoin, suffices, frame, await, done}
+use types.Kit.{Given, Item, Goal, Soaks, Seq, ‵, raw, some, later, _⊛_, ⋆, _$_, _∵_, !, qed, by as hence, cut, move, keep, drop, use1, split, join, pick, rewrite, fsplit}
+use types.Kit.{fjoin, suffices, frame, await, done}
 use types.Part.{agg, rep, whole, sub, look-in}
 use types.Run.{look, store, init, forget, stop, hop, fld, from, load, lit, addr, no-more, and-then, land, of-opd, assigns, returns, enter, alloc1, alloc0, params1, pass1, pass0, free1, free0}
 use sound.WpLaws.{FmC, fmOf, WpFn-mono}
@@ -124,7 +125,8 @@ module _ {M : Type 1} (𝓤 : URA M) (H : Heap 𝓤) (A : Atoms 𝓤) (W : Given
       back-sort t so z u k =
           use1 W (later (some (λ (r : Answer). (TokensOf z (‵ ftrue) ⊛ ‵ (Q.the-row .own r (u ∷ [])))
           ⊛ raw (ensured 𝓤 H A sort-taken.ended (sort-taken.clauses 𝓤 H A mem run) (to-sort z .0 .0) (to-sort z .0 .3) tt r)))) (id⊢ 𝓤 _) $ await t so $ pick t (λ r. split t $ move t (1 ∷ []) $
-          use1 W (some (λ (ws : Unit {0} × (List ℕ × (List ℕ × (List ℕ × (List ℕ × Unit {0}))))). ‵ (lasts sort-taken.ended (to-sort z .0 .0) (to-sort z .0 .3) ws) ⊛ raw (fact 𝓤 (Done sortLent ys x r (left ws)))))
+          use1 W (some (λ (ws : Unit {0} × (List ℕ × (List ℕ × (List ℕ × (List ℕ × Unit {0}))))). ‵ (lasts sort-taken.ended (to-sort z .0 .0) (to-sort z .0 .3) ws) ⊛ raw
+          (fact 𝓤 (Done sortLent ys x r (left ws)))))
           (id⊢ 𝓤 _) $ pick t (λ ws. split t $ move t (1 ∷ []) $ heard t (Done sortLent ys x r (left ws)) (λ e. fsplit t $ drop t $ open-lasts t z x (left ws) $
           move t (4 ∷ []) $ split t $ open-tokens t z $ move t (0 ∷ 1 ∷ 2 ∷ 3 ∷ 6 ∷ 7 ∷ 8 ∷ 9 ∷ 10 ∷ []) $ back-four t so 1024 z l (left ws) (λ long.
           move t (1 ∷ []) $ drop t $ move t (1 ∷ 0 ∷ []) $ k r (left ws) e long))))
@@ -159,49 +161,77 @@ module _ {M : Type 1} (𝓤 : URA M) (H : Heap 𝓤) (A : Atoms 𝓤) (W : Given
         fjoin ! $
         -- the links go over into the columns: a `&` of them, and the columns, are lent for the call
         assigns ! (addr ! (from ! (fld ! refl (hop ! (look-in ! 67 (sub ! 0 refl (whole !))) (stop !))))) (from ! (stop !)) (init ! 55 refl (tt, tt)) $
-        assigns ! (agg ! (and-then ! (load ! (from ! (stop !)) (look ! 55 refl)) (and-then ! (load ! (from ! (fld ! refl (stop !))) (look-in ! 67 (sub ! 1 refl (whole !)))) (no-more !)))) (from ! (stop !)) (init ! 53 refl (tt, (tt, (record { fits = room .0 }, tt)))) $
+        assigns ! (agg ! (and-then ! (load ! (from ! (stop !)) (look ! 55 refl))
+        (and-then ! (load ! (from ! (fld ! refl (stop !))) (look-in ! 67 (sub ! 1 refl (whole !)))) (no-more !)))) (from ! (stop !)) (init ! 53 refl (tt, (tt, (record { fits = room .0 }, tt)))) $
         assigns ! (addr ! (from ! (stop !))) (from ! (stop !)) (init ! 51 refl (tt, tt)) $
-        assigns ! (agg ! (and-then ! (load ! (from ! (stop !)) (look ! 51 refl)) (and-then ! (big-lit ! (record { fits = lit< tt })) (no-more !)))) (from ! (stop !)) (init ! 49 refl (tt, (tt, (record { fits = lit< tt }, tt)))) $
+        assigns ! (agg ! (and-then ! (load ! (from ! (stop !)) (look ! 51 refl)) (and-then ! (big-lit ! (record { fits = lit< tt })) (no-more !)))) (from ! (stop !))
+        (init ! 49 refl (tt, (tt, (record { fits = lit< tt }, tt)))) $
         assigns ! (addr ! (from ! (stop !))) (from ! (stop !)) (init ! 47 refl (tt, tt)) $
-        assigns ! (agg ! (and-then ! (load ! (from ! (stop !)) (look ! 47 refl)) (and-then ! (big-lit ! (record { fits = lit< tt })) (no-more !)))) (from ! (stop !)) (init ! 45 refl (tt, (tt, (record { fits = lit< tt }, tt)))) $
+        assigns ! (agg ! (and-then ! (load ! (from ! (stop !)) (look ! 47 refl)) (and-then ! (big-lit ! (record { fits = lit< tt })) (no-more !)))) (from ! (stop !))
+        (init ! 45 refl (tt, (tt, (record { fits = lit< tt }, tt)))) $
         assigns ! (addr ! (from ! (stop !))) (from ! (stop !)) (init ! 43 refl (tt, tt)) $
-        assigns ! (agg ! (and-then ! (load ! (from ! (stop !)) (look ! 43 refl)) (and-then ! (big-lit ! (record { fits = lit< tt })) (no-more !)))) (from ! (stop !)) (init ! 41 refl (tt, (tt, (record { fits = lit< tt }, tt)))) $
+        assigns ! (agg ! (and-then ! (load ! (from ! (stop !)) (look ! 43 refl)) (and-then ! (big-lit ! (record { fits = lit< tt })) (no-more !)))) (from ! (stop !))
+        (init ! 41 refl (tt, (tt, (record { fits = lit< tt }, tt)))) $
         assigns ! (addr ! (from ! (stop !))) (from ! (stop !)) (init ! 39 refl (tt, tt)) $
-        assigns ! (agg ! (and-then ! (load ! (from ! (stop !)) (look ! 39 refl)) (and-then ! (big-lit ! (record { fits = lit< tt })) (no-more !)))) (from ! (stop !)) (init ! 37 refl (tt, (tt, (record { fits = lit< tt }, tt)))) $
+        assigns ! (agg ! (and-then ! (load ! (from ! (stop !)) (look ! 39 refl)) (and-then ! (big-lit ! (record { fits = lit< tt })) (no-more !)))) (from ! (stop !))
+        (init ! 37 refl (tt, (tt, (record { fits = lit< tt }, tt)))) $
         move ! (71 ∷ 72 ∷ []) $ reshare ! tt (named 0) (named 0) T.the-row s ys room (λ z₀. move ! (3 ∷ 1 ∷ 0 ∷ []) $
         lend-apart 𝓤 H A mem run (by z₀ (s .block) (s .from)) ys 1024 (quad l₂ l₃ l₄ l₅) zeros ! tt full even (λ z₁.
-        calls-at ! fm (Apart 𝓤 H A mem run) known-apart (to-apart 𝓤 H A mem run (by z₀ (s .block) (s .from)) ys 1024 (quad l₂ l₃ l₄ l₅) zeros z₁) (and-then ! (load ! (from ! (stop !)) (look ! 55 refl)) (and-then ! (load ! (from ! (stop !)) (look ! 51 refl)) (and-then ! (load ! (from ! (stop !)) (look ! 47 refl)) (and-then ! (load ! (from ! (stop !)) (look ! 43 refl)) (and-then ! (load ! (from ! (stop !)) (look ! 39 refl)) (no-more !)))))) (λ v₁.
+        calls-at ! fm (Apart 𝓤 H A mem run) known-apart (to-apart 𝓤 H A mem run (by z₀ (s .block) (s .from)) ys 1024 (quad l₂ l₃ l₄ l₅) zeros z₁)
+        (and-then ! (load ! (from ! (stop !)) (look ! 55 refl))
+        (and-then ! (load ! (from ! (stop !)) (look ! 51 refl))
+        (and-then ! (load ! (from ! (stop !)) (look ! 47 refl))
+        (and-then ! (load ! (from ! (stop !)) (look ! 43 refl)) (and-then ! (load ! (from ! (stop !)) (look ! 39 refl)) (no-more !)))))) (λ v₁.
         back-apart 𝓤 H A mem run (by z₀ (s .block) (s .from)) ys 1024 (quad l₂ l₃ l₄ l₅) zeros ! tt z₁ v₁ (λ n₁ x taken long. peeks ! usize (Is usize) (shows 𝓤 H A usize) n₁ (v₁ ∷ []) (λ is₁.
         land ! (from ! (stop !)) (init ! 60 refl (uint-lawful 𝓤 H A W w64 .typed n₁ _ is₁ .0)) $ drop ! $ move ! (1 ∷ 2 ∷ []) $ unshare ! tt (named 0) T.the-row z₀ s ys room $
         -- the columns are sorted
         assigns ! (of-opd ! (load ! (from ! (fld ! refl (stop !))) (look-in ! 69 (sub ! 1 refl (whole !))))) (from ! (stop !)) (store ! 59 refl (tt, record { fits = room .0 })) $
         assigns ! (addr ! (from ! (stop !))) (from ! (stop !)) (init ! 37 refl (tt, tt)) $
-        assigns ! (agg ! (and-then ! (load ! (from ! (stop !)) (look ! 37 refl)) (and-then ! (big-lit ! (record { fits = lit< tt })) (no-more !)))) (from ! (stop !)) (init ! 35 refl (tt, (tt, (record { fits = lit< tt }, tt)))) $
+        assigns ! (agg ! (and-then ! (load ! (from ! (stop !)) (look ! 37 refl)) (and-then ! (big-lit ! (record { fits = lit< tt })) (no-more !)))) (from ! (stop !))
+        (init ! 35 refl (tt, (tt, (record { fits = lit< tt }, tt)))) $
         assigns ! (addr ! (from ! (stop !))) (from ! (stop !)) (init ! 33 refl (tt, tt)) $
-        assigns ! (agg ! (and-then ! (load ! (from ! (stop !)) (look ! 33 refl)) (and-then ! (big-lit ! (record { fits = lit< tt })) (no-more !)))) (from ! (stop !)) (init ! 31 refl (tt, (tt, (record { fits = lit< tt }, tt)))) $
+        assigns ! (agg ! (and-then ! (load ! (from ! (stop !)) (look ! 33 refl)) (and-then ! (big-lit ! (record { fits = lit< tt })) (no-more !)))) (from ! (stop !))
+        (init ! 31 refl (tt, (tt, (record { fits = lit< tt }, tt)))) $
         assigns ! (addr ! (from ! (stop !))) (from ! (stop !)) (init ! 29 refl (tt, tt)) $
-        assigns ! (agg ! (and-then ! (load ! (from ! (stop !)) (look ! 29 refl)) (and-then ! (big-lit ! (record { fits = lit< tt })) (no-more !)))) (from ! (stop !)) (init ! 27 refl (tt, (tt, (record { fits = lit< tt }, tt)))) $
+        assigns ! (agg ! (and-then ! (load ! (from ! (stop !)) (look ! 29 refl)) (and-then ! (big-lit ! (record { fits = lit< tt })) (no-more !)))) (from ! (stop !))
+        (init ! 27 refl (tt, (tt, (record { fits = lit< tt }, tt)))) $
         assigns ! (addr ! (from ! (stop !))) (from ! (stop !)) (init ! 25 refl (tt, tt)) $
-        assigns ! (agg ! (and-then ! (load ! (from ! (stop !)) (look ! 25 refl)) (and-then ! (big-lit ! (record { fits = lit< tt })) (no-more !)))) (from ! (stop !)) (init ! 23 refl (tt, (tt, (record { fits = lit< tt }, tt)))) $
+        assigns ! (agg ! (and-then ! (load ! (from ! (stop !)) (look ! 25 refl)) (and-then ! (big-lit ! (record { fits = lit< tt })) (no-more !)))) (from ! (stop !))
+        (init ! 23 refl (tt, (tt, (record { fits = lit< tt }, tt)))) $
         move ! (2 ∷ []) $ lend-sort (quad l₂ l₃ l₄ l₅) x long ! tt (λ z₂.
-        calls-at ! fm (SortTaken 𝓤 H A mem run) known-sort (to-sort (quad l₂ l₃ l₄ l₅) x z₂) (and-then ! (load ! (from ! (stop !)) (look ! 60 refl)) (and-then ! (load ! (from ! (stop !)) (look ! 36 refl)) (and-then ! (load ! (from ! (stop !)) (look ! 32 refl)) (and-then ! (load ! (from ! (stop !)) (look ! 28 refl)) (and-then ! (load ! (from ! (stop !)) (look ! 24 refl)) (no-more !)))))) (λ v₂.
+        calls-at ! fm (SortTaken 𝓤 H A mem run) known-sort (to-sort (quad l₂ l₃ l₄ l₅) x z₂)
+        (and-then ! (load ! (from ! (stop !)) (look ! 60 refl))
+        (and-then ! (load ! (from ! (stop !)) (look ! 36 refl))
+        (and-then ! (load ! (from ! (stop !)) (look ! 32 refl))
+        (and-then ! (load ! (from ! (stop !)) (look ! 28 refl)) (and-then ! (load ! (from ! (stop !)) (look ! 24 refl)) (no-more !)))))) (λ v₂.
         back-sort (quad l₂ l₃ l₄ l₅) x ! tt z₂ v₂ (λ answer y sorted long′. peeks ! Q.the-row (Is Q.the-row) (shows 𝓤 H A Q.the-row) answer (v₂ ∷ []) (λ is₂.
         land ! (from ! (stop !)) (init ! 64 refl (LL.lawful Q.the-type Q′.the-laws 𝓤 H A W .typed answer _ is₂ .0)) $
         rewrite ! 64 (λ (u : Val). ‵ (fat fullShare Q′.mir l₆ 0 u)) (answer-spelled answer v₂ is₂) refl $ drop ! $
-        assigns ! (of-opd ! (load ! (from ! (fld ! refl (stop !))) (look-in ! 63 (sub ! 1 refl (whole !))))) (from ! (stop !)) (init ! 61 refl (tt, record { fits = few-small (answer .length) (few x answer y sorted long′) })) $
+        assigns ! (of-opd ! (load ! (from ! (fld ! refl (stop !))) (look-in ! 63 (sub ! 1 refl (whole !))))) (from ! (stop !))
+        (init ! 61 refl (tt, record { fits = few-small (answer .length) (few x answer y sorted long′) })) $
         -- the answer's links go over the first of the records, which are given to the call
         assigns ! (addr ! (from ! (stop !))) (from ! (stop !)) (init ! 21 refl (tt, tt)) $
-        assigns ! (agg ! (and-then ! (load ! (from ! (stop !)) (look ! 21 refl)) (and-then ! (load ! (from ! (stop !)) (look ! 61 refl)) (no-more !)))) (from ! (stop !)) (init ! 19 refl (tt, (tt, (record { fits = few-small (answer .length) (few x answer y sorted long′) }, tt)))) $
+        assigns ! (agg ! (and-then ! (load ! (from ! (stop !)) (look ! 21 refl)) (and-then ! (load ! (from ! (stop !)) (look ! 61 refl)) (no-more !)))) (from ! (stop !))
+        (init ! 19 refl (tt, (tt, (record { fits = few-small (answer .length) (few x answer y sorted long′) }, tt)))) $
         assigns ! (addr ! (from ! (stop !))) (from ! (stop !)) (init ! 17 refl (tt, tt)) $
-        assigns ! (agg ! (and-then ! (load ! (from ! (stop !)) (look ! 17 refl)) (and-then ! (big-lit ! (record { fits = lit< tt })) (no-more !)))) (from ! (stop !)) (init ! 15 refl (tt, (tt, (record { fits = lit< tt }, tt)))) $
+        assigns ! (agg ! (and-then ! (load ! (from ! (stop !)) (look ! 17 refl)) (and-then ! (big-lit ! (record { fits = lit< tt })) (no-more !)))) (from ! (stop !))
+        (init ! 15 refl (tt, (tt, (record { fits = lit< tt }, tt)))) $
         assigns ! (addr ! (from ! (stop !))) (from ! (stop !)) (init ! 13 refl (tt, tt)) $
-        assigns ! (agg ! (and-then ! (load ! (from ! (stop !)) (look ! 13 refl)) (and-then ! (big-lit ! (record { fits = lit< tt })) (no-more !)))) (from ! (stop !)) (init ! 11 refl (tt, (tt, (record { fits = lit< tt }, tt)))) $
+        assigns ! (agg ! (and-then ! (load ! (from ! (stop !)) (look ! 13 refl)) (and-then ! (big-lit ! (record { fits = lit< tt })) (no-more !)))) (from ! (stop !))
+        (init ! 11 refl (tt, (tt, (record { fits = lit< tt }, tt)))) $
         assigns ! (addr ! (from ! (stop !))) (from ! (stop !)) (init ! 9 refl (tt, tt)) $
-        assigns ! (agg ! (and-then ! (load ! (from ! (stop !)) (look ! 9 refl)) (and-then ! (big-lit ! (record { fits = lit< tt })) (no-more !)))) (from ! (stop !)) (init ! 7 refl (tt, (tt, (record { fits = lit< tt }, tt)))) $
+        assigns ! (agg ! (and-then ! (load ! (from ! (stop !)) (look ! 9 refl)) (and-then ! (big-lit ! (record { fits = lit< tt })) (no-more !)))) (from ! (stop !))
+        (init ! 7 refl (tt, (tt, (record { fits = lit< tt }, tt)))) $
         assigns ! (addr ! (from ! (fld ! refl (hop ! (look-in ! 69 (sub ! 0 refl (whole !))) (stop !))))) (from ! (stop !)) (init ! 5 refl (tt, tt)) $
-        assigns ! (agg ! (and-then ! (load ! (from ! (stop !)) (look ! 5 refl)) (and-then ! (load ! (from ! (fld ! refl (stop !))) (look-in ! 69 (sub ! 1 refl (whole !)))) (no-more !)))) (from ! (stop !)) (init ! 3 refl (tt, (tt, (record { fits = room .0 }, tt)))) $
-        lend-together 𝓤 H A mem run s ys 1024 (quad l₂ l₃ l₄ l₅) y ! tt (answer .length) (few-room (answer .length) (few x answer y sorted long′)) full long′ (few-fits (answer .length) (y .a) (few x answer y sorted long′) (long′ .0)) (λ z₃.
-        calls-at ! fm (Together 𝓤 H A mem run) known-together (to-together 𝓤 H A mem run s ys 1024 (quad l₂ l₃ l₄ l₅) y (answer .length) z₃) (and-then ! (load ! (from ! (stop !)) (look ! 18 refl)) (and-then ! (load ! (from ! (stop !)) (look ! 14 refl)) (and-then ! (load ! (from ! (stop !)) (look ! 10 refl)) (and-then ! (load ! (from ! (stop !)) (look ! 6 refl)) (and-then ! (load ! (from ! (stop !)) (look ! 2 refl)) (no-more !)))))) (λ v₃.
+        assigns ! (agg ! (and-then ! (load ! (from ! (stop !)) (look ! 5 refl))
+        (and-then ! (load ! (from ! (fld ! refl (stop !))) (look-in ! 69 (sub ! 1 refl (whole !)))) (no-more !)))) (from ! (stop !)) (init ! 3 refl (tt, (tt, (record { fits = room .0 }, tt)))) $
+        lend-together 𝓤 H A mem run s ys 1024 (quad l₂ l₃ l₄ l₅) y ! tt (answer .length) (few-room (answer .length) (few x answer y sorted long′)) full long′
+        (few-fits (answer .length) (y .a) (few x answer y sorted long′) (long′ .0)) (λ z₃.
+        calls-at ! fm (Together 𝓤 H A mem run) known-together (to-together 𝓤 H A mem run s ys 1024 (quad l₂ l₃ l₄ l₅) y (answer .length) z₃)
+        (and-then ! (load ! (from ! (stop !)) (look ! 18 refl))
+        (and-then ! (load ! (from ! (stop !)) (look ! 14 refl))
+        (and-then ! (load ! (from ! (stop !)) (look ! 10 refl))
+        (and-then ! (load ! (from ! (stop !)) (look ! 6 refl)) (and-then ! (load ! (from ! (stop !)) (look ! 2 refl)) (no-more !)))))) (λ v₃.
         back-together 𝓤 H A mem run s ys 1024 (quad l₂ l₃ l₄ l₅) y ! tt (answer .length) z₃ v₃ (λ n₃ zs put same. peeks ! usize (Is usize) (shows 𝓤 H A usize) n₃ (v₃ ∷ []) (λ is₃.
         land ! (from ! (stop !)) (store ! 60 refl (uint-lawful 𝓤 H A W w64 .typed n₃ _ is₃ .0)) $ drop ! $
         assigns ! (of-opd ! (load ! (from ! (stop !)) (look ! 63 refl))) (from ! (stop !)) (init ! 71 refl (LL.lawful Q.the-type Q′.the-laws 𝓤 H A W .typed answer _ (answer-is answer v₂ is₂) .0)) $

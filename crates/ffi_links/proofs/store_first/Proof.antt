@@ -46,7 +46,8 @@ returns c =
     let lent = c .before .before .before .before .before .before .before .before .before .before .before .before .before .before .before .before .before .before .before .before .before .before .before .before .before .pre in
     let written = c .before .before .before .before .before .before .before .before .encode-links .ensures .1 in
     let given = c .before .before .before .before .before .before .before .before .before .before .before .before .before .before .before .before .before .before .before .before .before .before .before .before .before .args in
-    stored-fronts (given .n) (lent .0) (given .a .now) (given .b .now) (given .c .now) (given .d .now) (lent .1 .0 .0) (lent .1 .0 .1 .0) (lent .1 .0 .1 .1 .0) (lent .1 .0 .1 .1 .1) (given .x .now) (given .y .now) (given .z .now) (given .w .now) (lent .1 .1 .0) (lent .1 .1 .1 .0) (lent .1 .1 .1 .1 .0) (lent .1 .1 .1 .1 .1) written
+    stored-fronts (given .n) (lent .0) (given .a .now) (given .b .now) (given .c .now) (given .d .now) (lent .1 .0 .0) (lent .1 .0 .1 .0) (lent .1 .0 .1 .1 .0)
+    (lent .1 .0 .1 .1 .1) (given .x .now) (given .y .now) (given .z .now) (given .w .now) (lent .1 .1 .0) (lent .1 .1 .1 .0) (lent .1 .1 .1 .1 .0) (lent .1 .1 .1 .1 .1) written
 
 pub store-first-spec : {M : Type 1} → statement M
 store-first-spec =

@@ -2,6 +2,7 @@
 // space, so that they are made once for all sets.
 use archive_bytes::number_columns::fill_i64s;
 use archive_bytes::number_columns::fill_u64s;
+use columns::kind::KINDS;
 use columns::refusal::Ruling;
 use columns::set::Set;
 use columns_slots::sets::set_rules;
@@ -47,7 +48,16 @@ fn loaded_rules(
     ensures { λ r. ⌜ r ≡ ruling (setRules kinds (setNumber set) first rows end (columnsOf n (take (2 * rows + 1) (now (offsets .entry))) (take n (now (deltas .entry))))) ⌝ }
 {
     let k = 2 * rows + 1;
-    set_rules(set, first, rows, end, n as u64, &offsets[..k], &deltas[..n])
+    set_rules(
+        KINDS,
+        set,
+        first,
+        rows,
+        end,
+        n as u64,
+        &offsets[..k],
+        &deltas[..n],
+    )
 }
 
 // The rules of the set of n deltas that starts at place p.

@@ -12,13 +12,13 @@ use Rattle.columns_levels.proofs.frontier.collect.Statement.{statement}
 use Rattle.columns_levels.proofs.frontier.collect.Tie as tie
 
 abbrev Inv-loop : tie.InvT-loop
-Inv-loop list lo hi keys₀ links₀ heads₀ n first kind offsets targets m₀ i₀ keys links heads m i = (length keys ≡ length keys₀) × (length links ≡ length links₀)
+Inv-loop width list lo hi keys₀ links₀ heads₀ n first kind offsets targets m₀ i₀ keys links heads m i = (length keys ≡ length keys₀) × (length links ≡ length links₀)
     × (length heads ≡ length heads₀) × Table keys links heads m
-    × (addsCap (length keys₀) (take n keys₀) (flat (parentsIn first kind offsets targets) (slice lo hi list))
-    ≡ addsCap (length keys₀) (take m keys) (flat (parentsIn first kind offsets targets) (slice i hi list)))
+    × (addsCap (length keys₀) (take n keys₀) (flat (parentsIn width first kind offsets targets) (slice lo hi list))
+    ≡ addsCap (length keys₀) (take m keys) (flat (parentsIn width first kind offsets targets) (slice i hi list)))
 
 abbrev μ-loop : tie.MeasureT-loop
-μ-loop list lo hi keys₀ links₀ heads₀ n first kind offsets targets m₀ i₀ keys links heads m i = hi - i
+μ-loop width list lo hi keys₀ links₀ heads₀ n first kind offsets targets m₀ i₀ keys links heads m i = hi - i
 
 loop-again : tie.Need-loop-again Inv-loop μ-loop
 loop-again c = (search needs, search needs, search needs, search needs, search collect-one)

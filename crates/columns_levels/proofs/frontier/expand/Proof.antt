@@ -1,5 +1,5 @@
 -- `columns_levels::frontier::expand` meets its contract.
-use Rattle.columns_levels.proofs.frontier.Slots.{stays-before, stays-far, stays-after, expanded}
+use Rattle.columns_levels.proofs.frontier.Slots.{row-fits, slot-fits, next-fits, stays-before, stays-far, stays-after, expanded}
 use borrow.Author.Needs.{needs}
 use Rattle.columns_levels.proofs.frontier.expand.Statement.{statement}
 use Rattle.columns_levels.proofs.frontier.expand.Tie as tie
@@ -19,6 +19,6 @@ returns-4 c = (search needs, search expanded)
 pub expand-spec : {M : Type 1} → statement M
 expand-spec =
     tie.close
-    (tie.spec returns (λ c κs. search needs) returns-2 (λ c κs. search needs) (λ c. search needs) (λ c. search needs) (λ c. search needs)
-    returns-3 (λ c. search needs) (λ c. search needs) (λ c κs. search needs) (λ c. search needs) (λ c. search needs) (λ c. search needs)
-    (λ c κs. search needs) (λ c κs. search needs) (λ c. search needs) (λ c. search needs) (λ c. search needs) returns-4)
+    (tie.spec returns (λ c κs. search needs) returns-2 (λ c κs. search needs) (λ c. search row-fits) (λ c. search slot-fits)
+    (λ c. search next-fits) returns-3 (λ c. search needs) (λ c. search needs) (λ c κs. search needs) (λ c. search needs) (λ c. search needs)
+    (λ c. search needs) (λ c κs. search needs) (λ c κs. search needs) (λ c. search needs) (λ c. search needs) (λ c. search needs) returns-4)

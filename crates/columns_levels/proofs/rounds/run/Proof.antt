@@ -14,14 +14,14 @@ use Rattle.columns_levels.proofs.rounds.run.Statement.{statement}
 use Rattle.columns_levels.proofs.rounds.run.Tie as tie
 
 abbrev Inv-loop : tie.InvT-loop
-Inv-loop buf₀ ends₀ limit have first kind offsets targets keys₀ links₀ heads₀ w₀ lo₀ m₀ k₀ n₀ left₀ buf ends keys links heads w lo m k n left = (lo < m) × (1 ≤ m)
+Inv-loop width buf₀ ends₀ limit have first kind offsets targets keys₀ links₀ heads₀ w₀ lo₀ m₀ k₀ n₀ left₀ buf ends keys links heads w lo m k n left = (lo < m) × (1 ≤ m)
     × (k + 1 ≤ m) × (m ≤ n) × (left + m ≡ limit + 1) × (length buf ≡ length buf₀) × (length ends ≡ length ends₀) × (length keys ≡ length keys₀)
     × (length links ≡ length links₀) × (length heads ≡ length heads₀) × (length w ≡ length w₀) × Table keys links heads n × Seen left n (take m buf) keys targets
-    × (drop k ends ≡ drop k ends₀) × Going (levelsFrom (parentsIn first kind offsets targets) limit limit (take 1 buf₀) (take 1 buf₀))
-    (levelsFrom (parentsIn first kind offsets targets) (limit - k) left (take m buf) (slice lo m buf)) buf ends m k
+    × (drop k ends ≡ drop k ends₀) × Going (levelsFrom (parentsIn width first kind offsets targets) limit limit (take 1 buf₀) (take 1 buf₀))
+    (levelsFrom (parentsIn width first kind offsets targets) (limit - k) left (take m buf) (slice lo m buf)) buf ends m k
 
 abbrev μ-loop : tie.MeasureT-loop
-μ-loop buf₀ ends₀ limit have first kind offsets targets keys₀ links₀ heads₀ w₀ lo₀ m₀ k₀ n₀ left₀ buf ends keys links heads w lo m k n left = limit + 1 - lo
+μ-loop width buf₀ ends₀ limit have first kind offsets targets keys₀ links₀ heads₀ w₀ lo₀ m₀ k₀ n₀ left₀ buf ends keys links heads w lo m k n left = limit + 1 - lo
 
 loop-holds : tie.Need-loop-holds Inv-loop μ-loop
 loop-holds c = (

@@ -11,11 +11,11 @@ use Rattle.columns_levels.proofs.rounds.spread.Statement.{statement}
 use Rattle.columns_levels.proofs.rounds.spread.Tie as tie
 
 abbrev Inv-loop : tie.InvT-loop
-Inv-loop keys₀ links₀ heads₀ have a first kind offsets targets n₀ i₀ keys links heads n i = (length keys ≡ length keys₀) × (length links ≡ length links₀)
-    × (length heads ≡ length heads₀) × Table keys links heads n × Grown (parentsIn first kind offsets targets) a targets (take n keys) i
+Inv-loop width keys₀ links₀ heads₀ have a first kind offsets targets n₀ i₀ keys links heads n i = (length keys ≡ length keys₀) × (length links ≡ length links₀)
+    × (length heads ≡ length heads₀) × Table keys links heads n × Grown (parentsIn width first kind offsets targets) a targets (take n keys) i
 
 abbrev μ-loop : tie.MeasureT-loop
-μ-loop keys₀ links₀ heads₀ have a first kind offsets targets n₀ i₀ keys links heads n i = length keys₀ - i
+μ-loop width keys₀ links₀ heads₀ have a first kind offsets targets n₀ i₀ keys links heads n i = length keys₀ - i
 
 loop-again : tie.Need-loop-again Inv-loop μ-loop
 loop-again c = (search needs, search needs, search needs, search needs, search turn-grown)

@@ -1,6 +1,6 @@
 -- `columns_slots::sets::set_rules` meets its contract.
 use borrow.Author.Needs.{needs}
-use Rattle.columns_slots.proofs.sets.Turns.{bad-form, no-edges, bad-count, deltas-climb, bad-side, all-kept}
+use Rattle.columns_slots.proofs.sets.Turns.{bad-form, no-edges, bad-count, deltas-whole, deltas-climb, bad-side, all-kept}
 use Rattle.columns_slots.proofs.sets.set_rules.Statement.{statement}
 use Rattle.columns_slots.proofs.sets.set_rules.Tie as tie
 
@@ -14,7 +14,7 @@ returns-3 : tie.Need-returns-3
 returns-3 c = search bad-count
 
 is-set-sound-requires : tie.Need-is-set-sound-requires
-is-set-sound-requires c κs = search deltas-climb
+is-set-sound-requires c κs = (search needs, (search deltas-whole, search deltas-climb))
 
 returns-4 : tie.Need-returns-4
 returns-4 c = search bad-side

@@ -17,5 +17,5 @@ returns-2 c = (search next-counted, search next-written)
 pub step-from-spec : {M : Type 1} → statement M
 step-from-spec =
     tie.close
-    (tie.spec (λ c κs. search needs) (λ c. search needs) (λ c κs. search needs) (λ c κs. search needs) (λ c. search needs)
-    (λ c. search needs) (λ c. search needs) hand-requires returns (λ c. search needs) returns-2)
+    (tie.spec (λ c κs. search needs) (λ c κs. search needs) (λ c. search needs) (λ c κs. search needs) (λ c κs. search needs)
+    (λ c. search needs) (λ c. search needs) (λ c. search needs) hand-requires returns (λ c. search needs) returns-2)
