@@ -35,6 +35,10 @@ ridgeoven_answer ridgeoven_links_sort(ridgeoven_link *links, size_t links_length
 ridgeoven_answer ridgeoven_links_from(const ridgeoven_link *links, size_t links_length, const uint32_t *chains, size_t chains_length,
                                       ridgeoven_link *out, size_t out_room);
 
+/* The stored columns of links: the first holds differences. */
+ridgeoven_answer ridgeoven_links_store(const ridgeoven_link *links, size_t links_length, uint32_t *a, size_t a_room, uint32_t *b,
+                                       size_t b_room, uint32_t *c, size_t c_room, uint32_t *d, size_t d_room);
+
 typedef struct ridgeoven_covered {
     uint64_t refusal;
     size_t ranges;

@@ -96,6 +96,8 @@ static void covers(void) {
     answered("ridgeoven_links_apart", ridgeoven_links_apart(NONE, RECORDS(0), RECORDS(1), RECORDS(2), RECORDS(3)), 0);
     answered("ridgeoven_links_together", ridgeoven_links_together(NONE, NONE, NONE, NONE, NONE), 0);
     answered("ridgeoven_links_sort", ridgeoven_links_sort(NONE).refusal, 0);
+    answered("ridgeoven_links_store", ridgeoven_links_store(NONE, NONE, NONE, NONE, NONE).refusal, 41);
+    answered("ridgeoven_links_store", ridgeoven_links_store(NONE, RECORDS(0), RECORDS(1), RECORDS(2), RECORDS(3)).refusal, 0);
     answered("ridgeoven_links_from", ridgeoven_links_from(NONE, NONE, NONE).refusal, 41);
     answered("ridgeoven_links_from", ridgeoven_links_from(NONE, NONE, links, 1024).refusal, 0);
     answered("ridgeoven_cover_build", ridgeoven_cover_build(NONE, NONE, NONE, NONE, NONE, NONE, NONE, NONE, NONE, NONE, NONE, NONE, NONE).refusal, 41);

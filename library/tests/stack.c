@@ -40,6 +40,9 @@ static uint64_t together(void) {
 }
 
 static uint64_t sort(void) { return ridgeoven_links_sort(links, COLUMN).refusal; }
+static uint64_t store_records(void) {
+    return ridgeoven_links_store(links, COLUMN, columns[0], COLUMN, columns[1], COLUMN, columns[2], COLUMN, columns[3], COLUMN).refusal;
+}
 static uint64_t from(void) { return ridgeoven_links_from(links, COLUMN, from_chains, COLUMN, found, COLUMN).refusal; }
 
 static uint64_t build(void) {
@@ -73,8 +76,8 @@ static asked of_archives[] = {
 };
 static asked of_covers[] = {
     {"ridgeoven_links_apart", apart, 0, 0}, {"ridgeoven_links_together", together, 0, 0}, {"ridgeoven_links_sort", sort, 0, 0},
-    {"ridgeoven_links_from", from, 0, 0}, {"ridgeoven_cover_build", build, 0, 0}, {"ridgeoven_cover_store", store, 0, 0},
-    {"ridgeoven_chain_links", chain_links, 0, 0},
+    {"ridgeoven_links_from", from, 0, 0}, {"ridgeoven_links_store", store_records, 0, 0}, {"ridgeoven_cover_build", build, 0, 0},
+    {"ridgeoven_cover_store", store, 0, 0}, {"ridgeoven_chain_links", chain_links, 0, 0},
 };
 
 /* The stack, and how far down its paint is gone. */

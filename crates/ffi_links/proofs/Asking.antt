@@ -2,6 +2,7 @@
 use mathlib.Core.Path.{_≡_, refl, sym, _∙_, ap}
 use mathlib.Core.Bool.{Bool, true, false}
 use mathlib.Core.List.{List, [], _∷_, map}
+use mathlib.Core.Option.{Option, none, some}
 use Prim.Native.Nat.{ℕ, _≤_, _<_, zero-le}
 use native.Mathlib.Omega.{arith}
 use lib.Dec.{ltb, eqb}
@@ -9,7 +10,8 @@ use lib.ListN.{length, length-map, take}
 use borrow.Author.Tests.{lt-ltb, le-ltb, ltb-true, ltb-false, eq-eqb}
 use Rattle.lists.specs.Lists.{any}
 use Rattle.columns.specs.Limits.{maxRecords, maxNumbers, recordsRoom}
-use Rattle.columns.specs.Refusal.{Verdict, refused, accepted, unless, firstOf, short, limits}
+use Rattle.columns.specs.Refusal.{Verdict, refused, accepted, unless, firstOf, Lent, short, limits}
+use Rattle.columns.specs.declared.refusal.Refusal.{Refusal}
 use Rattle.columns.specs.declared.refusal.Refusal.the-variants.{OverRecords, OverNumbers, SliceShort}
 use Rattle.cover.specs.Chains.{Link}
 use Rattle.cover.specs.Cover.{LinkColumns, linksOf, differences, evenColumns, columnsOf, encode, linkRules}
@@ -22,8 +24,8 @@ use Rattle.cover_rows.proofs.limits.Verdicts.{limits-records, limits-numbers, l
 use Rattle.ffi.specs.Numbers.{noEntries}
 use Rattle.ffi.specs.declared.answer.Answer.{Answer}
 use Rattle.ffi_cover.specs.Numbers.{recordsOf}
-use Rattle.ffi_links.specs.Records.{chainLent, firstLinks, given}
-use Rattle.ffi_links.proofs.Sorting.{front-long, fronts-even, few-given}
+use Rattle.ffi_links.specs.Records.{chainLent, storeLent, firstLinks, given}
+use Rattle.ffi_links.proofs.Sorting.{front-long, fronts-even, over-given, few-given}
 
 -- ── stored ───────────────────────────────────────────────────────────────────────────────────
 
@@ -55,6 +57,45 @@ module _ (n : ℕ) (h : n ≤ 1024) (a b c d : List ℕ) (pa : length a ≡ 1024
           take-over (map (λ l. l .toChain) ls) z n (length-map ls (λ l. l .toChain) ∙ count),
           take-over (map (λ l. l .toSeq) ls) w n (length-map ls (λ l. l .toSeq) ∙ count),
         )
+
+-- the verdict of the columns' call is that of the links
+kept-last : (t : Option Refusal) → firstOf (t ∷ none ∷ []) ≡ firstOf (t ∷ [])
+unfolding firstOf
+kept-last none = refl
+kept-last (some r) = refl
+
+same-limits : (n : ℕ) (lent : List Lent) → n ≤ 1024 → limits (n ∷ n ∷ n ∷ n ∷ []) [] lent ≡ limits (n ∷ []) [] lent
+unfolding limits any
+same-limits n lent h = simp (le-ltb maxRecords n h)
+
+module _ (n : ℕ) (h : n ≤ 1024) (a b c d : List ℕ) (pa : length a ≡ 1024) (pb : length b ≡ 1024) (pc : length c ≡ 1024) (pd : length d ≡ 1024) (rooms : List ℕ) where
+  stores : encode (linkColumns (take n a) (take n b) (take n c) (take n d)) (forRecords rooms) ≡ storeLent (firstLinks n (linkColumns a b c d)) rooms
+  unfolding encode storeLent evenColumns
+  stores =
+      simp (count n h a b c d pa pb pc pd, front-long n h a pa, front-long n h b pb, front-long n h c pc, front-long n h d pd, eq-eqb n n refl, same-limits n (forRecords rooms) h)
+      (ap (λ t. unless t (columnsOf (firstLinks n (linkColumns a b c d)))) (kept-last (limits (n ∷ []) [] (forRecords rooms))))
+
+  pub store-told : {r : Answer} → r ≡ recordsOf (counted (λ x. x .fromChains) (encode (linkColumns (take n a) (take n b) (take n c) (take n d)) (forRecords rooms)))
+      → r ≡ recordsOf (counted (λ x. x .fromChains) (given n (storeLent (firstLinks n (linkColumns a b c d)) rooms)))
+  store-told e = e ∙ ap (λ v. recordsOf (counted (λ x. x .fromChains) v)) (stores ∙ sym (few-given n (storeLent (firstLinks n (linkColumns a b c d)) rooms) h))
+
+  pub store-written : {o′ : LinkColumns} (o : LinkColumns) → o′ ≡ columnsAfter (encode (linkColumns (take n a) (take n b) (take n c) (take n d)) (forRecords rooms)) o
+      → o′ ≡ columnsAfter (given n (storeLent (firstLinks n (linkColumns a b c d)) rooms)) o
+  store-written o e = e ∙ ap (λ v. columnsAfter v o) (stores ∙ sym (few-given n (storeLent (firstLinks n (linkColumns a b c d)) rooms) h))
+
+-- more were given
+module _ (n : ℕ) (v : Verdict LinkColumns) (h : 1024 < n) where
+  pub unstored-told : {r : Answer} → r ≡ noEntries OverRecords → r ≡ recordsOf (counted (λ x. x .fromChains) (given n v))
+  unfolding recordsOf counted
+  unstored-told e = rw (over-given n v h) e
+
+  pub unstored-kept : (o : LinkColumns) → o ≡ columnsAfter (given n v) o
+  unfolding columnsAfter
+  unstored-kept o = rw (over-given n v h)
+
+pub many-stored : (ls : List Link) (rooms : List ℕ) → 1024 < length ls → storeLent ls rooms ≡ refused OverRecords
+unfolding storeLent limits firstOf unless any
+many-stored ls rooms h = rw (lt-ltb maxRecords (length ls) h)
 
 -- ── asked ────────────────────────────────────────────────────────────────────────────────────
 

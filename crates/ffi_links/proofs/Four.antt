@@ -17,7 +17,7 @@ use mir.Val.{Val}
 use base.Fml.{Fml, ftrue, fsep, feq, fat, froom, fdies, flft, flent}
 use prog.Wp.{Heap}
 use ghost.Atoms.{Atoms}
-use types.Kit.{Given, Item, ‵, _⊛_, Goal, Soaks, Seq, Step, step, _$_, move, drop, use1, split, join, fsplit, fjoin}
+use types.Kit.{Given, Item, ‵, _⊛_, Goal, Soaks, Seq, Step, step, _$_, move, drop, use1, split, join, fsplit, fjoin, feqL}
 use denote.Builtin.{u32}
 use denote.Slice.{sliceTy, sliceVal, MutSlice, ShrSlice, Room, finally}
 use denote.Lend.{Held}
@@ -58,6 +58,10 @@ Four l x = fsep (row u32 fullShare (x .a) (l .a) 0) (fsep (row u32 fullShare (x 
 
 abbrev pub Long : ℕ → Quad (List ℕ) → Type 0
 Long n x = (length (x .a) ≡ n) × ((length (x .b) ≡ n) × ((length (x .c) ≡ n) × (length (x .d) ≡ n)))
+
+-- four lists are as long as four others
+abbrev pub Even : Quad (List ℕ) → Quad (List ℕ) → Type 0
+Even x y = (length (x .a) ≡ length (y .a)) × ((length (x .b) ≡ length (y .b)) × ((length (x .c) ≡ length (y .c)) × (length (x .d) ≡ length (y .d))))
 
 -- what the lender has meanwhile
 abbrev pub Loaned : ℕ → Quad Loan → Quad ℕ → Fml
@@ -122,9 +126,13 @@ module _ {M : Type 1} {𝓤 : URA M} {H : Heap 𝓤} {A : Atoms 𝓤} {K : Type 
   pub join-tokens : K → (z : Quad Loan) {i : Item 𝓤} → Step K W (TokensOf z i ∷ Γ) G (Tokens z (i ∷ Γ)) G
   join-tokens t z = step (λ go. move t (3 ∷ 4 ∷ []) $ join t $ move t (3 ∷ 0 ∷ []) $ join t $ move t (2 ∷ 0 ∷ []) $ join t $ move t (1 ∷ 0 ∷ []) $ join t $ go)
 
+  -- with the lengths that they keep
+  pub told-lasts : K → (z : Quad Loan) (x x′ : Quad (List ℕ)) → (Even x′ x → Seq K W (Lasts z x′ Γ) G) → Seq K W (‵ (LastsOf z x x′) ∷ Γ) G
+  told-lasts t z x x′ go = fsplit t $ fsplit t $ move t (1 ∷ []) $ feqL t (λ ea. move t (1 ∷ []) $ fsplit t $ fsplit t $ move t (1 ∷ []) $ feqL t (λ eb. move t (1 ∷ []) $ fsplit t $ fsplit t $
+      move t (1 ∷ []) $ feqL t (λ ec. move t (1 ∷ []) $ fsplit t $ fsplit t $ move t (1 ∷ []) $ feqL t (λ ed. move t (1 ∷ []) $ drop t $ move t (3 ∷ 2 ∷ 1 ∷ 0 ∷ []) $ go (ea, (eb, (ec, ed)))))))
+
   pub open-lasts : K → (z : Quad Loan) (x x′ : Quad (List ℕ)) → Step K W (Lasts z x′ Γ) G (‵ (LastsOf z x x′) ∷ Γ) G
-  open-lasts t z x x′ = step (λ go. fsplit t $ fsplit t $ move t (1 ∷ []) $ drop t $ move t (1 ∷ []) $ fsplit t $ fsplit t $ move t (1 ∷ []) $ drop t $ move t (1 ∷ []) $ fsplit t $ fsplit t $
-      move t (1 ∷ []) $ drop t $ move t (1 ∷ []) $ fsplit t $ fsplit t $ move t (1 ∷ []) $ drop t $ move t (1 ∷ []) $ drop t $ move t (3 ∷ 2 ∷ 1 ∷ 0 ∷ []) $ go)
+  open-lasts t z x x′ = step (λ go. told-lasts t z x x′ (λ _. go))
 
   -- four of what references own, before P
   pub join-four : K → {P Q R S F : Fml} → Step K W (‵ (fsep P (fsep Q (fsep R (fsep S F)))) ∷ Γ) G (‵ P ∷ ‵ Q ∷ ‵ R ∷ ‵ S ∷ ‵ F ∷ Γ) G

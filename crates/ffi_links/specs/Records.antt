@@ -21,6 +21,10 @@ sortLent ls = unless (firstOf (limits (length ls ∷ []) [] [] ∷ [])) (sortLin
 unfoldable pub chainLent : List Link → List ℕ → ℕ → Verdict (List Link)
 chainLent ls chains room = chainLinks (columnsOf ls) chains (forRecords (room ∷ []))
 
+-- the stored columns of links, for lent columns of these lengths
+unfoldable pub storeLent : List Link → List ℕ → Verdict LinkColumns
+storeLent ls rooms = unless (firstOf (limits (length ls ∷ []) [] (forRecords rooms) ∷ [])) (columnsOf ls)
+
 -- lent links after a call: those that it answers from the start on, or as they were
 unfoldable pub recordsAfter : Verdict (List Link) → List Link → List Link
 recordsAfter (refused r) old = old

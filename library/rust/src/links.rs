@@ -1,5 +1,4 @@
-//! The links of a chain cover as records: sorted and asked for by proved functions over them. To build and to store, a call takes them apart into columns,
-//! hands those to the proved functions and puts the answer together.
+//! The links of a chain cover as records: sorted, asked for and stored by proved functions over them.
 
 use crate::boundary::Answer;
 use crate::refusal::{Refusal, accepted, length};
@@ -40,10 +39,6 @@ pub(crate) struct Covered {
 }
 
 unsafe extern "C" {
-    fn ridgeoven_links_apart(
-        links: *const Link, links_length: usize, a: *mut u32, a_room: usize, b: *mut u32, b_room: usize, c: *mut u32, c_room: usize, d: *mut u32,
-        d_room: usize,
-    ) -> usize;
     fn ridgeoven_links_together(
         a: *const u32, a_length: usize, b: *const u32, b_length: usize, c: *const u32, c_length: usize, d: *const u32, d_length: usize,
         links: *mut Link, links_room: usize,
@@ -58,9 +53,9 @@ unsafe extern "C" {
         minima_room: usize, maxima: *mut u32, maxima_room: usize, a: *mut u32, a_room: usize, b: *mut u32, b_room: usize, c: *mut u32,
         c_room: usize, d: *mut u32, d_room: usize,
     ) -> Covered;
-    fn ridgeoven_cover_store(
-        e: *const u32, e_length: usize, f: *const u32, f_length: usize, g: *const u32, g_length: usize, h: *const u32, h_length: usize,
-        a: *mut u32, a_room: usize, b: *mut u32, b_room: usize, c: *mut u32, c_room: usize, d: *mut u32, d_room: usize,
+    fn ridgeoven_links_store(
+        links: *const Link, links_length: usize, a: *mut u32, a_room: usize, b: *mut u32, b_room: usize, c: *mut u32, c_room: usize, d: *mut u32,
+        d_room: usize,
     ) -> Answer;
     fn ridgeoven_chain_links(
         e: *const u32, e_length: usize, f: *const u32, f_length: usize, g: *const u32, g_length: usize, h: *const u32, h_length: usize,
@@ -80,33 +75,14 @@ impl Columns {
         Columns { of: [[0; LINKS_MAX]; 4], n: 0 }
     }
 
-    /// More links than there is room for are 42, as the functions over columns have it.
-    fn apart(links: &[Link]) -> Result<Self, Refusal> {
-        if LINKS_MAX < links.len() {
-            return Err(Refusal(42));
-        }
-        let mut columns = Self::empty();
-        let [a, b, c, d] = &mut columns.of;
-        columns.n = unsafe {
-            ridgeoven_links_apart(
-                links.as_ptr(), links.len(), a.as_mut_ptr(), a.len(), b.as_mut_ptr(), b.len(), c.as_mut_ptr(), c.len(), d.as_mut_ptr(), d.len(),
-            )
-        };
-        Ok(columns)
-    }
-
-    fn together(&self, links: &mut [Link]) -> usize {
+    fn to_vec(&self) -> Vec<Link> {
+        let mut links = vec![Link::default(); self.n];
         let [a, b, c, d] = self.columns();
         unsafe {
             ridgeoven_links_together(
                 a.as_ptr(), a.len(), b.as_ptr(), b.len(), c.as_ptr(), c.len(), d.as_ptr(), d.len(), links.as_mut_ptr(), links.len(),
             )
-        }
-    }
-
-    fn to_vec(&self) -> Vec<Link> {
-        let mut links = vec![Link::default(); self.n];
-        self.together(&mut links);
+        };
         links
     }
 
@@ -115,30 +91,33 @@ impl Columns {
     }
 }
 
-fn built(labels: &[(u32, u32)], links: &[Link]) -> Result<(Vec<Range>, Columns), Refusal> {
+/// The ranges of labels, of a cover without links.
+fn ranges_of(labels: &[(u32, u32)]) -> Result<Vec<Range>, Refusal> {
     let (chains, seqs): (Vec<u32>, Vec<u32>) = labels.iter().copied().unzip();
-    let given = Columns::apart(links)?;
-    let [e, f, g, h] = given.columns();
+    let none: [u32; 0] = [];
+    let e = none.as_ptr();
     let mut ranges = [[0; LINKS_MAX]; 3];
-    let mut sorted = Columns::empty();
-    let ([ids, minima, maxima], [a, b, c, d]) = (&mut ranges, &mut sorted.of);
+    let mut links = Columns::empty();
+    let ([ids, minima, maxima], [a, b, c, d]) = (&mut ranges, &mut links.of);
     let built = unsafe {
         ridgeoven_cover_build(
-            chains.as_ptr(), chains.len(), seqs.as_ptr(), seqs.len(), e.as_ptr(), e.len(), f.as_ptr(), f.len(), g.as_ptr(), g.len(),
-            h.as_ptr(), h.len(), ids.as_mut_ptr(), ids.len(), minima.as_mut_ptr(), minima.len(), maxima.as_mut_ptr(), maxima.len(),
-            a.as_mut_ptr(), a.len(), b.as_mut_ptr(), b.len(), c.as_mut_ptr(), c.len(), d.as_mut_ptr(), d.len(),
+            chains.as_ptr(), chains.len(), seqs.as_ptr(), seqs.len(), e, 0, e, 0, e, 0, e, 0, ids.as_mut_ptr(), ids.len(), minima.as_mut_ptr(),
+            minima.len(), maxima.as_mut_ptr(), maxima.len(), a.as_mut_ptr(), a.len(), b.as_mut_ptr(), b.len(), c.as_mut_ptr(), c.len(),
+            d.as_mut_ptr(), d.len(),
         )
     };
     let count = accepted(built.refusal, built.ranges)?;
-    sorted.n = built.links;
     let [ids, minima, maxima] = &ranges;
-    Ok(((0..count).map(|at| Range { chain: ids[at], least: minima[at], greatest: maxima[at] }).collect(), sorted))
+    Ok((0..count).map(|at| Range { chain: ids[at], least: minima[at], greatest: maxima[at] }).collect())
 }
 
-/// The cover of labels, chain and seq each, and of links in any order.
+/// The cover of labels, chain and seq each, and of links in any order: the labels' ranges, and the links sorted.
 pub fn build_cover(labels: &[(u32, u32)], links: &[Link]) -> Result<Cover, Refusal> {
-    let (ranges, sorted) = built(labels, links)?;
-    Ok(Cover { ranges, links: sorted.to_vec() })
+    let ranges = ranges_of(labels)?;
+    let mut links = links.to_vec();
+    let kept = sort_links(&mut links)?;
+    links.truncate(kept);
+    Ok(Cover { ranges, links })
 }
 
 /// Puts links in order at the start of their slice, repeats dropped, and answers how many they are; what stands behind them stays.
@@ -158,14 +137,11 @@ pub fn chain_links(links: &[Link], chains: &[u32]) -> Result<Vec<Link>, Refusal>
 
 /// The stored columns of links: differences of from chains, from seqs, to chains, to seqs.
 pub fn store_links(links: &[Link]) -> Result<[Vec<u32>; 4], Refusal> {
-    let given = Columns::apart(links)?;
-    let [e, f, g, h] = given.columns();
     let mut stored = Columns::empty();
     let [a, b, c, d] = &mut stored.of;
     stored.n = length(unsafe {
-        ridgeoven_cover_store(
-            e.as_ptr(), e.len(), f.as_ptr(), f.len(), g.as_ptr(), g.len(), h.as_ptr(), h.len(), a.as_mut_ptr(), a.len(), b.as_mut_ptr(), b.len(),
-            c.as_mut_ptr(), c.len(), d.as_mut_ptr(), d.len(),
+        ridgeoven_links_store(
+            links.as_ptr(), links.len(), a.as_mut_ptr(), a.len(), b.as_mut_ptr(), b.len(), c.as_mut_ptr(), c.len(), d.as_mut_ptr(), d.len(),
         )
     })?;
     Ok(stored.columns().map(<[u32]>::to_vec))

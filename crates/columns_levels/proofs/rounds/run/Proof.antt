@@ -77,10 +77,14 @@ loop-again : tie.Need-loop-again Inv-loop μ-loop
 loop-again c = (
   end-above _ _ _ _ _ (c .before .before .before .before .before .before .before .before .before .before .before .before .advance .ensures .1 .0)
       (c .before .if1 .left),
-  end-from _ _ _ _ _ _ (c .before .before .before .before .before .before .before .before .before .before .before .before .advance .ensures .1 .0) (c .before .before .before .before .before .before .before .before .before .before .before .before .before .before .before .before .before .before .before .loop .inv .2),
-  end-more _ _ _ _ _ _ (c .before .before .before .before .before .before .before .before .before .before .before .before .advance .ensures .1 .0) (c .before .if1 .left) (c .before .before .before .before .before .before .before .before .before .before .before .before .before .before .before .before .before .before .before .loop .inv .2),
+  end-from _ _ _ _ _ _ (c .before .before .before .before .before .before .before .before .before .before .before .before .advance .ensures .1 .0)
+      (c .before .before .before .before .before .before .before .before .before .before .before .before .before .before .before .before .before .before .before .loop .inv .2),
+  end-more _ _ _ _ _ _ (c .before .before .before .before .before .before .before .before .before .before .before .before .advance .ensures .1 .0) (c .before .if1 .left)
+      (c .before .before .before .before .before .before .before .before .before .before .before .before .before .before .before .before .before .before .before .loop .inv .2),
   c .before .before .before .before .before .before .before .before .before .before .before .before .advance .ensures .0 .0,
-  end-left _ _ _ _ _ _ _ (c .before .before .before .before .before .before .before .before .before .before .before .before .advance .ensures .1 .0) (c .before .before .before .before .before .before .before .before .before .before .before .before .advance .ensures .0 .1) (c .before .before .before .before .before .before .before .before .before .before .before .before .before .before .before .before .before .before .before .loop .inv .4),
+  end-left _ _ _ _ _ _ _ (c .before .before .before .before .before .before .before .before .before .before .before .before .advance .ensures .1 .0)
+      (c .before .before .before .before .before .before .before .before .before .before .before .before .advance .ensures .0 .1)
+      (c .before .before .before .before .before .before .before .before .before .before .before .before .before .before .before .before .before .before .before .loop .inv .4),
   search needs,
   search needs,
   search needs,

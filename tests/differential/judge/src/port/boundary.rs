@@ -198,6 +198,11 @@ unsafe extern "C" {
         links: *const Link, links_len: usize, chains: *const u32, chains_len: usize, out: *mut Link, out_len: usize,
     ) -> Answer;
 
+    pub fn ridgeoven_links_store(
+        links: *const Link, links_len: usize,
+        a: *mut u32, a_len: usize, b: *mut u32, b_len: usize, c: *mut u32, c_len: usize, d: *mut u32, d_len: usize,
+    ) -> Answer;
+
     pub fn ridgeoven_cover_store(
         from_chains: *const u32, from_chains_len: usize, from_seqs: *const u32, from_seqs_len: usize,
         to_chains: *const u32, to_chains_len: usize, to_seqs: *const u32, to_seqs_len: usize,

@@ -2,7 +2,7 @@
 
 use super::boundary::{
     self, ridgeoven_ancestor, ridgeoven_build, ridgeoven_chain_links, ridgeoven_children, ridgeoven_cover_build, ridgeoven_cover_read,
-    ridgeoven_cover_store, ridgeoven_label, ridgeoven_links_apart, ridgeoven_links_from, ridgeoven_links_sort, ridgeoven_links_together, ridgeoven_next, ridgeoven_parents, ridgeoven_read_granule, ridgeoven_read_set, ridgeoven_roots,
+    ridgeoven_cover_store, ridgeoven_label, ridgeoven_links_apart, ridgeoven_links_from, ridgeoven_links_sort, ridgeoven_links_store, ridgeoven_links_together, ridgeoven_next, ridgeoven_parents, ridgeoven_read_granule, ridgeoven_read_set, ridgeoven_roots,
     ridgeoven_walk, ridgeoven_window,
 };
 use super::lent::{Lent, NUMBERS, OFFSETS, Pattern, RECORDS};
@@ -313,6 +313,18 @@ fn asked_records([a, b, c, d]: [&[u32]; 4], chains: &[u32], answer: &boundary::A
     if (asked.refusal, asked.length) == (answer.refusal, answer.length) && same { Ok(()) } else { Err("records are asked otherwise than columns".into()) }
 }
 
+/// Records are stored as columns are.
+fn stored_records(given: [&[u32]; 4], answer: &boundary::Answer, out: &[Lent<u32>]) -> Result<(), String> {
+    let Some(records) = as_records(given) else { return Ok(()) };
+    let mut columns = lent::<4>();
+    let [w, x, y, z] = &mut columns;
+    let stored = unsafe {
+        ridgeoven_links_store(records.as_ptr(), records.len(), w.at(), w.len(), x.at(), x.len(), y.at(), y.len(), z.at(), z.len())
+    };
+    let same = columns.iter().zip(out).all(|(one, other)| one.taken(stored.length).is_ok_and(|numbers| Ok(numbers) == other.taken(stored.length)));
+    if (stored.refusal, stored.length) == (answer.refusal, answer.length) && same { Ok(()) } else { Err("records are stored otherwise than columns".into()) }
+}
+
 fn cover(p: &[Part]) -> Asked {
     let [chains, seqs, a, b, c, d] = columns(p);
     through_records([&a, &b, &c, &d])?;
@@ -345,6 +357,7 @@ fn stored(p: &[Part]) -> Asked {
             w.at(), w.len(), x.at(), x.len(), y.at(), y.len(), z.at(), z.len(),
         )
     };
+    stored_records([&a, &b, &c, &d], &answer, &out)?;
     records(&answer, &out)
 }
 
