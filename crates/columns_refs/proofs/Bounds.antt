@@ -1,23 +1,26 @@
--- How much references make: no more parents than references, a record for each unresolved one, and offsets in form.
+-- What references make: no more parents than references, a record for each unresolved one, and both in the form that building asks for.
 use mathlib.Core.Path.{_≡_, refl, _∙_, ap}
-use mathlib.Core.Bool.{true}
+use mathlib.Core.Bool.{true, _&&_}
 use mathlib.Core.Logic.{inl, inr}
 use mathlib.Core.List.{List, [], _∷_, _++_}
-use Prim.Native.Nat.{ℕ, suc, _+_, _≤_}
+use Prim.Native.Nat.{ℕ, suc, _+_, _≤_, _<_}
 use native.Mathlib.Omega.{arith}
-use lib.Dec.{eqb}
+use lib.Dec.{ltb, eqb}
 use lib.ListN.{length, length-append}
-use borrow.Author.Tests.{eqb-true, eqb-false}
-use Rattle.lists.specs.Lists.{filter, joined, starts, upFrom}
-use Rattle.lists.proofs.Tests.{tested}
+use borrow.Author.Tests.{lt-ltb, le-leb, eqb-true, eqb-false}
+use Rattle.lists.specs.Lists.{filter, isEmpty, joined, starts, upFrom, Each}
+use Rattle.lists.proofs.Tests.{tested, both}
+use Rattle.lists.proofs.Each.{each-append}
 use Rattle.lists.proofs.Filters.{filter-append}
+use Rattle.columns.specs.Limits.{kinds}
 use Rattle.columns.specs.EdgeSet.{offsetsForm, cut}
+use Rattle.columns.specs.Building.{inFile}
 use Rattle.columns.proofs.Offsets.{joined-cut}
 use Rattle.columns.proofs.ReadBack.{starts-form}
-use Rattle.columns_refs.specs.References.{names, isUnresolved, parentsOf, parentLists, recordsFrom, unresolvedFrom}
+use Rattle.columns_refs.specs.References.{names, isUnresolved, parentsOf, parentLists, Unresolved, recordsFrom, unresolvedFrom}
 use Rattle.columns_refs.specs.Resolved.{RowsForm}
 use Rattle.columns_refs.specs.declared.refs.Reference.{Reference}
-use Rattle.columns_refs.proofs.Slots.{other-kind, parents-append, length-lists}
+use Rattle.columns_refs.proofs.Slots.{other-kind, parents-append, length-rows, length-lists}
 
 -- ── parents ──────────────────────────────────────────────────────────────────────────────────
 
@@ -83,14 +86,35 @@ all-records : (event place : ℕ) (rows : List (List Reference)) → length (unr
 unfolding unresolvedFrom joined filter
 all-records event place [] = refl
 all-records event place (row ∷ rows) =
-    omega (
-      arith,
-      length-append (recordsFrom event place row) (unresolvedFrom (suc event) (place + length row) rows),
+    rw (
+      filter-append isUnresolved row (joined rows),
+      length-append (filter isUnresolved row) (filter isUnresolved (joined rows)),
+      length-append (recordsFrom event place row),
       row-records event place row,
       all-records (suc event) (place + length row) rows,
-      ap length (filter-append isUnresolved row (joined rows)),
-      length-append (filter isUnresolved row) (filter isUnresolved (joined rows)),
     )
+
+-- a record that building's 6 and 7 accept: its child is an event of the file, its kind one of the kinds
+abbrev pub Accepted : ℕ → ℕ → Unresolved → Type 0
+Accepted first end u = (inFile first end (u .child) ≡ true) × (ltb (u .kind) kinds ≡ true)
+
+module _ (first end : ℕ) where
+  row-accepted : (event place : ℕ) (xs : List Reference) → inFile first end event ≡ true → Each (Accepted first end) (recordsFrom event place xs)
+  unfolding recordsFrom isUnresolved
+  row-accepted event place [] h = tt
+  row-accepted event place (x ∷ xs) h = elim (tested (ltb (x .kind) kinds && isEmpty (names x))) [
+    | inl e ↦ rw e ((h, both (ltb (x .kind) kinds) _ e .0), row-accepted event (suc place) xs h)
+    | inr e ↦ rw e (row-accepted event (suc place) xs h)
+  ]
+
+  pub all-accepted : (event place : ℕ) (rows : List (List Reference)) → first ≤ event → event + length rows ≤ end → Each (Accepted first end) (unresolvedFrom event place rows)
+  unfolding unresolvedFrom inFile
+  all-accepted event place [] l h = tt
+  all-accepted event place (row ∷ rows) l h =
+      let k : event < end = omega arith in
+      each-append (Accepted first end) (recordsFrom event place row) (unresolvedFrom (suc event) (place + length row) rows)
+      (row-accepted event place row (rw (le-leb first event l, lt-ltb event end k)))
+      (all-accepted (suc event) (place + length row) rows (omega arith) (omega arith))
 
 -- ── rows in form ─────────────────────────────────────────────────────────────────────────────
 
@@ -100,6 +124,9 @@ module _ (rows : ℕ) (offsets : List ℕ) (xs : List Reference) (f : RowsForm r
 
   pub records-many : (first : ℕ) → length (unresolvedFrom first 0 (cut offsets xs)) ≡ length (filter isUnresolved xs)
   records-many first = all-records first 0 (cut offsets xs) ∙ rw (joined-cut xs offsets (f .climbs))
+
+  pub records-accepted : (first : ℕ) → Each (Accepted first (first + rows)) (unresolvedFrom first 0 (cut offsets xs))
+  records-accepted first = all-accepted first (first + rows) first 0 (cut offsets xs) (omega arith) (omega (arith, length-rows rows offsets xs f))
 
   -- the offsets of the parent lists are in the form that building asks for
   pub lists-form : offsetsForm rows (length (joined (parentLists (cut offsets xs)))) (starts 0 (parentLists (cut offsets xs))) ≡ true

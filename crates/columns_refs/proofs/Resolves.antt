@@ -1,23 +1,23 @@
 -- What is known of references whose rules are kept, and what `resolve_graph` answers and leaves in the slices that it is lent.
-use mathlib.Core.Path.{_≡_, refl, sym, _∙_, ap}
-use mathlib.Core.Bool.{Bool, true, false, _&&_, _||_}
+use mathlib.Core.Path.{_≡_, refl, _∙_}
+use mathlib.Core.Bool.{true, false, _&&_}
 use mathlib.Core.List.{List, [], _∷_, map}
 use mathlib.Core.Option.{Option, none, some}
-use Prim.Native.Nat.{ℕ, _+_, _*_, _≤_, _<_}
+use Prim.Native.Nat.{ℕ, _+_, _≤_, _<_}
 use native.Mathlib.Omega.{arith}
 use lib.Dec.{ltb, eqb}
 use lib.ListN.{length, length-map}
 use lib.Seq.{sets}
 use borrow.Author.Tests.{ltb-true, ltb-false, eqb-true}
 use Rattle.lists.specs.Lists as Lists
-use Rattle.lists.specs.Lists.{any, filter, joined}
+use Rattle.lists.specs.Lists.{any, filter, joined, Each}
 use Rattle.lists.proofs.Tests.{both}
 use Rattle.lists.proofs.Once.{or-is-false}
 use Rattle.lists.proofs.Flat.{length-starts}
 use Rattle.lists.proofs.Slices.{sets-front}
 use Rattle.columns.specs.Limits.{maxRecords, maxNumbers, end64}
-use Rattle.columns.specs.Refusal.{Verdict, refused, accepted, unless, Lent, short, limits}
-use Rattle.columns.specs.EdgeSet.{offsetsForm, cut, fromTo}
+use Rattle.columns.specs.Refusal.{accepted, unless, Lent, short, limits}
+use Rattle.columns.specs.EdgeSet.{offsetsForm, fromTo}
 use Rattle.columns.specs.Building.{numbersOk}
 use Rattle.columns.specs.Answers.{ruling, writtenIn}
 use Rattle.columns.specs.declared.refusal.Refusal.{Refusal}
@@ -26,12 +26,13 @@ use Rattle.columns.specs.declared.refusal.Ruling.{Ruling}
 use Rattle.columns.specs.declared.refusal.Ruling.the-variants.{Kept, Broken}
 use Rattle.columns.proofs.FirstBroken.{each-none, not-refused, passed}
 use Rattle.columns.proofs.Told.{told, told-kept}
-use Rattle.columns_refs.specs.References.{Referred, Unresolved, referencesOf, referencesIn, rowsIn, isUnresolved, parentLists, unresolvedFrom, referredOk, Resolution, resolutionOf, referredLengths, inputRules, resolveRules, resolveGraph}
-use Rattle.columns_refs.specs.Resolved.{referred, slicesOf, RecordsRoom, Noted, RowsForm, ListsRoom, resolvedOf, laid, offsetsColumn, parentsColumn, childrenOf, Answers}
+use Rattle.columns_refs.specs.References.{Referred, Unresolved, referencesIn, rowsIn, isUnresolved, parentLists, unresolvedFrom, referredOk, Resolution, resolutionOf, referredLengths, inputRules, resolveRules, resolveGraph}
+use Rattle.columns_refs.specs.Resolved.{slicesOf, Noted, RowsForm, Ready, resolvedOf, laid, offsetsColumn, parentsColumn, Answers}
+use Rattle.columns_refs.specs.declared.Made.{Made}
 use Rattle.columns_refs.specs.declared.Resolved.the-variants.{Written, Refused}
 use Rattle.columns_refs.proofs.Counted.{even-many}
 use Rattle.columns_refs.proofs.Slots.{length-lists}
-use Rattle.columns_refs.proofs.Bounds.{parents-few, records-many, lists-form}
+use Rattle.columns_refs.proofs.Bounds.{parents-few, records-many, Accepted, records-accepted, lists-form}
 
 -- ── rules kept ───────────────────────────────────────────────────────────────────────────────
 
@@ -106,6 +107,13 @@ resolved-form g lent x e =
     let t = taken (resolveRules g lent) (resolutionOf g) x e in
     rw (← t .1) (lists-form (g .rows) (g .starts) (referencesIn g) (rows-form g lent (t .0)))
 
+-- and building's 6 and 7 accept the child and the kind of each record
+pub resolved-records : (g : Referred) (lent : List Lent) (x : Resolution) → resolveGraph g lent ≡ accepted x → Each (Accepted (g .first) (g .first + g .rows)) (x .unresolved)
+unfolding resolveGraph resolutionOf
+resolved-records g lent x e =
+    let t = taken (resolveRules g lent) (resolutionOf g) x e in
+    rw (← t .1) (records-accepted (g .rows) (g .starts) (referencesIn g) (rows-form g lent (t .0)) (g .first))
+
 -- ── five slices ──────────────────────────────────────────────────────────────────────────────
 
 record Long (o p c k h : ℕ) : Type 0 where
@@ -133,56 +141,55 @@ long o p c k h e =
 
 -- ── the call ─────────────────────────────────────────────────────────────────────────────────
 
-module _ (first rows : ℕ) (starts ks ss ts vs ns os ps cs us hs : List ℕ) {q : Ruling}
-    (e : q ≡ ruling (resolveRules (referred first rows starts ks ss ts vs ns) (slicesOf (length os) (length ps) (length cs) (length us) (length hs)))) where
-  pub nothing-written : (why : Refusal) → q ≡ Broken why → Answers (resolveGraph (referred first rows starts ks ss ts vs ns) (slicesOf (length os) (length ps) (length cs) (length us) (length hs))) (Refused why) os ps cs us hs os ps cs us hs
-  unfolding resolveGraph unless resolvedOf laid
-  nothing-written why f = rw (told (resolveRules (referred first rows starts ks ss ts vs ns) (slicesOf (length os) (length ps) (length cs) (length us) (length hs))) e f) (record { answer = refl; offsets = refl; parents = refl; children = refl; kinds = refl; handles = refl })
+module _ (g : Referred) (os ps cs us hs : List ℕ) where
+  module _ {q : Ruling} (e : q ≡ ruling (resolveRules g (slicesOf (length os) (length ps) (length cs) (length us) (length hs)))) where
+    pub nothing-written : (why : Refusal) → q ≡ Broken why → Answers (resolveGraph g (slicesOf (length os) (length ps) (length cs) (length us) (length hs))) (Refused why) os ps cs us hs os ps cs us hs
+    unfolding resolveGraph unless resolvedOf laid
+    nothing-written why f =
+        rw (told (resolveRules g (slicesOf (length os) (length ps) (length cs) (length us) (length hs))) e f)
+        (record { answer = refl; offsets = refl; parents = refl; children = refl; kinds = refl; handles = refl })
 
-  module _ (f : q ≡ Kept) where
-    kept : resolveRules (referred first rows starts ks ss ts vs ns) (slicesOf (length os) (length ps) (length cs) (length us) (length hs)) ≡ none
-    kept = told-kept (resolveRules (referred first rows starts ks ss ts vs ns) (slicesOf (length os) (length ps) (length cs) (length us) (length hs))) e f
+    module _ (f : q ≡ Kept) where
+      kept : resolveRules g (slicesOf (length os) (length ps) (length cs) (length us) (length hs)) ≡ none
+      kept = told-kept (resolveRules g (slicesOf (length os) (length ps) (length cs) (length us) (length hs))) e f
 
-    long-slices : Long (length os) (length ps) (length cs) (length us) (length hs)
-    long-slices = long (length os) (length ps) (length cs) (length us) (length hs) (long-enough (referred first rows starts ks ss ts vs ns) (slicesOf (length os) (length ps) (length cs) (length us) (length hs)) kept)
+      pub ready : Ready g os ps cs us hs
+      ready =
+          let l = long (length os) (length ps) (length cs) (length us) (length hs) (long-enough g (slicesOf (length os) (length ps) (length cs) (length us) (length hs)) kept) in
+          let form = rows-form g (slicesOf (length os) (length ps) (length cs) (length us) (length hs)) kept in
+          let n : length (unresolvedFrom (g .first) 0 (rowsIn g)) ≤ 1024 = omega (arith, records-many (g .rows) (g .starts) (referencesIn g) form (g .first), unresolved-few g (slicesOf (length os) (length ps) (length cs) (length us) (length hs)) kept) in
+          record {
+            numbers = omega (arith, last-number g (slicesOf (length os) (length ps) (length cs) (length us) (length hs)) kept);
+            form = form;
+            lists = record {
+              offsets = omega (arith, rows-few g (slicesOf (length os) (length ps) (length cs) (length us) (length hs)) kept, l .offsets);
+              parents = omega (arith, parents-few (g .rows) (g .starts) (referencesIn g) form, as-many g (slicesOf (length os) (length ps) (length cs) (length us) (length hs)) kept, kinds-few g (slicesOf (length os) (length ps) (length cs) (length us) (length hs)) kept, l .parents);
+            };
+            records = record { children = omega (arith, n, l .children); kinds = omega (arith, n, l .kinds); handles = omega (arith, n, l .handles) };
+          }
 
-    pub call-rows : RowsForm rows starts (referencesOf ks ss ts vs ns)
-    call-rows = rows-form (referred first rows starts ks ss ts vs ns) (slicesOf (length os) (length ps) (length cs) (length us) (length hs)) kept
+      pub made-is : (m : Made) (os′ ps′ cs′ us′ hs′ : List ℕ) → Answers (accepted (resolutionOf g)) (Written m) os ps cs us hs os′ ps′ cs′ us′ hs′
+          → Answers (resolveGraph g (slicesOf (length os) (length ps) (length cs) (length us) (length hs))) (Written m) os ps cs us hs os′ ps′ cs′ us′ hs′
+      unfolding resolveGraph unless
+      made-is m os′ ps′ cs′ us′ hs′ a = rw kept a
 
-    pub call-numbers : first + rows ≤ end64
-    call-numbers = omega (arith, last-number (referred first rows starts ks ss ts vs ns) (slicesOf (length os) (length ps) (length cs) (length us) (length hs)) kept)
-
-    pub call-lists : ListsRoom rows (parentLists (cut starts (referencesOf ks ss ts vs ns))) os ps
-    call-lists = record {
-      offsets = omega (arith, rows-few (referred first rows starts ks ss ts vs ns) (slicesOf (length os) (length ps) (length cs) (length us) (length hs)) kept, long-slices .offsets);
-      parents = omega (arith, parents-few rows starts (referencesOf ks ss ts vs ns) call-rows, as-many (referred first rows starts ks ss ts vs ns) (slicesOf (length os) (length ps) (length cs) (length us) (length hs)) kept, kinds-few (referred first rows starts ks ss ts vs ns) (slicesOf (length os) (length ps) (length cs) (length us) (length hs)) kept, long-slices .parents);
-    }
-
-    few-records : length (unresolvedFrom first 0 (cut starts (referencesOf ks ss ts vs ns))) ≤ 1024
-    few-records = omega (arith, records-many rows starts (referencesOf ks ss ts vs ns) call-rows first, unresolved-few (referred first rows starts ks ss ts vs ns) (slicesOf (length os) (length ps) (length cs) (length us) (length hs)) kept)
-
-    pub call-records : RecordsRoom (length (unresolvedFrom first 0 (cut starts (referencesOf ks ss ts vs ns)))) cs us hs
-    call-records = record {
-      children = omega (arith, few-records, long-slices .children);
-      kinds = omega (arith, few-records, long-slices .kinds);
-      handles = omega (arith, few-records, long-slices .handles);
-    }
-
-    pub all-written : (os′ ps′ cs′ us′ hs′ : List ℕ) (made noted : ℕ) → made ≡ length (joined (parentLists (cut starts (referencesOf ks ss ts vs ns)))) → os′ ≡ sets os 0 (Lists.starts 0 (parentLists (cut starts (referencesOf ks ss ts vs ns)))) → ps′ ≡ sets ps 0 (joined (parentLists (cut starts (referencesOf ks ss ts vs ns))))
-        → Noted (unresolvedFrom first 0 (cut starts (referencesOf ks ss ts vs ns))) 0 noted cs us hs cs′ us′ hs′
-        → Answers (resolveGraph (referred first rows starts ks ss ts vs ns) (slicesOf (length os) (length ps) (length cs) (length us) (length hs))) (Written (record { parents = made; unresolved = noted })) os ps cs us hs os′ ps′ cs′ us′ hs′
-    unfolding resolveGraph unless resolutionOf resolvedOf laid
-    all-written os′ ps′ cs′ us′ hs′ made noted a b d n =
-        let m : noted ≡ length (unresolvedFrom first 0 (cut starts (referencesOf ks ss ts vs ns))) = omega (arith, n .next) in
-        rw kept
-        (record {
-          answer = rw (a, m);
-          offsets = b ∙ sets-front os (Lists.starts 0 (parentLists (cut starts (referencesOf ks ss ts vs ns)))) (omega (arith, length-starts 0 (parentLists (cut starts (referencesOf ks ss ts vs ns))), length-lists rows starts (referencesOf ks ss ts vs ns) call-rows, call-lists .offsets));
-          parents = d ∙ sets-front ps (joined (parentLists (cut starts (referencesOf ks ss ts vs ns)))) (call-lists .parents);
-          children = column (λ u. u .child) cs cs′ (n .children) (call-records .children);
-          kinds = column (λ u. u .kind) us us′ (n .kinds) (call-records .kinds);
-          handles = column (λ u. u .handle) hs hs′ (n .handles) (call-records .handles);
-        })
-      where
-        column : (part : Unresolved → ℕ) (was now : List ℕ) → now ≡ sets was 0 (map part (unresolvedFrom first 0 (cut starts (referencesOf ks ss ts vs ns)))) → length (unresolvedFrom first 0 (cut starts (referencesOf ks ss ts vs ns))) ≤ length was → now ≡ writtenIn was (map part (unresolvedFrom first 0 (cut starts (referencesOf ks ss ts vs ns))))
-        column part was now e h = e ∙ sets-front was (map part (unresolvedFrom first 0 (cut starts (referencesOf ks ss ts vs ns)))) (omega (arith, length-map (unresolvedFrom first 0 (cut starts (referencesOf ks ss ts vs ns))) part))
+  pub all-written : Ready g os ps cs us hs → (os′ ps′ cs′ us′ hs′ : List ℕ) (made noted : ℕ) → made ≡ length (joined (parentLists (rowsIn g)))
+      → os′ ≡ sets os 0 (Lists.starts 0 (parentLists (rowsIn g))) → ps′ ≡ sets ps 0 (joined (parentLists (rowsIn g)))
+      → Noted (unresolvedFrom (g .first) 0 (rowsIn g)) 0 noted cs us hs cs′ us′ hs′
+      → Answers (accepted (resolutionOf g)) (Written (record { parents = made; unresolved = noted })) os ps cs us hs os′ ps′ cs′ us′ hs′
+  unfolding resolutionOf resolvedOf laid
+  all-written r os′ ps′ cs′ us′ hs′ made noted a b d n =
+      let m : noted ≡ length (unresolvedFrom (g .first) 0 (rowsIn g)) = omega (arith, n .next) in
+      let l = parentLists (rowsIn g) in
+      record {
+        answer = rw (a, m);
+        offsets = b ∙ sets-front os (Lists.starts 0 l) (omega (arith, length-starts 0 l, length-lists (g .rows) (g .starts) (referencesIn g) (r .form), r .lists .offsets));
+        parents = d ∙ sets-front ps (joined l) (r .lists .parents);
+        children = column (λ u. u .child) cs cs′ (n .children) (r .records .children);
+        kinds = column (λ u. u .kind) us us′ (n .kinds) (r .records .kinds);
+        handles = column (λ u. u .handle) hs hs′ (n .handles) (r .records .handles);
+      }
+    where
+      column : (part : Unresolved → ℕ) (was now : List ℕ) → now ≡ sets was 0 (map part (unresolvedFrom (g .first) 0 (rowsIn g))) → length (unresolvedFrom (g .first) 0 (rowsIn g)) ≤ length was
+          → now ≡ writtenIn was (map part (unresolvedFrom (g .first) 0 (rowsIn g)))
+      column part was now e h = let us = unresolvedFrom (g .first) 0 (rowsIn g) in e ∙ sets-front was (map part us) (omega (arith, length-map us part))

@@ -10,11 +10,11 @@ use lib.Seq.{sets}
 use Rattle.lists.specs.Lists.{any, joined, starts}
 use Rattle.columns.specs.Limits.{maxRecords, offsetsRoom, numbersRoom, recordsRoom, end64}
 use Rattle.columns.specs.Refusal.{Verdict, refused, accepted, refuse, firstOf, Lent}
-use Rattle.columns.specs.EdgeSet.{fromTo, cut}
+use Rattle.columns.specs.EdgeSet.{fromTo}
 use Rattle.columns.specs.Answers.{writtenIn}
 use Rattle.columns.specs.declared.refusal.Refusal.{Refusal}
 use Rattle.columns.specs.declared.refusal.Refusal.the-variants.{SliceShort, OverRecords, OverNumbers}
-use Rattle.columns_refs.specs.References.{Referred, Unresolved, Resolution, parentLists, unresolvedFrom}
+use Rattle.columns_refs.specs.References.{Referred, referencesIn, rowsIn, Unresolved, Resolution, parentLists, unresolvedFrom}
 use Rattle.columns_refs.specs.declared.refs.Reference.{Reference}
 use Rattle.columns_refs.specs.declared.Resolved.{Resolved}
 use Rattle.columns_refs.specs.declared.Resolved.the-variants.{Written, Refused}
@@ -91,6 +91,13 @@ pub record RowsForm (rows : ℕ) (offsets : List ℕ) (xs : List Reference) : Ty
 pub record ListsRoom (rows : ℕ) (lists : List (List ℕ)) (os ps : List ℕ) : Type 0 where
   pub offsets : 2 * rows < length os
   pub parents : length (joined lists) ≤ length ps
+
+-- what is known where nothing refuses, before anything is written
+pub record Ready (g : Referred) (os ps cs ks hs : List ℕ) : Type 0 where
+  pub numbers : g .first + g .rows ≤ end64
+  pub form : RowsForm (g .rows) (g .starts) (referencesIn g)
+  pub lists : ListsRoom (g .rows) (parentLists (rowsIn g)) os ps
+  pub records : RecordsRoom (length (unresolvedFrom (g .first) 0 (rowsIn g))) cs ks hs
 
 -- ── answers ──────────────────────────────────────────────────────────────────────────────────
 

@@ -10,8 +10,9 @@ use parents::write_lists;
 use records::note_rows;
 use rules::resolve_rules;
 ghost use lib.ListN.{length};
-ghost use Rattle.columns_refs.specs.References.{resolveGraph};
-ghost use Rattle.columns_refs.specs.Resolved.{referred, slicesOf, Answers};
+ghost use Rattle.columns.specs.Refusal.{accepted};
+ghost use Rattle.columns_refs.specs.References.{resolutionOf, resolveGraph};
+ghost use Rattle.columns_refs.specs.Resolved.{referred, slicesOf, Ready, Answers};
 
 // How many targets the parent lists have, and how many unresolved records there are.
 pub struct Made {
@@ -23,6 +24,55 @@ pub struct Made {
 pub enum Resolved {
     Written(Made),
     Refused(Refusal),
+}
+
+// Writes the parent lists and the unresolved records of references that nothing refuses.
+fn write_all(
+    first: u64,
+    rows: usize,
+    starts: &[u64],
+    kinds: &[u8],
+    spaces: &[u8],
+    targets: &[u64],
+    known: &[u8],
+    numbers: &[u64],
+    offsets: &mut [u64],
+    parents: &mut [u64],
+    children: &mut [u64],
+    ukinds: &mut [u64],
+    handles: &mut [u64],
+) -> Made
+    requires { ⌜ Ready (referred first rows (now starts) (now kinds) (now spaces) (now targets) (now known) (now numbers)) (now offsets) (now parents) (now children) (now ukinds) (now handles) ⌝ }
+    ensures { λ r. ⌜ Answers (accepted (resolutionOf (referred first rows (now (starts .entry)) (now (kinds .entry)) (now (spaces .entry)) (now (targets .entry)) (now (known .entry)) (now (numbers .entry))))) (Resolved.Written r) (now (offsets .entry)) (now (parents .entry)) (now (children .entry)) (now (ukinds .entry)) (now (handles .entry)) (now (offsets .exit)) (now (parents .exit)) (now (children .exit)) (now (ukinds .exit)) (now (handles .exit)) ⌝ }
+{
+    let made = write_lists(
+        rows,
+        starts,
+        kinds,
+        spaces,
+        targets,
+        known,
+        numbers,
+        offsets,
+        parents,
+    );
+    let noted = note_rows(
+        first,
+        rows,
+        starts,
+        kinds,
+        spaces,
+        targets,
+        known,
+        numbers,
+        children,
+        ukinds,
+        handles,
+    );
+    Made {
+        parents: made,
+        unresolved: noted,
+    }
 }
 
 // Makes parent lists of the references of a file's rows, slot offsets into `offsets` and targets into `parents`, and a record of each prev or
@@ -63,35 +113,20 @@ pub fn resolve_graph(
     );
     match rules {
         Ruling::Broken(why) => Resolved::Refused(why),
-        Ruling::Kept => {
-            let made = write_lists(
-                rows,
-                starts,
-                kinds,
-                spaces,
-                targets,
-                known,
-                numbers,
-                offsets,
-                parents,
-            );
-            let noted = note_rows(
-                first,
-                rows,
-                starts,
-                kinds,
-                spaces,
-                targets,
-                known,
-                numbers,
-                children,
-                ukinds,
-                handles,
-            );
-            Resolved::Written(Made {
-                parents: made,
-                unresolved: noted,
-            })
-        }
+        Ruling::Kept => Resolved::Written(write_all(
+            first,
+            rows,
+            starts,
+            kinds,
+            spaces,
+            targets,
+            known,
+            numbers,
+            offsets,
+            parents,
+            children,
+            ukinds,
+            handles,
+        )),
     }
 }

@@ -1,5 +1,5 @@
 -- `columns_refs::parents::write_slot` meets its contract.
-use Prim.Native.Nat.{_-_, _≤_}
+use Prim.Native.Nat.{_-_}
 use lib.Seq.{slice}
 use borrow.Author.Needs.{needs}
 use Rattle.lists.proofs.Storing.{Storing, storing-begins}

@@ -1,5 +1,4 @@
 -- `columns_refs::refs::is_unresolved` meets its contract.
-use borrow.Author.Needs.{needs}
 use Rattle.columns_refs.proofs.Counted.{no-parent, by-sequence, by-answer}
 use Rattle.columns_refs.proofs.refs.is_unresolved.Statement.{statement}
 use Rattle.columns_refs.proofs.refs.is_unresolved.Tie as tie

@@ -1,5 +1,4 @@
 -- `columns_refs::refs::least` meets its contract.
-use borrow.Author.Needs.{needs}
 use Rattle.columns_refs.proofs.Counted.{lesser-first, lesser-second}
 use Rattle.columns_refs.proofs.refs.least.Statement.{statement}
 use Rattle.columns_refs.proofs.refs.least.Tie as tie

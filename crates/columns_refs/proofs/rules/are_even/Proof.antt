@@ -1,5 +1,4 @@
 -- `columns_refs::rules::are_even` meets its contract.
-use borrow.Author.Needs.{needs}
 use Rattle.columns_refs.proofs.Ruled.{spaces-differ, targets-differ, known-differ, numbers-differ}
 use Rattle.columns_refs.proofs.rules.are_even.Statement.{statement}
 use Rattle.columns_refs.proofs.rules.are_even.Tie as tie

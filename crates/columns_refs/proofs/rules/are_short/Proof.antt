@@ -1,5 +1,4 @@
 -- `columns_refs::rules::are_short` meets its contract.
-use borrow.Author.Needs.{needs}
 use Rattle.columns_refs.proofs.Ruled.{offsets-short, parents-short, children-short, kinds-short, handles-short}
 use Rattle.columns_refs.proofs.rules.are_short.Statement.{statement}
 use Rattle.columns_refs.proofs.rules.are_short.Tie as tie

@@ -1,5 +1,4 @@
 -- `columns_refs::rules::limit_rules` meets its contract.
-use borrow.Author.Needs.{needs}
 use Rattle.columns_refs.proofs.Ruled.{many-rows, many-records, long-column, short-slice, in-limits}
 use Rattle.columns_refs.proofs.rules.limit_rules.Statement.{statement}
 use Rattle.columns_refs.proofs.rules.limit_rules.Tie as tie
