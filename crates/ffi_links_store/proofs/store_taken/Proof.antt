@@ -3,10 +3,10 @@ use Prim.Native.Nat.{ℕ}
 use lib.ListN.{length}
 use borrow.Author.Needs.{needs}
 use Rattle.cover.specs.Answers.{linkColumns}
 use Rattle.ffi_links.proofs.Sorting.{front-long}
 use Rattle.ffi_links.proofs.Asking.{unstored-told, unstored-kept, store-told, store-written}
-use Rattle.ffi_links.proofs.store_taken.Statement.{statement}
-use Rattle.ffi_links.proofs.store_taken.Tie as tie
+use Rattle.ffi_links_store.proofs.store_taken.Statement.{statement}
+use Rattle.ffi_links_store.proofs.store_taken.Tie as tie
 
 -- src/lib.rt:285:9
 no-entries-requires : tie.Need-no-entries-requires

@@ -1,8 +1,8 @@
 use borrow.Author.Needs.{needs}
 use Rattle.ffi_links.proofs.Sorting.{front-long}
 use Rattle.ffi_links.proofs.Asking.{stored-fronts}
-use Rattle.ffi_links.proofs.store_first.Statement.{statement}
-use Rattle.ffi_links.proofs.store_first.Tie as tie
+use Rattle.ffi_links_ask.proofs.store_first.Statement.{statement}
+use Rattle.ffi_links_ask.proofs.store_first.Tie as tie
 
 -- src/lib.rt:153:39
 slice-aggregate-encode-links : tie.Need-slice-aggregate-encode-links

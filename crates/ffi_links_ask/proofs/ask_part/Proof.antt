@@ -1,10 +1,10 @@
 use lib.ListN.{take}
 use borrow.Author.Needs.{needs}
 use Rattle.cover.specs.Answers.{linkColumns}
 use Rattle.ffi_links.proofs.Sorting.{front-long}
 use Rattle.ffi_links.proofs.Asking.{long-told, long-written}
-use Rattle.ffi_links.proofs.ask_part.Statement.{statement}
-use Rattle.ffi_links.proofs.ask_part.Tie as tie
+use Rattle.ffi_links_ask.proofs.ask_part.Statement.{statement}
+use Rattle.ffi_links_ask.proofs.ask_part.Tie as tie
 
 -- src/lib.rt:174:46
 slice-aggregate-ridgeoven-chain-links : tie.Need-slice-aggregate-ridgeoven-chain-links

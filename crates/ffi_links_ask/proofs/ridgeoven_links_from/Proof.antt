@@ -1,4 +1,4 @@
--- `ffi_links::ridgeoven_links_from` meets its contract: a walk of its MIR, by hand, with three calls and no loop, as that of `ridgeoven_links_sort`. The links and the chains go to the calls as copies,
+-- `ffi_links_ask::ridgeoven_links_from` meets its contract: a walk of its MIR, by hand, with three calls and no loop, as that of `ridgeoven_links_sort`. The links and the chains go to the calls as copies,
 -- and `out` is given to the last.
 -- Assumes nothing.
 use mathlib.Core.Path.{_≡_, refl}
@@ -55,22 +55,22 @@ use Rattle.cover_links.proofs.ridgeoven_links_together.Met as together-thm
 use Rattle.ffi.specs.declared.answer.Answer.{Answer}
 use Rattle.ffi.proofs.answer.Answer as Q
 use Rattle.ffi.proofs.answer.Answer.Laws as Q′
 use Rattle.ffi_links.specs.Records.{chainLent}
 use Rattle.ffi_links.proofs.Loans.{Loan, life, by, big-lit, zeros-typed, zeros-row}
 use Rattle.ffi_links.proofs.Four.{Quad, quad, word, array, writesArray, writesColumn, readsArray, readsColumn, Empty, Filled, Lending, Four, Long, Loaned, Tokens}
 use Rattle.ffi_links.proofs.Four.{TokensOf, Writers, open-tokens, join-tokens, open-lasts, join-four, lend-four, back-four, four-room}
 use Rattle.ffi_links.proofs.Taken.{Taken, Put, Apart, Together, to-apart, to-together, lend-apart, back-apart, lend-together, back-together}
 use Rattle.ffi_links.proofs.Asking.{many-asked, ask-room}
 use Rattle.ffi_links.proofs.Meaning.{Done, Answered, done-few, done-answered}
 use Rattle.ffi_links.proofs.Answered.{answer-spelled, answer-is, zeros, even, full, few-small, few-fits, few-room}
-use Rattle.ffi_links.proofs.ask_taken as ask-taken
-use Rattle.ffi_links.proofs.ask_taken.Symbol as ask-taken-def
-use Rattle.ffi_links.proofs.ask_taken.Met as ask-taken-thm
-use Rattle.ffi_links.proofs.ridgeoven_links_from.Key as asks-key
-use Rattle.ffi_links.proofs.ridgeoven_links_from as asks
-use Rattle.ffi_links.proofs.ridgeoven_links_from.Statement as stated
-use Rattle.ffi_links.proofs.ridgeoven_links_from.Code as code
-use Rattle.ffi_links.proofs.ridgeoven_links_from.Code.Mir as steps
+use Rattle.ffi_links_ask.proofs.ask_taken as ask-taken
+use Rattle.ffi_links_ask.proofs.ask_taken.Symbol as ask-taken-def
+use Rattle.ffi_links_ask.proofs.ask_taken.Met as ask-taken-thm
+use Rattle.ffi_links_ask.proofs.ridgeoven_links_from.Key as asks-key
+use Rattle.ffi_links_ask.proofs.ridgeoven_links_from as asks
+use Rattle.ffi_links_ask.proofs.ridgeoven_links_from.Statement as stated
+use Rattle.ffi_links_ask.proofs.ridgeoven_links_from.Code as code
+use Rattle.ffi_links_ask.proofs.ridgeoven_links_from.Code.Mir as steps
 
 -- the MIR types of the links' slices
 abbrev linksTy : Ty

@@ -1,4 +1,4 @@
--- `ffi_links::ridgeoven_links_store` meets its contract: a walk of its MIR, by hand, with two calls and no loop. The links go to the first as a copy; the four columns that are written are given to the
+-- `ffi_links_store::ridgeoven_links_store` meets its contract: a walk of its MIR, by hand, with two calls and no loop. The links go to the first as a copy; the four columns that are written are given to the
 -- last as they came, with their tokens, and its own four are read by it.
 -- Assumes nothing.
 use mathlib.Core.Path.{_≡_, refl, sym, _∙_, ap}
@@ -57,21 +57,21 @@ use Rattle.ffi.specs.declared.answer.Answer.{Answer}
 use Rattle.ffi_cover.specs.Numbers.{recordsOf}
 use Rattle.ffi.proofs.answer.Answer as Q
 use Rattle.ffi.proofs.answer.Answer.Laws as Q′
 use Rattle.ffi_links.specs.Records.{storeLent, firstLinks, given}
 use Rattle.ffi_links.proofs.Loans.{Loan, life, by, big-lit, zeros-typed, zeros-row}
 use Rattle.ffi_links.proofs.Four.{Quad, quad, word, array, writesArray, writesColumn, readsArray, readsColumn, Four, Long, Even, Fronted, Tokens, TokensOf}
 use Rattle.ffi_links.proofs.Four.{Readers, LastsOf, Lasts, open-tokens, join-tokens, told-lasts, join-four, lend-fronts, back-fronts, four-room}
 use Rattle.ffi_links.proofs.Taken.{Taken, Apart, to-apart, lend-apart, back-apart}
 use Rattle.ffi_links.proofs.Asking.{many-stored}
 use Rattle.ffi_links.proofs.Meaning.{columns, taken-links, given-all}
 use Rattle.ffi_links.proofs.Answered.{zeros, even, full}
-use Rattle.ffi_links.proofs.store_taken as store-taken
-use Rattle.ffi_links.proofs.store_taken.Symbol as store-taken-def
-use Rattle.ffi_links.proofs.store_taken.Met as store-taken-thm
-use Rattle.ffi_links.proofs.ridgeoven_links_store.Key as stores-key
-use Rattle.ffi_links.proofs.ridgeoven_links_store as stores
-use Rattle.ffi_links.proofs.ridgeoven_links_store.Statement as stated
-use Rattle.ffi_links.proofs.ridgeoven_links_store.Code as code
+use Rattle.ffi_links_store.proofs.store_taken as store-taken
+use Rattle.ffi_links_store.proofs.store_taken.Symbol as store-taken-def
+use Rattle.ffi_links_store.proofs.store_taken.Met as store-taken-thm
+use Rattle.ffi_links_store.proofs.ridgeoven_links_store.Key as stores-key
+use Rattle.ffi_links_store.proofs.ridgeoven_links_store as stores
+use Rattle.ffi_links_store.proofs.ridgeoven_links_store.Statement as stated
+use Rattle.ffi_links_store.proofs.ridgeoven_links_store.Code as code
 
 abbrev stayed : Stays (stores.ended .signature .params) (stores.ended .kept)
 stayed = (

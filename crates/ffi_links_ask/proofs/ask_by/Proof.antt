@@ -1,8 +1,8 @@
 use native.Mathlib.Omega.{arith}
 use borrow.Author.Needs.{needs}
 use Rattle.ffi_links.proofs.Asking.{same-told, same-written}
-use Rattle.ffi_links.proofs.ask_by.Statement.{statement}
-use Rattle.ffi_links.proofs.ask_by.Tie as tie
+use Rattle.ffi_links_ask.proofs.ask_by.Statement.{statement}
+use Rattle.ffi_links_ask.proofs.ask_by.Tie as tie
 
 -- src/lib.rt:195:5
 store-first-requires : tie.Need-store-first-requires

@@ -1,8 +1,8 @@
 use borrow.Author.Needs.{needs}
 use Rattle.ffi_links.proofs.Sorting.{links-few, over-told, over-kept}
 use Rattle.ffi_links.proofs.Asking.{numbers-over, room-short, room-enough, numbers-kept, short-kept, refused-told, given-told, given-written}
-use Rattle.ffi_links.proofs.ask_taken.Statement.{statement}
-use Rattle.ffi_links.proofs.ask_taken.Tie as tie
+use Rattle.ffi_links_ask.proofs.ask_taken.Statement.{statement}
+use Rattle.ffi_links_ask.proofs.ask_taken.Tie as tie
 
 -- src/lib.rt:233:9
 no-entries-requires : tie.Need-no-entries-requires
