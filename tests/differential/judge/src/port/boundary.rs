@@ -1,6 +1,6 @@
 //! The functions of the proved library's crates `ffi_columns`, `ffi_build`, `ffi_cover`, `cover_links`, `ffi_links`, `ffi_links_ask`,
-//! `ffi_links_store`, `ffi_archive`, `ffi_clean` and `ffi_run`. A slice is two parameters, its pointer and its length. Every function answers a record whose first part is a refusal's number, or 0; outputs are
-//! lent. The README beside the workspace says what each is given.
+//! `ffi_links_store`, `ffi_archive`, `ffi_clean` and `ffi_run`. A slice is two parameters, its pointer and its length. Every function answers a
+//! record whose first part is a refusal's number, or 0; outputs are lent. The README beside the workspace says what each is given.
 
 /// The numbers of `library/ridgeoven.h`, not all of which are asked for here.
 #[allow(dead_code)]
