@@ -360,5 +360,5 @@ ridgeoven-links-from-spec 𝓤 H 𝓜 𝓖 𝓡 =
     (tables 𝓤 H 𝓜 𝓡 code.env .C) (tables 𝓤 H 𝓜 𝓡 code.env .Λ) asks-key.name code.function (code.unfolded 𝓤 H 𝓜 𝓡)
     (ridgeoven-links-from-meets 𝓤 H (𝓖 .A) (givenOf 𝓤 H 𝓜 𝓖) (𝓜 .mem) (𝓡 .run) (tablesOf 𝓤 H 𝓜 (tables 𝓤 H 𝓜 𝓡 code.env))
     (cited 𝓤 H (Apart 𝓤 H (𝓖 .A) (𝓜 .mem) (𝓡 .run)) 𝓜 𝓡 code.env apart-def.name apart-def.routine code.calls-cover-links·ridgeoven-links-apart (apart-thm.met 𝓤 H 𝓜 𝓖 𝓡))
-    (cited 𝓤 H (AskTaken 𝓤 H (𝓖 .A) (𝓜 .mem) (𝓡 .run)) 𝓜 𝓡 code.env ask-taken-def.name ask-taken-def.routine code.calls-ffi-links·ask-taken (ask-taken-thm.met 𝓤 H 𝓜 𝓖 𝓡))
+    (cited 𝓤 H (AskTaken 𝓤 H (𝓖 .A) (𝓜 .mem) (𝓡 .run)) 𝓜 𝓡 code.env ask-taken-def.name ask-taken-def.routine code.calls-ffi-links-ask·ask-taken (ask-taken-thm.met 𝓤 H 𝓜 𝓖 𝓡))
     (cited 𝓤 H (Together 𝓤 H (𝓖 .A) (𝓜 .mem) (𝓡 .run)) 𝓜 𝓡 code.env together-def.name together-def.routine code.calls-cover-links·ridgeoven-links-together (together-thm.met 𝓤 H 𝓜 𝓖 𝓡)))

@@ -335,4 +335,4 @@ ridgeoven-links-store-spec 𝓤 H 𝓜 𝓖 𝓡 =
     (tables 𝓤 H 𝓜 𝓡 code.env .C) (tables 𝓤 H 𝓜 𝓡 code.env .Λ) stores-key.name code.function (code.unfolded 𝓤 H 𝓜 𝓡)
     (ridgeoven-links-store-meets 𝓤 H (𝓖 .A) (givenOf 𝓤 H 𝓜 𝓖) (𝓜 .mem) (𝓡 .run) (tablesOf 𝓤 H 𝓜 (tables 𝓤 H 𝓜 𝓡 code.env))
     (cited 𝓤 H (Apart 𝓤 H (𝓖 .A) (𝓜 .mem) (𝓡 .run)) 𝓜 𝓡 code.env apart-def.name apart-def.routine code.calls-cover-links·ridgeoven-links-apart (apart-thm.met 𝓤 H 𝓜 𝓖 𝓡))
-    (cited 𝓤 H (StoreTaken 𝓤 H (𝓖 .A) (𝓜 .mem) (𝓡 .run)) 𝓜 𝓡 code.env store-taken-def.name store-taken-def.routine code.calls-ffi-links·store-taken (store-taken-thm.met 𝓤 H 𝓜 𝓖 𝓡)))
+    (cited 𝓤 H (StoreTaken 𝓤 H (𝓖 .A) (𝓜 .mem) (𝓡 .run)) 𝓜 𝓡 code.env store-taken-def.name store-taken-def.routine code.calls-ffi-links-store·store-taken (store-taken-thm.met 𝓤 H 𝓜 𝓖 𝓡)))
