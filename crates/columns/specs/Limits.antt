@@ -26,7 +26,7 @@ kinds = 2
 abbrev pub referenceKinds : ℕ
 referenceKinds = 2
 
--- the most kinds that columns are read, asked and built for
+-- the most kinds that columns are read, asked and walked for
 abbrev pub maxKinds : ℕ
 maxKinds = 3
 
