@@ -4,7 +4,7 @@
  * what is accepted; 0 where there is no refusal. A refused call writes nothing, and an accepted one nothing past its length. Nothing is
  * allocated and nothing kept; the calls may be made by several threads at once.
  *
- * What a caller owes, here and in ridgeoven_cover.h; no call tests it:
+ * What a caller owes, here, in ridgeoven_cover.h and in ridgeoven_refs.h; no call tests it:
  * - a pointer with a length or a room points to so many elements of its type, aligned as C has them. Those that are read are initialised;
  *   those that are written may hold anything. NULL is allowed where the length or the room is 0;
  * - what a call writes overlaps nothing else that the call is lent. What it only reads may overlap;

@@ -45,7 +45,14 @@ typedef struct ridgeoven_covered {
     size_t links;
 } ridgeoven_covered;
 
-/* The ranges of labels, by rising chain id, and links in any order sorted, repeats dropped. */
+/* The ranges of labels, by rising chain id, and links in any order sorted, repeats dropped; out has room for 1,024. What stands behind the answer
+ * stays. More than 1,024 labels or links are 42. */
+ridgeoven_covered ridgeoven_links_build(const uint32_t *chains, size_t chains_length, const uint32_t *seqs, size_t seqs_length,
+                                        const ridgeoven_link *links, size_t links_length, uint32_t *ids, size_t ids_room,
+                                        uint32_t *minima, size_t minima_room, uint32_t *maxima, size_t maxima_room,
+                                        ridgeoven_link *out, size_t out_room);
+
+/* The same of links in four columns. */
 ridgeoven_covered ridgeoven_cover_build(const uint32_t *chains, size_t chains_length, const uint32_t *seqs, size_t seqs_length,
                                         const uint32_t *from_chains, size_t from_chains_length, const uint32_t *from_seqs,
                                         size_t from_seqs_length, const uint32_t *to_chains, size_t to_chains_length,

@@ -9,9 +9,9 @@ import sys
 
 ROOT = pathlib.Path(__file__).resolve().parents[1] / "crates"
 # the crates whose definitions compute, with those right below, and the modules that state theorems or compute nothing
-BELOW = {"lists": [], "columns": ["lists"], "cover": ["columns"], "archive_bytes": ["columns"], "archive": ["cover", "archive_bytes"], "cleaning": ["archive"]}
+BELOW = {"lists": [], "columns": ["lists"], "columns_refs": ["columns"], "cover": ["columns"], "archive_bytes": ["columns"], "archive": ["cover", "archive_bytes"], "cleaning": ["archive"]}
 LEFT_OUT = {"Lib", "Computes", "Listing", "Alike", "History", "Trace", "Claim", "NewParents", "Accepted", "Pair", "Worked"}
-LEFT_OUT |= {"Answers", "Cursor", "Granules", "Layout", "Places", "Readable", "Sums", "View"}  # what code answers, as a view of a definition
+LEFT_OUT |= {"Answers", "Cursor", "Granules", "Layout", "Places", "Readable", "Resolved", "Sums", "View"}  # what code answers, as a view of a definition
 
 
 def text_of(crate, below):

@@ -10,7 +10,7 @@ import sys
 
 HERE = os.path.dirname(os.path.dirname(os.path.abspath(__file__)))
 KEPT = [os.path.join(HERE, "tests", "differential", "kept", name) for name in ("cases.txt", "alone.txt")]
-QUESTIONS = ["build", "read", "parents", "children", "label", "roots", "walk", "next", "stored", "decode", "window", "cover", "links"]
+QUESTIONS = ["build", "read", "parents", "children", "label", "roots", "walk", "next", "stored", "decode", "window", "cover", "links", "resolve", "handed"]
 # the parts of a question's input: N a number, L a list
 FORMS = {"walk": "NNNNLLNNN"}
 

@@ -3,6 +3,7 @@
 #include <stdio.h>
 
 #include "ridgeoven_cover.h"
+#include "ridgeoven_refs.h"
 
 #define NONE NULL, 0
 #define IN(type, name) const type *name, size_t name##_length
@@ -100,6 +101,9 @@ static void covers(void) {
     answered("ridgeoven_links_store", ridgeoven_links_store(NONE, RECORDS(0), RECORDS(1), RECORDS(2), RECORDS(3)).refusal, 0);
     answered("ridgeoven_links_from", ridgeoven_links_from(NONE, NONE, NONE).refusal, 41);
     answered("ridgeoven_links_from", ridgeoven_links_from(NONE, NONE, links, 1024).refusal, 0);
+    answered("ridgeoven_links_build", ridgeoven_links_build(NONE, NONE, NONE, NONE, NONE, NONE, NONE).refusal, 41);
+    answered("ridgeoven_links_build", ridgeoven_links_build(NONE, NONE, NONE, RECORDS(0), RECORDS(1), RECORDS(2), NONE).refusal, 41);
+    answered("ridgeoven_links_build", ridgeoven_links_build(NONE, NONE, NONE, RECORDS(0), RECORDS(1), RECORDS(2), links, 1024).refusal, 0);
     answered("ridgeoven_cover_build", ridgeoven_cover_build(NONE, NONE, NONE, NONE, NONE, NONE, NONE, NONE, NONE, NONE, NONE, NONE, NONE).refusal, 41);
     answered("ridgeoven_cover_build", ridgeoven_cover_build(NONE, NONE, NONE, NONE, NONE, NONE, RECORDS(0), RECORDS(1), RECORDS(2), RECORDS(3),
                                                             RECORDS(4), RECORDS(5), RECORDS(6)).refusal, 0);
@@ -146,6 +150,14 @@ static void edges(void) {
                                                 NONE, 0, 0, LIST(0), DELTAS(0), LIST(1), DELTAS(1), LIST(2), DELTAS(2)).refusal, 0);
 }
 
+static void references(void) {
+    answered("ridgeoven_resolve_graph", ridgeoven_resolve_graph(0, 0, NONE, NONE, NONE, NONE, NONE, NONE, NONE, NONE, NONE, NONE, NONE).refusal, 41);
+    answered("ridgeoven_resolve_graph", ridgeoven_resolve_graph(0, 0, NONE, NONE, NONE, NONE, NONE, NONE, LIST(0), LIST(1), LIST(2), LIST(3),
+                                                                LIST(4)).refusal, 2);
+    answered("ridgeoven_resolve_graph", ridgeoven_resolve_graph(0, 0, &zero, 1, NONE, NONE, NONE, NONE, NONE, LIST(0), LIST(1), LIST(2), LIST(3),
+                                                                LIST(4)).refusal, 0);
+}
+
 static void archives(void) {
     answered("ridgeoven_sums", ridgeoven_sums(NONE).refusal, 0);
     answered("ridgeoven_write_edges", ridgeoven_write_edges(NONE, 0, NONE, NONE, NONE, NONE, NONE, NONE).refusal, 23);
@@ -162,6 +174,7 @@ int main(void) {
     runs(length);
     covers();
     edges();
+    references();
     archives();
     return wrong;
 }

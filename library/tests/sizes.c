@@ -3,6 +3,7 @@
 #include <stdio.h>
 
 #include "ridgeoven_cover.h"
+#include "ridgeoven_refs.h"
 
 /* A run with as many words more behind it, so that a library whose run is larger stays within it. */
 typedef struct more {
@@ -40,6 +41,7 @@ int main(void) {
     printf("number %zu\n", sizeof(ridgeoven_number));
     printf("link %zu\n", sizeof(ridgeoven_link));
     printf("covered %zu\n", sizeof(ridgeoven_covered));
+    printf("resolved %zu\n", sizeof(ridgeoven_resolved));
     size_t words = library_words();
     if (words * 8 == sizeof(ridgeoven_run))
         return 0;

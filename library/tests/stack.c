@@ -7,16 +7,20 @@
 #include <sys/mman.h>
 
 #include "ridgeoven_cover.h"
+#include "ridgeoven_refs.h"
 
 #define PLACE (4 * RIDGEOVEN_STACK)
 #define PAINT 0xa5a5a5a5a5a5a5a5
 #define COLUMN 1024
+#define REFERENCES 4096
 
 static uint8_t archive[1 << 20], out[RIDGEOVEN_LISTING_ROOM], words[RIDGEOVEN_WORDS_ROOM];
 static size_t length;
 static ridgeoven_run run;
 static ridgeoven_link links[COLUMN], found[COLUMN];
 static uint32_t from_chains[COLUMN], from_seqs[COLUMN], to_chains[COLUMN], to_seqs[COLUMN], columns[7][COLUMN];
+static uint64_t starts[COLUMN + 1], targets[REFERENCES], offsets[2 * COLUMN + 1], parents[REFERENCES], unresolved[3][COLUMN];
+static uint8_t kinds[REFERENCES], spaces[REFERENCES], known[REFERENCES];
 
 /* Every call answers its refusal. */
 static uint64_t clean(void) { return ridgeoven_clean(archive, length, out, sizeof out).refusal; }
@@ -43,6 +47,10 @@ static uint64_t sort(void) { return ridgeoven_links_sort(links, COLUMN).refusal;
 static uint64_t store_records(void) {
     return ridgeoven_links_store(links, COLUMN, columns[0], COLUMN, columns[1], COLUMN, columns[2], COLUMN, columns[3], COLUMN).refusal;
 }
+static uint64_t build_records(void) {
+    return ridgeoven_links_build(from_chains, COLUMN, from_seqs, COLUMN, links, COLUMN, columns[0], COLUMN, columns[1], COLUMN, columns[2],
+                                 COLUMN, found, COLUMN).refusal;
+}
 static uint64_t from(void) { return ridgeoven_links_from(links, COLUMN, from_chains, COLUMN, found, COLUMN).refusal; }
 
 static uint64_t build(void) {
@@ -61,6 +69,12 @@ static uint64_t chain_links(void) {
                                  columns[4], COLUMN, columns[5], COLUMN, columns[6], COLUMN, to_chains, COLUMN).refusal;
 }
 
+static uint64_t resolve_graph(void) {
+    return ridgeoven_resolve_graph(0, COLUMN, starts, COLUMN + 1, kinds, REFERENCES, spaces, REFERENCES, targets, REFERENCES, known, REFERENCES,
+                                   targets, REFERENCES, offsets, 2 * COLUMN + 1, parents, REFERENCES, unresolved[0], COLUMN, unresolved[1], COLUMN,
+                                   unresolved[2], COLUMN).refusal;
+}
+
 typedef struct asked {
     const char *name;
     uint64_t (*call)(void);
@@ -76,9 +90,10 @@ static asked of_archives[] = {
 };
 static asked of_covers[] = {
     {"ridgeoven_links_apart", apart, 0, 0}, {"ridgeoven_links_together", together, 0, 0}, {"ridgeoven_links_sort", sort, 0, 0},
-    {"ridgeoven_links_from", from, 0, 0}, {"ridgeoven_links_store", store_records, 0, 0}, {"ridgeoven_cover_build", build, 0, 0},
-    {"ridgeoven_cover_store", store, 0, 0}, {"ridgeoven_chain_links", chain_links, 0, 0},
+    {"ridgeoven_links_from", from, 0, 0}, {"ridgeoven_links_store", store_records, 0, 0}, {"ridgeoven_links_build", build_records, 0, 0},
+    {"ridgeoven_cover_build", build, 0, 0}, {"ridgeoven_cover_store", store, 0, 0}, {"ridgeoven_chain_links", chain_links, 0, 0},
 };
+static asked of_references[] = {{"ridgeoven_resolve_graph", resolve_graph, 0, 0}};
 
 /* The stack, and how far down its paint is gone. */
 static uint64_t *place, *gone;
@@ -124,6 +139,10 @@ static size_t most_of(const asked *all, size_t count) {
     return most;
 }
 
+static size_t larger(size_t a, size_t b) {
+    return a > b ? a : b;
+}
+
 static int holds(const char *what, size_t needed, size_t said) {
     int is_held = needed <= said && said <= 2 * needed;
     fprintf(is_held ? stdout : stderr, "%s needs at most %zu bytes of stack, the header says %zu%s\n", what, needed, said,
@@ -149,8 +168,15 @@ int main(int count, char **names) {
         links[i] = (ridgeoven_link){i, 1, COLUMN - i, 1};
     for (size_t k = 0; k < sizeof of_covers / sizeof *of_covers; k++)
         ask(&of_covers[k]);
+    /* every fourth reference names nothing */
+    for (size_t i = 0; i <= COLUMN; i++)
+        starts[i] = i * (REFERENCES / COLUMN);
+    for (size_t i = 0; i < REFERENCES; i++)
+        known[i] = i % 4 != 0;
+    ask(of_references);
     size_t most = most_of(of_archives, sizeof of_archives / sizeof *of_archives);
     size_t of_cover = most_of(of_covers, sizeof of_covers / sizeof *of_covers);
-    int all = holds("a call", most > of_cover ? most : of_cover, RIDGEOVEN_STACK);
+    size_t of_reference = most_of(of_references, 1);
+    int all = holds("a call", larger(larger(most, of_cover), of_reference), RIDGEOVEN_STACK);
     return holds("ridgeoven_clean", of_archives[0].most, RIDGEOVEN_CLEAN_STACK) && all ? 0 : 1;
 }

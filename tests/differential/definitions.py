@@ -14,6 +14,7 @@ import scratch  # noqa: E402
 FORMS = {
     "build": "LNNLLLLLLNLLLLLNN", "read": "NNNNLLNLLNLLNLL", "parents": "NNNNLLNN", "children": "NNNNLLNLLNN", "label": "NNLLN",
     "roots": "NNL", "walk": "NNNNLLNNN", "cover": "LLLLLL", "stored": "LLLL", "decode": "LLLLLLL", "window": "LLLNNN", "links": "LLLLL",
+    "resolve": "NNLLLLLL", "handed": "NNLLLLLL",
 }
 REFUSALS = {
     1: "SubjectLength", 2: "EdgeEntries", 3: "NumberRange", 4: "ParentNotEarlier", 5: "ParentTwice", 6: "UnresolvedChild",
@@ -23,7 +24,7 @@ REFUSALS = {
 }
 HEAD = """use mathlib.Core.Path.{_≡_, refl}
 use mathlib.Core.Bool.{Bool, true, false}
-use mathlib.Core.List.{List, [], _∷_}
+use mathlib.Core.List.{List, [], _∷_, map}
 use mathlib.Core.Option.{Option, none, some}
 use Prim.Native.Nat.{ℕ}
 use lib.IntN.{ℤ, pos, negsuc}
@@ -40,6 +41,20 @@ use Rattle.cover.specs.Chains.{Range, Link}
 use Rattle.cover.specs.Cover.{LinkColumns, Cover, buildCover, columnsOf, readCover}
 use Rattle.cover.specs.Questions.{mayHoldChain, chainLinks}
 use Rattle.cover.specs.Computes.{computes}
+use Rattle.columns_refs.specs.References.{Referred, Resolution, resolveGraph}
+use Rattle.columns_refs.specs.Resolved.{offsetsColumn, parentsColumn, childrenColumn, kindsColumn, handlesColumn}
+use Rattle.columns_refs.specs.Computes.{computes as referencesOpen}
+
+-- what building makes of references, for a subject of one byte, without depth, labels and inbound edges, all rows
+abbrev handed : Referred → Verdict Resolution → Verdict Built
+handed g (refused r) = refused r
+handed g (accepted x) =
+    build kinds (record {
+      subject = 97 ∷ []; first = g .first; rows = g .rows; offsets = offsetsColumn x; targets = parentsColumn x;
+      unresolved = record { children = childrenColumn x; kindsGiven = kindsColumn x; flags = map (λ u. 0) (handlesColumn x) };
+      depth = none; labels = none; inbound = record { children = []; parents = []; kindsGiven = [] };
+      granuleFirst = 0; granuleRows = g .rows;
+    }) []
 """ % ", ".join(REFUSALS.values())
 EACH = 8
 
@@ -102,6 +117,12 @@ def graph(subject, first, rows, offsets, targets, children, kinds, flags, depth,
         granuleFirst=at, granuleRows=count)
 
 
+def references(first, rows, starts, kinds, spaces, targets, known, numbers):
+    return record(
+        first=first, rows=rows, starts=column(starts), kindsGiven=column(kinds), spaces=column(spaces), targets=column(targets),
+        known=column(known), numbers=column(numbers))
+
+
 def asked(name, p):
     if name == "build":
         return f"build kinds {graph(*p)} []"
@@ -126,13 +147,16 @@ def asked(name, p):
         return f"readCover {range_list(*p[0:3])} {link_columns(*p[3:7])} []"
     if name == "window":
         return f"mayHoldChain {range_list(*p[0:3])} {p[3]} {p[4]} {p[5]}"
-    return f"chainLinks {link_columns(*p[0:4])} {column(p[4])} []"
+    if name == "links":
+        return f"chainLinks {link_columns(*p[0:4])} {column(p[4])} []"
+    resolved = f"resolveGraph {references(*p)} []"
+    return resolved if name == "resolve" else f"handed {references(*p)} ({resolved})"
 
 
 def given(name, p, words):
     def lists(count):
         return [take(words, "L") for _ in range(count)]
-    if name == "build":
+    if name in ("build", "handed"):
         sets = [edge_set(take(words, "N"), *lists(2)) for _ in range(3)]
         return record(forward=sets[0], reverse=sets[1], inbound=sets[2])
     if name == "read":
@@ -154,7 +178,11 @@ def given(name, p, words):
         return record(ranges=range_list(*p[0:3]), links=link_list(*lists(4)))
     if name == "window":
         return "true" if take(words, "N") else "false"
-    return link_list(*lists(4))
+    if name == "links":
+        return link_list(*lists(4))
+    offsets, targets, *records = lists(5)
+    unresolved = column(record(child=child, kind=kind, handle=handle) for child, kind, handle in zip(*records))
+    return record(lists=slots(offsets, targets), unresolved=unresolved)
 
 
 # ── lines ────────────────────────────────────────────────────────────────────────────────────
@@ -184,7 +212,7 @@ def modules(lines):
         for i, line in enumerate(lines[start:start + EACH]):
             text += "\n"
             places.append(text.count("\n") + 1)
-            text += f"case{i} : {equation(line)}\nunfolding computes\ncase{i} = refl\n"
+            text += f"case{i} : {equation(line)}\nunfolding computes referencesOpen\ncase{i} = refl\n"
         yield text, places
 
 
@@ -194,7 +222,7 @@ def main():
     lines = pathlib.Path(sys.argv[1]).read_text().splitlines()
     made = list(modules(lines))
     texts = {f"Cases{i}": text for i, (text, _) in enumerate(made)}
-    status, said, places = scratch.prove("answered", "The original's answers.", texts, "lists columns cover")
+    status, said, places = scratch.prove("answered", "The original's answers.", texts, "lists columns columns_refs cover")
     wrong = set()
     for name, at in places:
         module = int(name.removeprefix("Cases"))

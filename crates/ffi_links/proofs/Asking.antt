@@ -5,7 +5,7 @@ use mathlib.Core.List.{List, [], _∷_, map}
 use mathlib.Core.Option.{Option, none, some}
 use Prim.Native.Nat.{ℕ, _≤_, _<_, zero-le}
 use native.Mathlib.Omega.{arith}
-use lib.Dec.{ltb, eqb}
+use lib.Dec.{ltb}
 use lib.ListN.{length, length-map, take}
 use borrow.Author.Tests.{lt-ltb, le-ltb, ltb-true, ltb-false, eq-eqb}
 use Rattle.lists.specs.Lists.{any}
@@ -14,13 +14,13 @@ use Rattle.columns.specs.Refusal.{Verdict, refused, accepted, unless, firstOf, 
 use Rattle.columns.specs.declared.refusal.Refusal.{Refusal}
 use Rattle.columns.specs.declared.refusal.Refusal.the-variants.{OverRecords, OverNumbers, SliceShort}
 use Rattle.cover.specs.Chains.{Link}
-use Rattle.cover.specs.Cover.{LinkColumns, linksOf, differences, evenColumns, columnsOf, encode, linkRules}
+use Rattle.cover.specs.Cover.{LinkColumns, differences, evenColumns, columnsOf, encode}
 use Rattle.cover.specs.Questions.{chainLinks}
 use Rattle.cover.specs.Answers.{linkColumns, forRecords, over, counted, linksAfter, columnsOver, columnsAfter}
 use Rattle.cover.proofs.Stored.{length-differences}
 use Rattle.cover_rows.proofs.Columned.{take-over}
 use Rattle.cover_rows.proofs.Fitting.{length-links}
-use Rattle.cover_rows.proofs.limits.Verdicts.{limits-records, limits-numbers, limits-short, limits-none, first-refuses, next-rule}
+use Rattle.cover_rows.proofs.limits.Verdicts.{limits-records, limits-numbers, limits-short, limits-none, first-refuses}
 use Rattle.ffi.specs.Numbers.{noEntries}
 use Rattle.ffi.specs.declared.answer.Answer.{Answer}
 use Rattle.ffi_cover.specs.Numbers.{recordsOf}
@@ -33,7 +33,7 @@ module _ (n : ℕ) (h : n ≤ 1024) (a b c d : List ℕ) (pa : length a ≡ 1024
   abbrev ls : List Link
   ls = firstLinks n (linkColumns a b c d)
 
-  count : length ls ≡ n
+  pub count : length ls ≡ n
   count = length-links (take n a) (take n b) (take n c) (take n d) (fronts-even n h a b pa pb) (fronts-even n h a c pa pc) (fronts-even n h a d pa pd) ∙ front-long n h a pa
 
   module _ (x y z w : List ℕ) (px : length x ≡ 1024) (py : length y ≡ 1024) (pz : length z ≡ 1024) (pw : length w ≡ 1024) where
@@ -59,7 +59,7 @@ module _ (n : ℕ) (h : n ≤ 1024) (a b c d : List ℕ) (pa : length a ≡ 1024
         )
 
 -- the verdict of the columns' call is that of the links
-kept-last : (t : Option Refusal) → firstOf (t ∷ none ∷ []) ≡ firstOf (t ∷ [])
+pub kept-last : (t : Option Refusal) → firstOf (t ∷ none ∷ []) ≡ firstOf (t ∷ [])
 unfolding firstOf
 kept-last none = refl
 kept-last (some r) = refl

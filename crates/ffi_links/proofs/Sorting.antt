@@ -1,7 +1,7 @@
--- What the functions over columns do: fronts that are copied, and verdicts where more links were given than columns hold.
+-- What the functions over columns do: fronts of columns, and verdicts where more links were given than columns hold.
 use mathlib.Core.Path.{_≡_, refl, sym, _∙_, ap}
 use mathlib.Core.Bool.{Bool, true, false}
-use mathlib.Core.List.{List, [], _∷_}
+use mathlib.Core.List.{List, []}
 use Prim.Native.Nat.{ℕ, _≤_, _<_, zero-le}
 use native.Mathlib.Omega.{arith}
 use lib.Dec.{ltb}
@@ -13,21 +13,14 @@ use Rattle.columns.specs.Limits.{maxRecords}
 use Rattle.columns.specs.Refusal.{Verdict, refused, accepted, unless, firstOf, limits}
 use Rattle.columns.specs.declared.refusal.Refusal.the-variants.{OverRecords}
 use Rattle.cover.specs.Chains.{Link, sortLinks}
-use Rattle.cover.specs.Cover.{LinkColumns, linksOf}
-use Rattle.cover.specs.Answers.{linkColumns, linksOver, linksAfter, counted, over}
-use Rattle.cover_rows.proofs.Columned.{take-over}
+use Rattle.cover.specs.Cover.{LinkColumns}
+use Rattle.cover.specs.Answers.{linkColumns, linksOver, linksAfter, counted}
 use Rattle.cover_rows.proofs.Fitting.{length-links}
 use Rattle.cleaning.proofs.GoodGroups.{few-sorted}
 use Rattle.ffi.specs.Numbers.{entries, noEntries}
 use Rattle.ffi.specs.declared.answer.Answer.{Answer}
 use Rattle.ffi_cover.specs.Numbers.{recordsOf}
 use Rattle.ffi_links.specs.Records.{sortLent, firstLinks, given}
-
-pub copied : (n : ℕ) (column out now : List ℕ) → now ≡ over (take n column) out → n ≤ length column → take n now ≡ take n column
-copied n column out now e le = rw e (take-over (take n column) out n (length-take-le n column le))
-
-pub front-fits : (n : ℕ) (column out : List ℕ) → n ≤ length column → n ≤ length out → length (take n column) ≤ length out
-front-fits n column out h l = omega (arith, length-take-le n column h)
 
 -- the fronts of columns of 1,024 numbers
 module _ (n : ℕ) (h : n ≤ 1024) where
@@ -45,11 +38,6 @@ module _ (n : ℕ) (h : n ≤ 1024) where
 
   pub links-few : (a b c d : List ℕ) → length a ≡ 1024 → length b ≡ 1024 → length c ≡ 1024 → length d ≡ 1024 → length (firstLinks n (linkColumns a b c d)) ≤ 1024
   links-few a b c d p q u v = omega (arith, length-links (take n a) (take n b) (take n c) (take n d) (fronts-even a b p q) (fronts-even a c p u) (fronts-even a d p v), front-few a p)
-
--- links of columns with the same fronts
-pub fronts-same : (n : ℕ) (a b c d x y z w : List ℕ) → take n x ≡ take n a → take n y ≡ take n b → take n z ≡ take n c → take n w ≡ take n d
-    → firstLinks n (linkColumns x y z w) ≡ firstLinks n (linkColumns a b c d)
-fronts-same n a b c d x y z w ea eb ec ed = rw (ea, eb, ec, ed)
 
 module _ (ks ls : List Link) (e : ks ≡ ls) where
   pub sorted-count : {r : ℕ} → r ≡ length (sortLinks ks) → r ≡ length (sortLinks ls)

@@ -1,5 +1,5 @@
 // Links as lent records, sorted in place. The exported function takes its links apart into columns of its own, calls a function over columns and puts
-// the answer together; it is proved by hand, and the steps of its walk serve those of `ffi_links_ask` and `ffi_links_store`.
+// the answer together; it is proved by hand, and the steps of its walk serve those of `ffi_links_ask`, `ffi_links_store` and `ffi_links_build`.
 use columns::refusal::Refusal;
 use cover_links::Link;
 use ffi::answer::Answer;
@@ -14,38 +14,6 @@ ghost use Rattle.cover.specs.Answers.{linkColumns, counted, linksOver, linksAft
 ghost use Rattle.cover_links.specs.Links.{meant};
 ghost use Rattle.ffi_cover.specs.Numbers.{recordsOf};
 ghost use Rattle.ffi_links.specs.Records.{sortLent, recordsAfter, firstLinks, given};
-
-// Copies the first n numbers of a column.
-fn copy_first(n: usize, column: &[u32], out: &mut [u32])
-    requires { ⌜ (n ≤ length (now column)) × (n ≤ length (now out)) ⌝ }
-    ensures { λ _. ⌜ take n (now (out .exit)) ≡ take n (now (column .entry)) ⌝ }
-{
-    cover_rows::copy_column(&column[..n], out);
-}
-
-// Copies the first n links of four columns.
-fn copy_links(
-    n: usize,
-    a: &[u32],
-    b: &[u32],
-    c: &[u32],
-    d: &[u32],
-    x: &mut [u32],
-    y: &mut [u32],
-    z: &mut [u32],
-    w: &mut [u32],
-)
-    requires { ⌜ n ≤ 1024 ⌝ }
-    requires { ⌜ (length (now a) ≡ 1024) × ((length (now b) ≡ 1024) × ((length (now c) ≡ 1024) × (length (now d) ≡ 1024))) ⌝ }
-    requires { ⌜ (length (now x) ≡ 1024) × ((length (now y) ≡ 1024) × ((length (now z) ≡ 1024) × (length (now w) ≡ 1024))) ⌝ }
-    ensures { λ _. ⌜ firstLinks n (linkColumns (now (x .exit)) (now (y .exit)) (now (z .exit)) (now (w .exit)))
-        ≡ firstLinks n (linkColumns (now (a .entry)) (now (b .entry)) (now (c .entry)) (now (d .entry))) ⌝ }
-{
-    copy_first(n, a, x);
-    copy_first(n, b, y);
-    copy_first(n, c, z);
-    copy_first(n, d, w);
-}
 
 // Writes the first n links of four columns sorted, repeats dropped, and answers how many they are.
 fn sort_part(
@@ -91,7 +59,7 @@ fn sort_by(
         ≡ linksOver (sortLinks (firstLinks n (linkColumns (now (a .entry)) (now (b .entry)) (now (c .entry)) (now (d .entry)))))
         (linkColumns (now (a .entry)) (now (b .entry)) (now (c .entry)) (now (d .entry))) ⌝ }
 {
-    copy_links(n, a, b, c, d, x, y, z, w);
+    cover_copy::copy_links(n, a, b, c, d, x, y, z, w);
     sort_part(n, x, y, z, w, a, b, c, d)
 }
 

@@ -35,17 +35,18 @@ fn is_set(
 }
 
 // So many offsets do the sets of n rows have.
-fn offset_count(n: usize) -> usize {
+pub fn offset_count(n: usize) -> usize {
     if n <= 1024 {
         return 2 * n + 1;
     }
     0
 }
 
-// Whether the answer behind a granule, its first row and its rows, is this one: three sets.
-fn is_built(
+// Whether the answer at a place is this one: three sets, with so many offsets each.
+pub fn is_built(
     words: &[u64],
-    granule: usize,
+    at: usize,
+    entries: usize,
     encoded: Encoded,
     fo: &[u64],
     fd: &[i64],
@@ -54,8 +55,6 @@ fn is_built(
     io: &[u64],
     id: &[i64],
 ) -> bool {
-    let entries = offset_count(count(words, after(granule)));
-    let at = after(after(granule));
     match encoded {
         Encoded::Edges(counts) => {
             let forward = after(at);
@@ -129,7 +128,19 @@ fn granule_agrees(
         &mut io,
         &mut id,
     );
-    is_built(words, granule, encoded, &fo, &fd, &ro, &rd, &io, &id)
+    let entries = offset_count(count(words, after(granule)));
+    is_built(
+        words,
+        after(after(granule)),
+        entries,
+        encoded,
+        &fo,
+        &fd,
+        &ro,
+        &rd,
+        &io,
+        &id,
+    )
 }
 
 // Subject, first number, rows, slot offsets, and the rest of the graph.

@@ -2,6 +2,7 @@
 // number of its question, the parts of its input, and the answer. Behind the last case are words 0, cases of no question.
 mod builds;
 mod covers;
+mod refs;
 
 use try_cases::granules;
 use try_cases::parts::after;
@@ -30,7 +31,9 @@ fn agrees(question: u64, words: &[u64], signed: &[i64], shorts: &[u32], bytes: &
         10 => covers::decode_agrees(words, shorts),
         11 => covers::window_agrees(words, shorts),
         12 => covers::cover_agrees(words, shorts),
-        _ => covers::links_agree(words, shorts),
+        13 => covers::links_agree(words, shorts),
+        14 => refs::resolve_agrees(words, bytes),
+        _ => refs::handed_agrees(words, bytes),
     }
 }
 
@@ -76,10 +79,10 @@ fn replay(name: &[u8], question: u64, words: &[u64], signed: &[i64], shorts: &[u
 
 // A line for each question.
 fn replay_all(
-    words: &[u64; 53248],
-    signed: &[i64; 53248],
-    shorts: &[u32; 53248],
-    bytes: &[u8; 53248],
+    words: &[u64; 57344],
+    signed: &[i64; 57344],
+    shorts: &[u32; 57344],
+    bytes: &[u8; 57344],
 ) {
     replay(b"build", 1, words, signed, shorts, bytes);
     replay(b"read", 2, words, signed, shorts, bytes);
@@ -94,12 +97,14 @@ fn replay_all(
     replay(b"window", 11, words, signed, shorts, bytes);
     replay(b"cover", 12, words, signed, shorts, bytes);
     replay(b"links", 13, words, signed, shorts, bytes);
+    replay(b"resolve", 14, words, signed, shorts, bytes);
+    replay(b"handed", 15, words, signed, shorts, bytes);
 }
 
 // The low 32 and the low 8 bits of each word.
-fn narrow(words: &[u64; 53248], shorts: &mut [u32; 53248], bytes: &mut [u8; 53248]) {
+fn narrow(words: &[u64; 57344], shorts: &mut [u32; 57344], bytes: &mut [u8; 57344]) {
     let mut i = 0;
-    while i < 53248 {
+    while i < 57344 {
         shorts[i] = (words[i] % 4294967296) as u32;
         bytes[i] = (words[i] % 256) as u8;
         i += 1;
@@ -107,12 +112,12 @@ fn narrow(words: &[u64; 53248], shorts: &mut [u32; 53248], bytes: &mut [u8; 5324
 }
 
 fn main() {
-    let mut input = [0u8; 425984];
+    let mut input = [0u8; 458752];
     let n = io::read_full(0, &mut input) / 8;
-    let mut words = [0u64; 53248];
-    let mut signed = [0i64; 53248];
-    let mut shorts = [0u32; 53248];
-    let mut bytes = [0u8; 53248];
+    let mut words = [0u64; 57344];
+    let mut signed = [0i64; 57344];
+    let mut shorts = [0u32; 57344];
+    let mut bytes = [0u8; 57344];
     archive_cursor::number_columns::load_u64s(&input, 0, n, &mut words);
     archive_cursor::number_columns::load_i64s(&input, 0, n, &mut signed);
     narrow(&words, &mut shorts, &mut bytes);

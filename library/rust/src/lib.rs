@@ -7,12 +7,14 @@
 
 mod boundary;
 mod links;
+mod refs;
 mod refusal;
 mod run;
 #[cfg(test)]
 mod sizes;
 
 pub use links::{Cover, LINKS_MAX, Link, Range, build_cover, chain_links, links_from, sort_links, store_links};
+pub use refs::{Parents, Reference, ReferenceKind, ResolvedGraph, Space, Unresolved, resolve_graph};
 pub use refusal::Refusal;
 pub use run::Run;
 

@@ -1,4 +1,4 @@
-//! The links of a chain cover as records: sorted, asked for and stored by proved functions over them.
+//! The links of a chain cover as records: sorted, asked for, stored and built into a cover by proved functions over them.
 
 use crate::boundary::Answer;
 use crate::refusal::{Refusal, accepted, length};
@@ -47,11 +47,9 @@ unsafe extern "C" {
     fn ridgeoven_links_from(
         links: *const Link, links_length: usize, chains: *const u32, chains_length: usize, out: *mut Link, out_room: usize,
     ) -> Answer;
-    fn ridgeoven_cover_build(
-        chains: *const u32, chains_length: usize, seqs: *const u32, seqs_length: usize, e: *const u32, e_length: usize, f: *const u32,
-        f_length: usize, g: *const u32, g_length: usize, h: *const u32, h_length: usize, ids: *mut u32, ids_room: usize, minima: *mut u32,
-        minima_room: usize, maxima: *mut u32, maxima_room: usize, a: *mut u32, a_room: usize, b: *mut u32, b_room: usize, c: *mut u32,
-        c_room: usize, d: *mut u32, d_room: usize,
+    fn ridgeoven_links_build(
+        chains: *const u32, chains_length: usize, seqs: *const u32, seqs_length: usize, links: *const Link, links_length: usize, ids: *mut u32,
+        ids_room: usize, minima: *mut u32, minima_room: usize, maxima: *mut u32, maxima_room: usize, out: *mut Link, out_room: usize,
     ) -> Covered;
     fn ridgeoven_links_store(
         links: *const Link, links_length: usize, a: *mut u32, a_room: usize, b: *mut u32, b_room: usize, c: *mut u32, c_room: usize, d: *mut u32,
@@ -91,33 +89,23 @@ impl Columns {
     }
 }
 
-/// The ranges of labels, of a cover without links.
-fn ranges_of(labels: &[(u32, u32)]) -> Result<Vec<Range>, Refusal> {
+/// The cover of labels, chain and seq each, and of links in any order: the labels' ranges, and the links sorted.
+pub fn build_cover(labels: &[(u32, u32)], links: &[Link]) -> Result<Cover, Refusal> {
     let (chains, seqs): (Vec<u32>, Vec<u32>) = labels.iter().copied().unzip();
-    let none: [u32; 0] = [];
-    let e = none.as_ptr();
     let mut ranges = [[0; LINKS_MAX]; 3];
-    let mut links = Columns::empty();
-    let ([ids, minima, maxima], [a, b, c, d]) = (&mut ranges, &mut links.of);
+    let mut out = vec![Link::default(); LINKS_MAX];
+    let [ids, minima, maxima] = &mut ranges;
     let built = unsafe {
-        ridgeoven_cover_build(
-            chains.as_ptr(), chains.len(), seqs.as_ptr(), seqs.len(), e, 0, e, 0, e, 0, e, 0, ids.as_mut_ptr(), ids.len(), minima.as_mut_ptr(),
-            minima.len(), maxima.as_mut_ptr(), maxima.len(), a.as_mut_ptr(), a.len(), b.as_mut_ptr(), b.len(), c.as_mut_ptr(), c.len(),
-            d.as_mut_ptr(), d.len(),
+        ridgeoven_links_build(
+            chains.as_ptr(), chains.len(), seqs.as_ptr(), seqs.len(), links.as_ptr(), links.len(), ids.as_mut_ptr(), ids.len(),
+            minima.as_mut_ptr(), minima.len(), maxima.as_mut_ptr(), maxima.len(), out.as_mut_ptr(), out.len(),
         )
     };
     let count = accepted(built.refusal, built.ranges)?;
+    out.truncate(built.links);
     let [ids, minima, maxima] = &ranges;
-    Ok((0..count).map(|at| Range { chain: ids[at], least: minima[at], greatest: maxima[at] }).collect())
-}
-
-/// The cover of labels, chain and seq each, and of links in any order: the labels' ranges, and the links sorted.
-pub fn build_cover(labels: &[(u32, u32)], links: &[Link]) -> Result<Cover, Refusal> {
-    let ranges = ranges_of(labels)?;
-    let mut links = links.to_vec();
-    let kept = sort_links(&mut links)?;
-    links.truncate(kept);
-    Ok(Cover { ranges, links })
+    let ranges = (0..count).map(|at| Range { chain: ids[at], least: minima[at], greatest: maxima[at] }).collect();
+    Ok(Cover { ranges, links: out })
 }
 
 /// Puts links in order at the start of their slice, repeats dropped, and answers how many they are; what stands behind them stays.

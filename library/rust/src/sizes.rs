@@ -3,6 +3,7 @@
 use crate::Link;
 use crate::boundary::{Answer, Number, Run, Step};
 use crate::links::Covered;
+use crate::refs::Resolved;
 use std::path::Path;
 use std::process::Command;
 
@@ -30,6 +31,7 @@ fn as_in_c() {
         ("number", size_of::<Number>()),
         ("link", size_of::<Link>()),
         ("covered", size_of::<Covered>()),
+        ("resolved", size_of::<Resolved>()),
     ];
     let lines: String = sizes.iter().map(|(name, size)| format!("{name} {size}\n")).collect();
     assert_eq!(String::from_utf8_lossy(&said.stdout), lines);

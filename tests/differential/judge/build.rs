@@ -13,7 +13,7 @@ fn main() {
         header::write_constants(&house.join("library/ridgeoven.h"));
         let folder = env::var_os("RIDGEOVEN_LIB").map_or_else(|| house.join("target/staticlib"), PathBuf::from);
         println!("cargo:rustc-link-search=native={}", folder.display());
-        for name in ["ffi_columns", "ffi_build", "ffi_cover", "ffi_links", "ffi_links_ask", "ffi_links_store", "cover_links", "ffi_archive", "ffi_clean", "ffi_run"] {
+        for name in ["ffi_columns", "ffi_build", "ffi_refs", "ffi_cover", "ffi_links", "ffi_links_ask", "ffi_links_store", "ffi_links_build", "cover_links", "ffi_archive", "ffi_clean", "ffi_run"] {
             println!("cargo:rerun-if-changed={}", folder.join(format!("lib{name}.a")).display());
             println!("cargo:rustc-link-lib=static={name}");
         }

@@ -10,7 +10,7 @@ const MODULES: [(&str, &[&str]); 5] = [
     ("events", &["relationships"]),
     ("file", &["bytes", "error"]),
     ("layout", &["api", "constant", "graph"]),
-    ("writer", &["graph_renumber"]),
+    ("writer", &["graph", "graph_renumber"]),
 ];
 
 fn source() -> PathBuf {

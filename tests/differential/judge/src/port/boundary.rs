@@ -1,6 +1,6 @@
-//! The functions of the proved library's crates `ffi_columns`, `ffi_build`, `ffi_cover`, `cover_links`, `ffi_links`, `ffi_links_ask`,
-//! `ffi_links_store`, `ffi_archive`, `ffi_clean` and `ffi_run`. A slice is two parameters, its pointer and its length. Every function answers a
-//! record whose first part is a refusal's number, or 0; outputs are lent. The README beside the workspace says what each is given.
+//! The functions of the proved library's crates `ffi_columns`, `ffi_build`, `ffi_refs`, `ffi_cover`, `cover_links`, `ffi_links`, `ffi_links_ask`,
+//! `ffi_links_store`, `ffi_links_build`, `ffi_archive`, `ffi_clean` and `ffi_run`. A slice is two parameters, its pointer and its length. Every
+//! function answers a record whose first part is a refusal's number, or 0; outputs are lent. The README beside the workspace says what each is given.
 
 /// The numbers of `library/ridgeoven.h`, not all of which are asked for here.
 #[allow(dead_code)]
@@ -59,6 +59,13 @@ pub struct Covered {
     pub refusal: u64,
     pub ranges: usize,
     pub links: usize,
+}
+
+#[repr(C)]
+pub struct Resolved {
+    pub refusal: u64,
+    pub parents: usize,
+    pub unresolved: usize,
 }
 
 #[repr(C)]
@@ -203,6 +210,12 @@ unsafe extern "C" {
         a: *mut u32, a_len: usize, b: *mut u32, b_len: usize, c: *mut u32, c_len: usize, d: *mut u32, d_len: usize,
     ) -> Answer;
 
+    pub fn ridgeoven_links_build(
+        chains: *const u32, chains_len: usize, seqs: *const u32, seqs_len: usize, links: *const Link, links_len: usize,
+        ids: *mut u32, ids_len: usize, minima: *mut u32, minima_len: usize, maxima: *mut u32, maxima_len: usize,
+        out: *mut Link, out_len: usize,
+    ) -> Covered;
+
     pub fn ridgeoven_cover_store(
         from_chains: *const u32, from_chains_len: usize, from_seqs: *const u32, from_seqs_len: usize,
         to_chains: *const u32, to_chains_len: usize, to_seqs: *const u32, to_seqs_len: usize,
@@ -252,6 +265,15 @@ unsafe extern "C" {
         reverse_offsets: *mut u64, reverse_offsets_len: usize, reverse_deltas: *mut i64, reverse_deltas_len: usize,
         inbound_offsets: *mut u64, inbound_offsets_len: usize, inbound_deltas: *mut i64, inbound_deltas_len: usize,
     ) -> Granule;
+
+    pub fn ridgeoven_resolve_graph(
+        first: u64, rows: usize, starts: *const u64, starts_len: usize,
+        kinds: *const u8, kinds_len: usize, spaces: *const u8, spaces_len: usize, targets: *const u64, targets_len: usize,
+        known: *const u8, known_len: usize, numbers: *const u64, numbers_len: usize,
+        offsets: *mut u64, offsets_len: usize, parents: *mut u64, parents_len: usize,
+        record_children: *mut u64, record_children_len: usize, record_kinds: *mut u64, record_kinds_len: usize,
+        record_places: *mut u64, record_places_len: usize,
+    ) -> Resolved;
 
     pub fn ridgeoven_clean(bytes: *const u8, bytes_len: usize, out: *mut u8, out_len: usize) -> Answer;
 

@@ -6,6 +6,7 @@ mod boundary;
 mod lent;
 pub mod questions;
 mod records;
+mod refs;
 pub mod runs;
 pub mod smallest;
 
@@ -31,5 +32,5 @@ pub fn alone() -> Result<usize, String> {
             return Err(format!("the port alone: {}", line(name, input, &port)));
         }
     }
-    Ok(cases.len())
+    Ok(cases.len() + refs::refused_in_order()?)
 }

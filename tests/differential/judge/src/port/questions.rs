@@ -2,23 +2,25 @@
 
 use super::boundary::{
     self, ridgeoven_ancestor, ridgeoven_build, ridgeoven_chain_links, ridgeoven_children, ridgeoven_cover_build, ridgeoven_cover_read,
-    ridgeoven_cover_store, ridgeoven_label, ridgeoven_links_apart, ridgeoven_links_from, ridgeoven_links_sort, ridgeoven_links_store, ridgeoven_links_together, ridgeoven_next, ridgeoven_parents, ridgeoven_read_granule, ridgeoven_read_set, ridgeoven_roots,
-    ridgeoven_walk, ridgeoven_window,
+    ridgeoven_cover_store, ridgeoven_label, ridgeoven_links_apart, ridgeoven_links_build, ridgeoven_links_from, ridgeoven_links_sort, ridgeoven_links_store,
+    ridgeoven_links_together, ridgeoven_next, ridgeoven_parents, ridgeoven_read_granule, ridgeoven_read_set, ridgeoven_roots, ridgeoven_walk,
+    ridgeoven_window,
 };
+use super::refs;
 use super::lent::{Lent, NUMBERS, OFFSETS, Pattern, RECORDS};
 use crate::cases::{Answer, Part, list, number};
 
 /// What the library answers, or what it did that no answer allows.
 pub type Asked = Result<Answer, String>;
 
-fn n(part: &Part) -> u64 {
+pub fn n(part: &Part) -> u64 {
     match part {
         Part::Number(value) => *value as u64,
         Part::List(_) => panic!("a number is due"),
     }
 }
 
-fn l<T: TryFrom<i128>>(part: &Part) -> Vec<T> {
+pub fn l<T: TryFrom<i128>>(part: &Part) -> Vec<T> {
     match part {
         Part::List(values) => values.iter().map(|value| T::try_from(*value).ok().expect("a case's number is in range")).collect(),
         Part::Number(_) => panic!("a list is due"),
@@ -26,7 +28,7 @@ fn l<T: TryFrom<i128>>(part: &Part) -> Vec<T> {
 }
 
 /// A refusal keeps what was lent.
-fn refused(refusal: u64, kept: &[Result<(), String>]) -> Asked {
+pub fn refused(refusal: u64, kept: &[Result<(), String>]) -> Asked {
     match kept.iter().find_map(|one| one.clone().err()) {
         Some(wrong) => Err(wrong),
         None => Ok(Err(refusal as u8)),
@@ -56,6 +58,8 @@ pub fn ask(name: &str, p: &[Part]) -> Asked {
         "decode" => decode(p),
         "window" => window(p),
         "links" => chain_links(p),
+        "resolve" => refs::resolve(p),
+        "handed" => refs::handed(p),
         _ => Err(format!("the port has no question {name}")),
     }
 }
@@ -307,9 +311,7 @@ fn asked_records([a, b, c, d]: [&[u32]; 4], chains: &[u32], answer: &boundary::A
     let asked = unsafe {
         ridgeoven_links_from(records.as_ptr(), records.len(), chains.as_ptr(), chains.len(), found.at(), found.len())
     };
-    let numbers = |of: fn(&boundary::Link) -> u32| found.taken(asked.length).map(|links| links.iter().map(of).collect::<Vec<_>>());
-    let columns = [numbers(|l| l.from_chain)?, numbers(|l| l.from_seq)?, numbers(|l| l.to_chain)?, numbers(|l| l.to_seq)?];
-    let same = out.iter().zip(&columns).all(|(column, found)| column.taken(asked.length).is_ok_and(|numbers| numbers == found));
+    let same = are(out, asked.length, as_columns(&found, asked.length)?.iter().map(Vec::as_slice));
     if (asked.refusal, asked.length) == (answer.refusal, answer.length) && same { Ok(()) } else { Err("records are asked otherwise than columns".into()) }
 }
 
@@ -325,6 +327,62 @@ fn stored_records(given: [&[u32]; 4], answer: &boundary::Answer, out: &[Lent<u32
     if (stored.refusal, stored.length) == (answer.refusal, answer.length) && same { Ok(()) } else { Err("records are stored otherwise than columns".into()) }
 }
 
+/// The columns of records that were lent, of which so many are an answer.
+fn as_columns(found: &Lent<boundary::Link>, length: usize) -> Result<[Vec<u32>; 4], String> {
+    let links = found.taken(length)?;
+    let numbers = |of: fn(&boundary::Link) -> u32| links.iter().map(of).collect::<Vec<_>>();
+    Ok([numbers(|l| l.from_chain), numbers(|l| l.from_seq), numbers(|l| l.to_chain), numbers(|l| l.to_seq)])
+}
+
+/// Whether so many entries of lent columns are these, and nothing past them was written.
+fn are<'a>(out: &[Lent<u32>], length: usize, wanted: impl IntoIterator<Item = &'a [u32]>) -> bool {
+    out.iter().zip(wanted).all(|(column, numbers)| column.taken(length).is_ok_and(|found| found == numbers))
+}
+
+/// A cover of records, into slices of these lengths: the answer, the ranges and the links.
+fn built_of(labels: [&[u32]; 2], records: &[boundary::Link], rooms: [usize; 4]) -> (boundary::Covered, [Lent<u32>; 3], Lent<boundary::Link>) {
+    let ([chains, seqs], [a, b, c, room]) = (labels, rooms);
+    let (mut ranges, mut links) = ([a, b, c].map(Lent::new), Lent::new(room));
+    let [i, j, k] = &mut ranges;
+    let built = unsafe {
+        ridgeoven_links_build(
+            chains.as_ptr(), chains.len(), seqs.as_ptr(), seqs.len(), records.as_ptr(), records.len(),
+            i.at(), i.len(), j.at(), j.len(), k.at(), k.len(), links.at(), links.len(),
+        )
+    };
+    (built, ranges, links)
+}
+
+/// Records are built into the cover that columns are. One place too few in any lent slice is 41, one record or label too many 42, which comes first;
+/// neither writes anything.
+fn built_records(labels: [&[u32]; 2], given: [&[u32]; 4], columns: &boundary::Covered, ranges: &[Lent<u32>], links: &[Lent<u32>]) -> Result<(), String> {
+    let Some(records) = as_records(given) else { return Ok(()) };
+    let (built, found, out) = built_of(labels, &records, [RECORDS; 4]);
+    let wanted = ranges.iter().map(|column| column.taken(columns.ranges)).collect::<Result<Vec<_>, _>>()?;
+    let same = (built.refusal, built.ranges, built.links) == (columns.refusal, columns.ranges, columns.links)
+        && are(&found, built.ranges, wanted)
+        && are(links, built.links, as_columns(&out, built.links)?.iter().map(Vec::as_slice));
+    if !same {
+        return Err("records are built otherwise than columns".into());
+    }
+    let many = vec![boundary::Link::PATTERN; RECORDS + 1];
+    let long = vec![u32::PATTERN; RECORDS + 1];
+    let short: [[usize; 4]; 4] = std::array::from_fn(|at| std::array::from_fn(|room| RECORDS - usize::from(room == at)));
+    let refusals = short.iter().map(|rooms| (labels, &records, *rooms, if columns.refusal == 42 { 42 } else { 41 }));
+    let over = [
+        (labels, &many, [RECORDS; 4], 42), (labels, &many, [0; 4], 42),
+        ([&long[..], labels[1]], &records, [0; 4], 42), ([labels[0], &long[..]], &records, [0; 4], 42),
+    ];
+    for (labels, records, rooms, refusal) in refusals.chain(over) {
+        let (built, found, out) = built_of(labels, records, rooms);
+        if (built.refusal, built.ranges, built.links) != (refusal, 0, 0) {
+            return Err(format!("records are built with refusal {}, {refusal} is due", built.refusal));
+        }
+        found.iter().map(Lent::kept).chain([out.kept()]).collect::<Result<(), _>>()?;
+    }
+    Ok(())
+}
+
 fn cover(p: &[Part]) -> Asked {
     let [chains, seqs, a, b, c, d] = columns(p);
     through_records([&a, &b, &c, &d])?;
@@ -338,6 +396,7 @@ fn cover(p: &[Part]) -> Asked {
             w.at(), w.len(), x.at(), x.len(), y.at(), y.len(), z.at(), z.len(),
         )
     };
+    built_records([&chains, &seqs], [&a, &b, &c, &d], &built, &ranges, &links)?;
     if built.refusal != 0 {
         sorted_records([&a, &b, &c, &d], None)?;
         return refused(built.refusal, &[all_kept(&ranges), all_kept(&links)].concat());
@@ -400,7 +459,7 @@ fn chain_links(p: &[Part]) -> Asked {
     records(&answer, &out)
 }
 
-fn build(p: &[Part]) -> Asked {
+pub fn build(p: &[Part]) -> Asked {
     let subject = l::<u8>(&p[0]);
     let column = |at: usize| l::<u64>(&p[at]);
     let (offsets, targets) = (column(3), column(4));

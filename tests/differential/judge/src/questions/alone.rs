@@ -33,6 +33,16 @@ fn build(offsets: &[u64], columns: [&[u64]; 8]) -> Vec<Part> {
     ]
 }
 
+/// The references of one row: kinds, spaces, targets, whether each is known, numbers.
+fn resolve(first: u64, starts: &[u64], columns: [&[u64]; 5]) -> Vec<Part> {
+    [vec![number(first), number(1), list(starts)], columns.map(list).to_vec()].concat()
+}
+
+/// Slot offsets, targets, and the children, kinds and places of records.
+fn resolved(input: Vec<Part>, offsets: &[u64], targets: &[u64], records: [&[u64]; 3]) -> Case {
+    Case { name: "resolve", input, answer: Ok([vec![list(offsets), list(targets)], records.map(list).to_vec()].concat()) }
+}
+
 /// Questions about 1,025 rows, and covers of 1,025 records in their first column.
 fn over_records() -> Vec<(&'static str, Vec<Part>)> {
     let place = || vec![number(100), number(1025), number(1125)];
@@ -55,6 +65,7 @@ fn over_records() -> Vec<(&'static str, Vec<Part>)> {
         ("decode", columns(7)),
         ("window", [columns(3), vec![number(1), number(0), number(0)]].concat()),
         ("links", columns(5)),
+        ("resolve", [vec![number(100), number(1025)], vec![none(); 6]].concat()),
     ]
 }
 
@@ -84,6 +95,19 @@ pub fn cases() -> Vec<Case> {
         // link columns of a cover to build, unequal in number
         refused("cover", vec![none(), none(), ones(1), none(), none(), none()], 22),
         refused("links", vec![none(), none(), none(), none(), ones(4097)], 43),
+        // answers that the original does not ask for are missing: of a link, of a number
+        refused("resolve", resolve(100, &[0, 1], [&[2], &[0], &[7], &[], &[]]), 2),
+        refused("resolve", resolve(100, &[0, 1], [&[0], &[3], &[99], &[], &[]]), 2),
+        // columns of a reference unequal in number, starts of another form
+        refused("resolve", resolve(100, &[0, 1], [&[0], &[], &[7], &[1], &[99]]), 2),
+        refused("resolve", resolve(100, &[0, 0], [&[0], &[0], &[7], &[1], &[99]]), 2),
+        refused("resolve", resolve(100, &[0, 0, 1], [&[0], &[0], &[7], &[1], &[99]]), 2),
+        // numbers past 2^64 − 1, which the original leaves to its building
+        refused("resolve", resolve(u64::MAX, &[0, 0], [&[]; 5]), 3),
+        // a kind above the six makes nothing, a space above the four is looked up; two parents and two roots in a row
+        resolved(resolve(100, &[0, 3], [&[6, 255, 0], &[0, 3, 4], &[7, 7, 7], &[0, 1, 1], &[0, 1, 99]]), &[0, 1, 1], &[99], [&[], &[], &[]]),
+        resolved(resolve(100, &[0, 1], [&[1], &[255], &[7], &[0], &[0]]), &[0, 0, 0], &[], [&[100], &[1], &[0]]),
+        resolved(resolve(100, &[0, 4], [&[3, 3, 5, 5], &[0, 0, 3, 3], &[1, 1, 2, 2], &[1, 1, 1, 1], &[9, 9, 9, 9]]), &[0, 0, 0], &[], [&[], &[], &[]]),
     ];
     found.extend(over_records().into_iter().map(|(name, input)| refused(name, input, 42)));
     found

@@ -105,11 +105,15 @@ pub fn build(input: &[Part]) -> Option<Answer> {
         ..GraphInput::default()
     };
     let granule = GranuleEntry { first_row_ordinal: parts.number()?, granule_id: 0, row_count: parts.number()? };
-    let built = encode_graph_blocks(&graph, row_count, &[granule]).map(|blocks| {
+    Some(built(&graph, row_count, granule))
+}
+
+/// The three sets of a granule.
+pub fn built(graph: &GraphInput, row_count: u64, granule: GranuleEntry) -> Answer {
+    answered(encode_graph_blocks(graph, row_count, &[granule]).map(|blocks| {
         let (sets, _) = blocks::columns(&blocks[&0], graph.chain_cover.is_some());
         sets.iter().flat_map(|set| [number(set.count), list(&set.offsets), list(&set.deltas)]).collect()
-    });
-    Some(answered(built))
+    }))
 }
 
 /// First number, rows, root events, rising. Answers rows.

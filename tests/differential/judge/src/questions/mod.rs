@@ -5,6 +5,7 @@ mod columns;
 mod cover;
 pub mod edges;
 mod making;
+mod refs;
 mod short;
 
 use crate::cases::{Answer, Part};
@@ -26,7 +27,7 @@ pub struct Question {
     pub ask: fn(&[Part]) -> Option<Answer>,
 }
 
-pub const ALL: [Question; 12] = [
+pub const ALL: [Question; 14] = [
     Question {
         name: "build",
         form: "LNNLLLLLLNLLLLLNN",
@@ -74,6 +75,15 @@ pub const ALL: [Question; 12] = [
     Question { name: "decode", form: "LLLLLLL", refusals: &[22], make: making::decode, short: short::none, ask: cover::decode },
     Question { name: "window", form: "LLLNNN", refusals: &[22], make: making::window, short: short::window, ask: cover::window },
     Question { name: "links", form: "LLLLL", refusals: &[22], make: making::links, short: short::none, ask: cover::links },
+    Question { name: "resolve", form: "NNLLLLLL", refusals: &[2], make: making::resolve, short: short::resolve, ask: refs::resolve },
+    Question {
+        name: "handed",
+        form: "NNLLLLLL",
+        refusals: &[2, 3, 4, 5, 15],
+        make: making::resolve,
+        short: short::resolve,
+        ask: refs::handed,
+    },
 ];
 
 pub fn named(name: &str) -> Option<&'static Question> {

@@ -125,6 +125,25 @@ pub fn cover() -> Vec<Vec<Part>> {
     found
 }
 
+/// Two rows from 100 on with at most two references, of every kind and space, known or not; where there are two, with one target or with two.
+pub fn resolve() -> Vec<Vec<Part>> {
+    let all: Vec<i128> = (0..48).collect();
+    let mut found = Vec::new();
+    for references in lists(&all, 2) {
+        let column = |part: fn(i128) -> i128| Part::List(references.iter().map(|one| part(*one)).collect());
+        let many = references.len() as u64;
+        for first in 0..=many {
+            for same in 0..many.max(1) {
+                let targets = |from: u64| list(&(0..many).map(|at| if same == 0 { from + at } else { from }).collect::<Vec<u64>>());
+                let mut input = vec![number(100), number(2), list(&[0, first, many]), column(|one| one % 6), column(|one| one / 6 % 4)];
+                input.extend([targets(10), column(|one| one / 24), targets(20)]);
+                found.push(input);
+            }
+        }
+    }
+    found
+}
+
 pub fn none() -> Vec<Vec<Part>> {
     Vec::new()
 }

@@ -1,4 +1,4 @@
-//! The renumbering is the original's; a row is its tag.
+//! Renumbering and resolving are the original's; a row is its tag and its references.
 
 pub mod build {
     use crate::events::EventRelationships;

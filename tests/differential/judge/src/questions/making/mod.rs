@@ -4,10 +4,12 @@
 mod building;
 mod cover;
 mod reading;
+mod refs;
 
 pub use building::{build, roots};
 pub use cover::{cover, decode, links, stored, window};
 pub use reading::{children, label, parents, read, walk};
+pub use refs::resolve;
 
 use crate::cases::{Part, number};
 use crate::random::Random;
