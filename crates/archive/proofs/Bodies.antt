@@ -113,7 +113,7 @@ pub record Counted {A : Type 0} (F : A → Type 0) (t : List A → Bool) (xs : L
   pub each : Each F xs
   pub test : t xs ≡ true
 
-counted-back : {A : Type 0} (w : ℕ) (f : List ℕ → A) (t : List A → Bool) {enc : A → List ℕ} {F : A → Type 0}
+pub counted-back : {A : Type 0} (w : ℕ) (f : List ℕ → A) (t : List A → Bool) {enc : A → List ℕ} {F : A → Type 0}
     → ((l : List ℕ) → AllBytes l → w ≤ length l → Said enc F (f l) (take w l)) → Back (counted w f t) (Said (countedBytes enc) (Counted F t))
 unfolding countedBytes
 counted-back w f t one =

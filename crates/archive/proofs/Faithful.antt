@@ -18,6 +18,7 @@ use Rattle.archive.specs.Fits.{FileFits}
 use Rattle.archive_bytes.proofs.Numbers.{AllBytes}
 use Rattle.archive.proofs.Back.{Back, Said, andThen-got, cond-got, tested-got, then-back, end-back}
 use Rattle.archive.proofs.Framed.{record-back, Inside, then-inside, record-inside, optionally-inside}
+use Rattle.archive.proofs.References.{record-back-found, found-back}
 use Rattle.archive.proofs.Bodies.{head-back, sets-back, rows-back, unresolved-back, roots-back, cover-found-back}
 
 -- ── files ────────────────────────────────────────────────────────────────────────────────────
@@ -30,10 +31,12 @@ file-back K =
     (λ h. then-back (recordOf 2 (Parse.sets K (h .rows))) _ (record-back 2 (Parse.sets K (h .rows)) (sets-back K (h .rows))) (λ s.
     then-back (recordOf 3 (Parse.rows (h .rows))) _ (record-back 3 (Parse.rows (h .rows)) (rows-back (h .rows))) (λ rs.
     then-back (recordOf 4 Parse.unresolved) _ (record-back 4 Parse.unresolved unresolved-back) (λ us. then-back (recordOf 5 Parse.roots) _ (record-back 5 Parse.roots roots-back) (λ ts.
-    then-back (optionally 6 (Parse.cover (h .rows))) _ (cover-found-back (h .rows)) (λ c. end-back (λ l p. true) _ (λ l p t kc kt ku kr ks kh.
+    then-back (optionally 6 (Parse.cover (h .rows))) _ (cover-found-back (h .rows)) (λ c.
+    then-back (optionally 7 (Parse.references (h .rows))) _ (record-back-found (h .rows)) (λ xs. end-back (λ l p. true) _ (λ l p t kx kc kt ku kr ks kh.
     let n = kr .0 .0 in
+    let x = found-back (h .rows) rs xs n kx in
     record {
-      bytes = rw (n, append-nil);
+      bytes = rw (n, x .0, append-nil);
       fits = record {
         first = kh .0 .first;
         rowCount = rw n (kh .0 .rows);
@@ -52,12 +55,13 @@ file-back K =
         roots = kt .0 .each;
         rootOrder = kt .0 .test;
         cover = rw n kc;
+        references = rw n (x .1);
         edgesShort = ks .1;
         rowsShort = kr .1;
         unresolvedShort = ku .1;
         rootsShort = kt .1;
       };
-    })))))))
+    }))))))))
 
 -- no file ends past the end of the bytes
 file-inside : (K : ℕ) → Inside (Parse.file K)
@@ -66,7 +70,8 @@ file-inside K =
     then-inside (recordOf 1 Parse.head) _ (record-inside 1 Parse.head) (λ h. then-inside (recordOf 2 (Parse.sets K (h .rows))) _ (record-inside 2 (Parse.sets K (h .rows))) (λ s.
     then-inside (recordOf 3 (Parse.rows (h .rows))) _ (record-inside 3 (Parse.rows (h .rows))) (λ rs. then-inside (recordOf 4 Parse.unresolved) _ (record-inside 4 Parse.unresolved) (λ us.
     then-inside (recordOf 5 Parse.roots) _ (record-inside 5 Parse.roots) (λ ts. then-inside (optionally 6 (Parse.cover (h .rows))) _ (optionally-inside 6 (Parse.cover (h .rows))) (λ c.
-    record { inside = λ l p f q e h. let z : p ≡ q = cc in omega arith }))))))
+    then-inside (optionally 7 (Parse.references (h .rows))) _ (optionally-inside 7 (Parse.references (h .rows))) (λ xs.
+    record { inside = λ l p f q e h. let z : p ≡ q = cc in omega arith })))))))
 
 -- ── the laws ─────────────────────────────────────────────────────────────────────────────────
 

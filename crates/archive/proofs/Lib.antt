@@ -4,5 +4,6 @@ pub mod Round
 pub mod Back
 pub mod Framed
 pub mod Bodies
+pub mod References
 pub mod Faithful
 pub mod Lengths

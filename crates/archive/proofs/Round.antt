@@ -26,6 +26,7 @@ use Rattle.archive.specs.Encode.{rangeBytes, linksBytes, coverBytes, cou
 use Rattle.archive.specs.Fits.{DepthFits, SetFits, UnresolvedFits, RootFits, RangeFits, LinksFit, CoverFits, CoverFitsIn, FileFits, Short}
 use Rattle.archive_bytes.proofs.Numbers.{length-bytesOf, be-at, signed-all, unsigned-all}
 use Rattle.archive.proofs.Forward.{Reads, then-reads, end-reads, again-reads, number-reads, byte-reads, bytes-reads, Item, table-reads, things-read, numbers-read}
+use Rattle.archive.proofs.References.{record-found, found-of, no-cover-behind}
 use Rattle.archive.proofs.Forward.{counted-read, stops-at-end, record-kind, record-reads, found-reads, none-reads}
 
 -- ── 1 file ───────────────────────────────────────────────────────────────────────────────────
@@ -173,27 +174,28 @@ cover-record-reads rows (some c) k g = found-reads 6 (Parse.cover rows) (k .shor
 
 -- ── files ────────────────────────────────────────────────────────────────────────────────────
 
--- a file is read where no cover of another stands behind it
-file-reads : (K : ℕ) {post : List ℕ} (f : File) → FileFits K f → eqb (getD post 5 0) 6 ≡ false → Reads post (Parse.file K) (fileBytes f) f
+-- a file is read where neither a cover nor references of another stand behind it
+file-reads : (K : ℕ) {post : List ℕ} (f : File) → FileFits K f → (eqb (getD post 5 0) 6 ≡ false) × (eqb (getD post 5 0) 7 ≡ false) → Reads post (Parse.file K) (fileBytes f) f
 unfolding Parse.file fileBytes headBytes edgesBytes
-file-reads K f k g =
+file-reads K {post} f k g =
     let n = length (f .rows) in
     then-reads (recordOf 1 Parse.head) _ (record-reads 1 Parse.head (head-short K f k) (head-reads (headOf f) (k .first) (k .rowCount) (k .depth)))
     (then-reads (recordOf 2 (Parse.sets K n)) _ (record-reads 2 (Parse.sets K n) (k .edgesShort) (sets-read K n (f .forward) (f .reverse) (f .inbound) (k .forward) (k .reverse) (k .inbound)))
     (then-reads (recordOf 3 (Parse.rows n)) _ (record-reads 3 (Parse.rows n) (k .rowsShort) (rows-read (f .rows) (k .tags)))
     (then-reads (recordOf 4 Parse.unresolved) _ (record-reads 4 Parse.unresolved (k .unresolvedShort) (unresolved-read (f .unresolved) (k .unresolved) (k .unresolvedCount) (k .unresolvedOrder)))
     (then-reads (recordOf 5 Parse.roots) _ (record-reads 5 Parse.roots (k .rootsShort) (roots-read (f .roots) (k .roots) (k .rootCount) (k .rootOrder)))
-    (end-reads (optionally 6 (Parse.cover n)) _ (cover-record-reads n (f .cover) (k .cover) g) (λ l p h. refl))))))
+    (then-reads (optionally 6 (Parse.cover n)) _ (cover-record-reads n (f .cover) (k .cover) (no-cover-behind (f .references) post (g .0)))
+    (end-reads (optionally 7 (Parse.references n)) _ (record-found n (f .references) (k .references) (g .1)) (λ l p h. rw (found-of (f .rows) (f .references) (k .references .rowCount)))))))))
 
 file-long : (f : File) → 0 < length (fileBytes f)
 unfolding fileBytes recordBytes
 file-long f = simp (length-append, length-bytesOf) (omega arith)
 
 -- files begin with a record 1
-no-cover-first : (fs : List File) → eqb (getD (encode fs) 5 0) 6 ≡ false
+no-end-first : (fs : List File) → (eqb (getD (encode fs) 5 0) 6 ≡ false) × (eqb (getD (encode fs) 5 0) 7 ≡ false)
 unfolding encode fileBytes
-no-cover-first [] = refl
-no-cover-first (f ∷ fs) = rw (append-assoc, record-kind 1)
+no-end-first [] = (refl, refl)
+no-end-first (f ∷ fs) = (rw (append-assoc, record-kind 1), rw (append-assoc, record-kind 1))
 
 files-read : (K : ℕ) (fs : List File) (n : ℕ) (pre : List ℕ) → length fs ≤ n → Each (FileFits K) fs → files K n (pre ++ encode fs) (length pre) ≡ got fs (length pre + length (encode fs))
 unfolding encode files _>>=_
@@ -204,7 +206,7 @@ files-read K (f ∷ fs) (suc n) pre h k =
     let q = file-long f in
     let c : length pre < length (pre ++ (fileBytes f ++ encode fs)) = simp length-append (omega arith) in
     let i = rw (append-assoc pre (fileBytes f) (encode fs), length-append pre (fileBytes f)) at (files-read K fs n (pre ++ fileBytes f) (omega arith) (k .1)) in
-    rw (lt-leb (length (pre ++ (fileBytes f ++ encode fs))) (length pre) c, file-reads K f (k .0) (no-cover-first fs) .read pre, i, length-append (fileBytes f) (encode fs), add-assoc)
+    rw (lt-leb (length (pre ++ (fileBytes f ++ encode fs))) (length pre) c, file-reads K f (k .0) (no-end-first fs) .read pre, i, length-append (fileBytes f) (encode fs), add-assoc)
 
 files-no-more-than-bytes : (fs : List File) → length fs ≤ length (encode fs)
 unfolding encode

@@ -1,5 +1,5 @@
--- Document 01, "Archive records": the bytes of a file's six records.
-use mathlib.Core.Bool.{Bool, true, false}
+-- Document 01, "Archive records", and document 02, L1: the bytes of a file's seven records.
+use mathlib.Core.Bool.{Bool, true, false, cond}
 use mathlib.Core.List.{List, [], _∷_, _++_, map}
 use mathlib.Core.Option.{Option, none, some}
 use Prim.Native.Nat.{ℕ, _+_}
@@ -10,7 +10,7 @@ use Rattle.columns.specs.Building.{Depth}
 use Rattle.cover.specs.Chains.{Range}
 use Rattle.cover.specs.Cover.{LinkColumns}
 use Rattle.archive.specs.Bytes.{bytesOf, unsignedOf}
-use Rattle.archive.specs.File.{Row, Unresolved, Root, CoverColumns, File}
+use Rattle.archive.specs.File.{Row, Unresolved, Root, CoverColumns, Reference, anyReference, File}
 
 -- a record: the length of what follows, version 1, the kind, the body
 unfoldable pub recordBytes : ℕ → List ℕ → List ℕ
@@ -74,11 +74,22 @@ coverBytes c =
 unfoldable pub countedBytes : {A : Type 0} → (A → List ℕ) → List A → List ℕ
 countedBytes f xs = bytesOf 4 (length xs) ++ flat f xs
 
+unfoldable pub referenceBytes : Reference → List ℕ
+referenceBytes r = (r .kind ∷ []) ++ ((r .space ∷ []) ++ bytesOf 8 (r .target))
+
+-- row by row a count and as many references
+unfoldable pub referencesBytes : List (List Reference) → List ℕ
+referencesBytes rss = flat (countedBytes referenceBytes) rss
+
 -- ── files ────────────────────────────────────────────────────────────────────────────────────
 
 abbrev pub coverRecord : Option CoverColumns → List ℕ
 coverRecord none = []
 coverRecord (some c) = recordBytes 6 (coverBytes c)
+
+-- absent where there are none
+abbrev pub referencesRecord : List (List Reference) → List ℕ
+referencesRecord rss = cond (anyReference rss) (recordBytes 7 (referencesBytes rss)) []
 
 unfoldable pub fileBytes : File → List ℕ
 fileBytes f =
@@ -87,7 +98,8 @@ fileBytes f =
     ++ (recordBytes 3 (flat rowBytes (f .rows))
     ++ (recordBytes 4 (countedBytes unresolvedBytes (f .unresolved))
     ++ (recordBytes 5 (countedBytes rootBytes (f .roots))
-    ++ coverRecord (f .cover)))))
+    ++ (coverRecord (f .cover)
+    ++ referencesRecord (f .references))))))
 
 -- the bytes of files, one after the other
 unfoldable pub encode : List File → List ℕ

@@ -1,6 +1,6 @@
--- Document 01, "Archive records": a file as its six records say it.
-use mathlib.Core.Bool.{Bool}
-use mathlib.Core.List.{List}
+-- Document 01, "Archive records", and document 02, L1: a file as its seven records say it.
+use mathlib.Core.Bool.{Bool, true, false}
+use mathlib.Core.List.{List, [], _∷_, map}
 use mathlib.Core.Option.{Option}
 use Prim.Native.Nat.{ℕ}
 use Rattle.columns.specs.EdgeSet.{EdgeSet}
@@ -31,6 +31,23 @@ pub record CoverColumns : Type 0 where
   pub ranges : List Range
   pub links : LinkColumns
 
+-- a row's reference to another event: by its sequence number, or by a handle of the host's in another space
+pub record Reference : Type 0 where
+  pub kind : ℕ
+  pub space : ℕ
+  pub target : ℕ
+
+-- whether some row has a reference
+unfoldable pub anyReference : List (List Reference) → Bool
+anyReference [] = false
+anyReference ([] ∷ rest) = anyReference rest
+anyReference ((r ∷ rs) ∷ rest) = true
+
+-- the references of rows that have none
+abbrev pub noReferences : {A : Type 0} → List A → List (List Reference)
+noReferences rows = map (λ r. []) rows
+
+-- references: row by row, as many lists as there are rows
 pub record File : Type 0 where
   pub first : ℕ
   pub group : ℕ
@@ -43,3 +60,4 @@ pub record File : Type 0 where
   pub unresolved : List Unresolved
   pub roots : List Root
   pub cover : Option CoverColumns
+  pub references : List (List Reference)

@@ -13,8 +13,9 @@ use Rattle.columns.specs.EdgeSet.{EdgeSet}
 use Rattle.columns.specs.Building.{Depth}
 use Rattle.cover.specs.Chains.{Range}
 use Rattle.cover.specs.Cover.{LinkColumns}
-use Rattle.archive.specs.File.{Unresolved, Root, CoverColumns, File}
-use Rattle.archive.specs.Encode.{edgesBytes, rowBytes, unresolvedBytes, rootBytes, countedBytes, coverBytes}
+use Rattle.archive.specs.File.{Unresolved, Root, CoverColumns, Reference, anyReference, File}
+use Rattle.archive.specs.Parse.{referencesOk}
+use Rattle.archive.specs.Encode.{edgesBytes, rowBytes, unresolvedBytes, rootBytes, countedBytes, coverBytes, referencesBytes}
 -- numbers of w bytes
 pub use Rattle.archive_bytes.specs.Bytes.{Wide}
 
@@ -66,6 +67,17 @@ abbrev pub CoverFitsIn : ℕ → Option CoverColumns → Type 0
 CoverFitsIn rows none = Unit {0}
 CoverFitsIn rows (some c) = CoverFits rows c
 
+-- a row's references; kinds and spaces are bytes, being those that there are
+pub record RowReferencesFit (rs : List Reference) : Type 0 where
+  pub count : length rs < 256 ^ 4
+  pub targets : Each (λ r. r .target < 256 ^ 8) rs
+  pub known : referencesOk rs ≡ true
+
+pub record ReferencesFit (rows : ℕ) (rss : List (List Reference)) : Type 0 where
+  pub rowCount : length rss ≡ rows
+  pub each : Each RowReferencesFit rss
+  pub short : anyReference rss ≡ true → Short (referencesBytes rss)
+
 pub record FileFits (K : ℕ) (f : File) : Type 0 where
   pub first : f .first < 256 ^ 8
   pub rowCount : length (f .rows) < 256 ^ 4
@@ -84,6 +96,7 @@ pub record FileFits (K : ℕ) (f : File) : Type 0 where
   pub roots : Each RootFits (f .roots)
   pub rootOrder : rising (map (λ r. r .row) (f .roots)) ≡ true
   pub cover : CoverFitsIn (length (f .rows)) (f .cover)
+  pub references : ReferencesFit (length (f .rows)) (f .references)
   pub edgesShort : Short (edgesBytes f)
   pub rowsShort : Short (flat rowBytes (f .rows))
   pub unresolvedShort : Short (countedBytes unresolvedBytes (f .unresolved))

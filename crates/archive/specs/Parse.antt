@@ -1,4 +1,4 @@
--- Document 01, "Archive records" and 23: what an archive's bytes say. Every rule of 23 is a test here.
+-- Document 01, "Archive records" and 23, and document 02, L1: what an archive's bytes say. Every rule of 23 is a test here.
 use mathlib.Core.Bool.{Bool, cond, _&&_, _||_}
 use mathlib.Core.List.{List, [], _∷_, map}
 use mathlib.Core.Option.{Option, none, some}
@@ -13,7 +13,7 @@ use Rattle.cover.specs.Chains.{Range}
 use Rattle.cover.specs.Cover.{LinkColumns}
 use Rattle.archive.specs.Bytes.{be, signedOf}
 use Rattle.archive.specs.Reader.{Parsed, Reader, _>>=_, return, fail, byte, number, bytes, table, numbers, checked, counted, ahead, unlessEnd, recordOf, optionally}
-use Rattle.archive.specs.File.{Row, Unresolved, Root, CoverColumns, File}
+use Rattle.archive.specs.File.{Row, Unresolved, Root, CoverColumns, Reference, anyReference, noReferences, File}
 
 -- ── 1 file ───────────────────────────────────────────────────────────────────────────────────
 
@@ -124,6 +124,47 @@ cover n = do
   ls ← links
   return (record { labels = record { chains = chains; seqs = seqs }; ranges = ranges; links = ls })
 
+-- ── 7 references ─────────────────────────────────────────────────────────────────────────────
+
+unfoldable pub referenceAt : List ℕ → Reference
+referenceAt l = record { kind = getD l 0 0; space = getD l 1 0; target = be 8 l 2 }
+
+-- kinds: prev 0, auth 1, link 2, parent 3, related 4, root 5; spaces: event id 0, external 1, protocol id 2, sequence 3
+unfoldable pub referenceOk : Reference → Bool
+referenceOk r = leb (r .kind) 5 && leb (r .space) 3
+
+-- how many references are of a kind
+unfoldable pub ofKind : ℕ → List Reference → ℕ
+ofKind k [] = 0
+ofKind k (r ∷ rs) = cond (eqb (r .kind) k) 1 0 + ofKind k rs
+
+-- a row's references: of a kind and a space that there are, and at most one parent and one root
+unfoldable pub referencesOk : List Reference → Bool
+referencesOk rs = all referenceOk rs && (leb (ofKind 3 rs) 1 && leb (ofKind 5 rs) 1)
+
+-- a row's: a count, and as many references
+abbrev pub rowReferences : Reader (List Reference)
+rowReferences = counted 10 referenceAt referencesOk
+
+-- row by row
+unfoldable pub rowsReferences : ℕ → Reader (List (List Reference))
+rowsReferences zero = return []
+rowsReferences (suc n) = do
+  rs ← rowReferences
+  rest ← rowsReferences n
+  return (rs ∷ rest)
+
+-- a record of none is broken
+unfoldable pub references : ℕ → Reader (List (List Reference))
+references n = do
+  rss ← rowsReferences n
+  checked (anyReference rss) rss
+
+-- the references of a file's rows: none where there is no record
+unfoldable pub referencesOf : List Row → Option (List (List Reference)) → List (List Reference)
+referencesOf rs none = noReferences rs
+referencesOf rs (some rss) = rss
+
 -- ── files ────────────────────────────────────────────────────────────────────────────────────
 
 -- the records of a file, in order
@@ -135,6 +176,7 @@ file K = do
   us ← recordOf 4 unresolved
   ts ← recordOf 5 roots
   c ← optionally 6 (cover (h .rows))
+  xs ← optionally 7 (references (h .rows))
   return (record {
     first = h .first;
     group = h .group;
@@ -147,6 +189,7 @@ file K = do
     unresolved = us;
     roots = ts;
     cover = c;
+    references = referencesOf rs xs;
   })
 
 -- files to the end of the bytes, at most n
