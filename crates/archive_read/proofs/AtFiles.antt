@@ -11,10 +11,10 @@ use Rattle.columns.specs.Limits.{kinds}
 use Rattle.lists.specs.Lists.{sum}
 use Rattle.columns.specs.declared.refusal.Refusal.the-variants.{RecordBroken}
 use Rattle.archive.specs.Reader.{Parsed, broken, got, andThen, _>>=_}
-use Rattle.archive.specs.File.{CoverColumns, File}
-use Rattle.archive.specs.Parse.{file, files, parse}
-use Rattle.archive_read.specs.bodies.View.{setIn, setsIn, coverIn}
-use Rattle.archive_read.specs.Layout.{partIn, frontIn, middleIn, tailIn, Uncovers, fileFrom, fileIn, fileOf, Counts, HoldsFile, AfterFile}
+use Rattle.archive.specs.File.{Row, CoverColumns, noReferences, File}
+use Rattle.archive.specs.Parse.{referencesOf, file, files, parse}
+use Rattle.archive_read.specs.bodies.View.{setIn, setsIn, coverIn, referencesFrom}
+use Rattle.archive_read.specs.Layout.{partIn, frontIn, middleIn, tailIn, Uncovers, MayCite, fileFrom, fileIn, fileOf, Counts, HoldsFile, AfterFile}
 use Rattle.archive_read.specs.Sums.{rangesIn, linksIn, totals, totalsOf, withFile, Below, plus}
 use Rattle.archive_read.specs.declared.bodies.CoverAt.{CoverAt}
 use Rattle.archive_read.specs.declared.records.FileAt.{FileAt}
@@ -26,6 +26,11 @@ use Rattle.archive_read.specs.declared.files.Summed.the-variants.{Sums, 
 use Rattle.archive.proofs.Back.{length-several}
 
 -- ── a file's counts are the lengths of its columns ───────────────────────────────────────────
+
+none-counted : {A : Type 0} (rs : List A) → sum length (noReferences rs) ≡ 0
+unfolding sum
+none-counted [] = refl
+none-counted (r ∷ rs) = omega (arith, none-counted rs)
 
 set-counted : (b : List ℕ) (rows p n : ℕ) → length (setIn b rows p n .deltas) ≡ n
 unfolding setIn
@@ -73,20 +78,33 @@ module _ (l : List ℕ) (f : FileAt) where
     unfolding fileIn fileFrom tailIn coverIn
     links-counted = links-of (f .tail .covered) (coverIn (partIn l (f .tail .body)) (f .front .head .rows) (f .tail .cover)) (f .tail .cover) (length-several _ _ _ _) u
 
+  pub references-counted : MayCite (f .tail .cited) l (f .front .head .rows) (f .tail .references) (f .tail .cites)
+      → sum length (fileIn l f .references) ≡ f .tail .references
+  unfolding fileIn fileFrom tailIn referencesOf
+  references-counted = go (f .tail .cited)
+    where
+      rs : List Row
+      rs = middleIn l (f .front .head .rows) (f .middle) .rows
+
+      go : (t : Bool) → MayCite t l (f .front .head .rows) (f .tail .references) (f .tail .cites)
+          → sum length (referencesOf rs (cond t (some (referencesFrom (f .front .head .rows) (partIn l (f .tail .cites)))) none)) ≡ f .tail .references
+      go true h = sym (h .counted)
+      go false h = omega (arith, none-counted rs)
+
 -- ── one turn ─────────────────────────────────────────────────────────────────────────────────
 
 abbrev none-yet : Totals
-none-yet = record { files = 0; events = 0; roots = 0; unresolved = 0; ranges = 0; links = 0; forward = 0; reverse = 0; inbound = 0 }
+none-yet = record { files = 0; events = 0; roots = 0; unresolved = 0; ranges = 0; links = 0; forward = 0; reverse = 0; inbound = 0; references = 0 }
 
-same-sums : (a b c d e f g h i a′ b′ c′ d′ e′ f′ g′ h′ i′ : ℕ) → a ≡ a′ → b ≡ b′ → c ≡ c′ → d ≡ d′ → e ≡ e′ → f ≡ f′ → g ≡ g′ → h ≡ h′ → i ≡ i′
-    → Sums (record { files = a; events = b; roots = c; unresolved = d; ranges = e; links = f; forward = g; reverse = h; inbound = i })
-    ≡ Sums (record { files = a′; events = b′; roots = c′; unresolved = d′; ranges = e′; links = f′; forward = g′; reverse = h′; inbound = i′ })
-same-sums a b c d e f g h i a′ b′ c′ d′ e′ f′ g′ h′ i′ p q r s t u v w x = rw (p, q, r, s, t, u, v, w, x)
+same-sums : {a b c d e f g h i j a′ b′ c′ d′ e′ f′ g′ h′ i′ j′ : ℕ} → a ≡ a′ → b ≡ b′ → c ≡ c′ → d ≡ d′ → e ≡ e′ → f ≡ f′ → g ≡ g′ → h ≡ h′ → i ≡ i′ → j ≡ j′
+    → Sums (record { files = a; events = b; roots = c; unresolved = d; ranges = e; links = f; forward = g; reverse = h; inbound = i; references = j })
+    ≡ Sums (record { files = a′; events = b′; roots = c′; unresolved = d′; ranges = e′; links = f′; forward = g′; reverse = h′; inbound = i′; references = j′ })
+same-sums p q r s t u v w x y = rw (p, q, r, s, t, u, v, w, x, y)
 
 plus-none : (c : Summed) → c ≡ plus none-yet c
 unfolding plus
 plus-none (Refused r) = refl
-plus-none (Sums u) = same-sums _ _ _ _ _ _ _ _ _ _ _ _ _ _ _ _ _ _ (omega arith) (omega arith) (omega arith) (omega arith) (omega arith) (omega arith) (omega arith) (omega arith) (omega arith)
+plus-none (Sums u) = same-sums (omega arith) (omega arith) (omega arith) (omega arith) (omega arith) (omega arith) (omega arith) (omega arith) (omega arith) (omega arith)
 
 pub sums-start : (l : List ℕ) → totalsOf (parse kinds l) ≡ plus none-yet (totalsOf (files kinds (length l - 0) l 0))
 unfolding parse
@@ -94,13 +112,14 @@ sums-start l = let z : length l - 0 ≡ length l = omega arith in rw z (plus-non
 
 plus-sums : (t : Totals) → plus t (Sums (totals [])) ≡ Sums t
 unfolding plus totals sum
-plus-sums t = same-sums _ _ _ _ _ _ _ _ _ _ _ _ _ _ _ _ _ _ (omega arith) (omega arith) (omega arith) (omega arith) (omega arith) (omega arith) (omega arith) (omega arith) (omega arith)
+plus-sums t = same-sums (omega arith) (omega arith) (omega arith) (omega arith) (omega arith) (omega arith) (omega arith) (omega arith) (omega arith) (omega arith)
 
-one-file : (l : List ℕ) (t : Totals) (f : FileAt) (u : Uncovers (f .tail .covered) (f .tail .cover)) (r : Parsed (List File))
+one-file : (l : List ℕ) (t : Totals) (f : FileAt) (u : Uncovers (f .tail .covered) (f .tail .cover))
+    (w : MayCite (f .tail .cited) l (f .front .head .rows) (f .tail .references) (f .tail .cites)) (r : Parsed (List File))
     → plus t (totalsOf (andThen r (λ fs q. got (fileIn l f ∷ fs) q))) ≡ plus (withFile t f) (totalsOf r)
 unfolding plus totalsOf totals withFile sum
-one-file l t f u broken = refl
-one-file l t f u (got fs q) =
+one-file l t f u w broken = refl
+one-file l t f u w (got fs q) =
     let a = rows-counted l f in
     let b = unresolved-counted l f in
     let c = roots-counted l f in
@@ -109,7 +128,8 @@ one-file l t f u (got fs q) =
     let g = inbound-counted l f in
     let h = ranges-counted l f u in
     let i = links-counted l f u in
-    same-sums _ _ _ _ _ _ _ _ _ _ _ _ _ _ _ _ _ _ (omega arith) (omega arith) (omega arith) (omega arith) (omega arith) (omega arith) (omega arith) (omega arith) (omega arith)
+    let j = references-counted l f w in
+    same-sums (omega arith) (omega arith) (omega arith) (omega arith) (omega arith) (omega arith) (omega arith) (omega arith) (omega arith) (omega arith)
 
 pub files-end : (n : ℕ) (l : List ℕ) (p : ℕ) → length l ≤ p → files kinds n l p ≡ got [] p
 unfolding files _>>=_
@@ -136,7 +156,7 @@ module _ {s : Summed} (l : List ℕ) (t : Totals) (p : ℕ) (e : s ≡ plus t (t
         rw (w) (go c)
       where
         go : AfterFile l p (FileIs f) → s ≡ plus (withFile t f) (totalsOf (files kinds (length l - withFile t f .files) l (f .tail .end)))
-        go c = rw (e, z, lt-leb (length l) p h, ← d, k) (one-file l t f (c .2 .5) (files kinds (length l - (t .files + 1)) l (f .tail .end)))
+        go c = rw (e, z, lt-leb (length l) p h, ← d, k) (one-file l t f (c .2 .5) (c .3 .tail .references) (files kinds (length l - (t .files + 1)) l (f .tail .end)))
 
 module _ (l : List ℕ) (p : ℕ) (x : FileRead) {f : FileAt} (a : AfterFile l p x) (e : x ≡ FileIs f) where
   pub file-past : p < f .tail .end
@@ -168,4 +188,5 @@ module _ (l : List ℕ) (p : ℕ) (x : FileRead) {f : FileAt} (a : AfterFile l p
             omega (arith, c .4 .0),
             omega (arith, c .4 .1),
             omega (arith, c .4 .2),
+            omega (arith, c .6),
           )

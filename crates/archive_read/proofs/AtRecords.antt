@@ -14,10 +14,10 @@ use Rattle.archive.specs.Reader.{Parsed, broken, got, andThen, _>>=_, whole, bo
 use Rattle.archive.specs.Parse
 use Rattle.archive.specs.Parse.{rootAt, file}
 use Rattle.archive_read.specs.bodies.View.{headIn, headOf, HeadInside, setEnd, edgesOf, EdgesInside, rowsOf, RowsInside, unresolvedOf, rootsOf, ListInside}
-use Rattle.archive_read.specs.bodies.View.{coverEnd, coverIn, coverOf, CoverInside}
+use Rattle.archive_read.specs.bodies.View.{coverEnd, coverIn, coverOf, CoverInside, referencesFrom, citedOf, CitedInside}
 use Rattle.archive_read.specs.Layout.{partIn, bodyOf, Inside, Ends, Holds, HoldsHead, HoldsSets, FewDeltas, optionalOf, AfterOptional, front, frontIn, frontOf}
-use Rattle.archive_read.specs.Layout.{AfterFront, middle, middleIn, middleOf, AfterMiddle, tail, tailIn, tailOf, tailWith, AfterTail, rest, restOf, AfterRest}
-use Rattle.archive_read.specs.Layout.{fileFrom, fileIn, AfterFile}
+use Rattle.archive_read.specs.Layout.{AfterFront, middle, middleIn, middleOf, AfterMiddle, tail, tailIn, tailOf, covered, coveredWith, AfterTail, rest, restOf, AfterRest}
+use Rattle.archive_read.specs.Layout.{citesOf, AfterCites, Plain, citedTail, citedWith, fileFrom, fileIn, AfterFile}
 use Rattle.archive_read.specs.declared.records.Body.{Body}
 use Rattle.archive_read.specs.declared.records.Body.the-variants.{BodyAt, NoBody}
 use Rattle.archive_read.specs.declared.bodies.HeadAt.{HeadAt}
@@ -34,6 +34,8 @@ use Rattle.archive_read.specs.declared.bodies.CoverRead.the-variants.{Co
 use Rattle.archive_read.specs.declared.records.Part.{Part}
 use Rattle.archive_read.specs.declared.records.Optional.{Optional}
 use Rattle.archive_read.specs.declared.records.Optional.the-variants.{Covered, Uncovered, BadCover}
+use Rattle.archive_read.specs.declared.records.Cites.{Cites}
+use Rattle.archive_read.specs.declared.records.Cites.the-variants.{Cited, Uncited, BadCites}
 use Rattle.archive_read.specs.declared.records.FrontAt.{FrontAt}
 use Rattle.archive_read.specs.declared.records.FrontRead.{FrontRead}
 use Rattle.archive_read.specs.declared.records.FrontRead.the-variants.{FrontIs, NoFront}
@@ -108,6 +110,11 @@ module _ (l : List ℕ) (p : ℕ) (x : Body) {a : Part} (i : Inside l p x) (d : 
         let u = rw e at h in
         (ends, (few (c .ranges) (omega arith), few (c .links) (omega arith)), holds (coverEnd n (c .ranges) (c .links)) u)
 
+    pub cites-after : (n : ℕ) (y : Counted) {c : ℕ} → CitedInside b n y → y ≡ CountIs c → AfterCites l p n (Cited c a)
+    cites-after n y {c} h e =
+        let u = rw e at h in
+        (ends, few c (u .0), record { holds = holds c (u .0); counted = rw (← t) (u .1) })
+
 -- ── 6, if it is there ────────────────────────────────────────────────────────────────────────
 
 pub no-kind-byte : (l : List ℕ) (p : ℕ) → p ≤ length l → length l - p ≤ 5 → 0 ≡ getD l (p + 5) 0
@@ -136,6 +143,27 @@ module _ (l : List ℕ) (p n : ℕ) {k : ℕ} (d : k ≡ getD l (p + 5) 0) where
       pub has-cover : {c : CoverAt} → y ≡ CoverIs c → got (some (coverIn (partIn l a) n c)) (a .end) ≡ optionally 6 (Parse.cover n) l p
       unfolding optionally recordOf _>>=_
       has-cover m = rw (← d, eq-eqb k 6 h, ← e, f, ← t, ← g, m)
+
+-- ── 7, if it is there ────────────────────────────────────────────────────────────────────────
+
+module _ (l : List ℕ) (p n : ℕ) {k : ℕ} (d : k ≡ getD l (p + 5) 0) where
+  pub no-cites : (k ≡ 7 → ⊥) → got none p ≡ optionally 7 (Parse.references n) l p
+  unfolding optionally
+  no-cites h = rw (← d, ne-eqb k 7 h)
+
+  module _ (h : k ≡ 7) (x : Body) (e : bodyOf l x ≡ body 7 l p) where
+    pub bad-cites1 : x ≡ NoBody → broken ≡ optionally 7 (Parse.references n) l p
+    unfolding optionally recordOf _>>=_
+    bad-cites1 f = rw (← d, eq-eqb k 7 h, ← e, f)
+
+    module _ {a : Part} {b : List ℕ} (y : Counted) (f : x ≡ BodyAt a) (t : b ≡ partIn l a) (g : citedOf b n y ≡ whole (Parse.references n) b) where
+      pub bad-cites2 : y ≡ NoCount → broken ≡ optionally 7 (Parse.references n) l p
+      unfolding optionally recordOf _>>=_
+      bad-cites2 m = rw (← d, eq-eqb k 7 h, ← e, f, ← t, ← g, m)
+
+      pub has-cites : {c : ℕ} → y ≡ CountIs c → got (some (referencesFrom n (partIn l a))) (a .end) ≡ optionally 7 (Parse.references n) l p
+      unfolding optionally recordOf _>>=_
+      has-cites m = rw (← d, eq-eqb k 7 h, ← e, f, ← t, ← g, m)
 
 -- ── records in pairs ─────────────────────────────────────────────────────────────────────────
 
@@ -215,39 +243,101 @@ middle-after l p n x {a} i d t r j e z k f u w o g =
     )
 
 module _ (l : List ℕ) (p n : ℕ) (x : Body) (d : bodyOf l x ≡ body 5 l p) where
-  pub no-tail1 : x ≡ NoBody → broken ≡ tail n l p
-  unfolding tail recordOf _>>=_
-  no-tail1 e = rw (← d, e)
+  pub no-covered1 : x ≡ NoBody → broken ≡ covered n l p
+  unfolding covered recordOf _>>=_
+  no-covered1 e = rw (← d, e)
 
   module _ {a : Part} {b : List ℕ} (w : Counted) (e : x ≡ BodyAt a) (t : b ≡ partIn l a) (f : rootsOf b w ≡ whole Parse.roots b) where
-    pub no-tail2 : w ≡ NoCount → broken ≡ tail n l p
-    unfolding tail recordOf _>>=_
-    no-tail2 g = rw (← d, e, ← t, ← f, g)
+    pub no-covered2 : w ≡ NoCount → broken ≡ covered n l p
+    unfolding covered recordOf _>>=_
+    no-covered2 g = rw (← d, e, ← t, ← f, g)
 
-    pub is-tail : {m : ℕ} {r : TailRead} (y : Optional) → w ≡ CountIs m → optionalOf l n (a .end) y ≡ optionally 6 (Parse.cover n) l (a .end) → r ≡ tailWith m a y
-        → tailOf l n r ≡ tail n l p
-    unfolding tail recordOf _>>=_ tailWith tailIn
-    is-tail {m} y g k h = rw (← d, e, ← t, ← f, g, ← k, h, t) (go y)
+    pub is-covered : {m : ℕ} {r : TailRead} (y : Optional) → w ≡ CountIs m → optionalOf l n (a .end) y ≡ optionally 6 (Parse.cover n) l (a .end) → r ≡ coveredWith m a y
+        → tailOf l n r ≡ covered n l p
+    unfolding covered recordOf _>>=_ coveredWith tailIn
+    is-covered {m} y g k h = rw (← d, e, ← t, ← f, g, ← k, h, t) (go y)
       where
-        go : (y : Optional) → tailOf l n (tailWith m a y) ≡ andThen (optionalOf l n (a .end) y) (λ c q. got (record { roots = several 16 rootAt m (drop 4 (partIn l a)); cover = c }) q)
+        go : (y : Optional) → tailOf l n (coveredWith m a y) ≡ andThen (optionalOf l n (a .end) y) (λ c q. got (record { roots = several 16 rootAt m (drop 4 (partIn l a)); cover = c; references = none }) q)
         go BadCover = refl
         go Uncovered = refl
         go (Covered c b) = refl
 
-pub tail-after : (l : List ℕ) (p n : ℕ) (x : Body) {a : Part} {b : List ℕ} → Inside l p x → x ≡ BodyAt a → b ≡ partIn l a → (w : Counted) {m : ℕ} → ListInside 16 b w → w ≡ CountIs m
-    → (y : Optional) {r : TailRead} → AfterOptional l (a .end) n y → r ≡ tailWith m a y → AfterTail l p n r
-unfolding tailWith
-tail-after l p n x {a} i d t w {m} j e y k g = rw g (go y k)
+pub covered-after : (l : List ℕ) (p n : ℕ) (x : Body) {a : Part} {b : List ℕ} → Inside l p x → x ≡ BodyAt a → b ≡ partIn l a → (w : Counted) {m : ℕ} → ListInside 16 b w → w ≡ CountIs m
+    → (y : Optional) {r : TailRead} → AfterOptional l (a .end) n y → r ≡ coveredWith m a y → AfterTail l p n r
+unfolding coveredWith
+covered-after l p n x {a} i d t w {m} j e y k g = rw g (go y k)
   where
     u : Ends l p a × (p + m ≤ a .end) × Holds l a (4 + m * 16)
     u = (ends l p x i d, few-listed l p x i d t 16 w j e, holds-list l p x i d t 16 w j e)
 
-    go : (y : Optional) → AfterOptional l (a .end) n y → AfterTail l p n (tailWith m a y)
+    go : (y : Optional) → AfterOptional l (a .end) n y → AfterTail l p n (coveredWith m a y)
     go BadCover j = tt
     go Uncovered j = let w = u in
-        (w .0 .0, w .0 .1, w .1, (omega (arith, w .0 .0), omega (arith, w .0 .0)), (omega arith, omega arith), record { roots = w .2; cover = tt })
-    go (Covered c b) j = let w = u in
-        (omega (arith, w .0 .0, j .0 .0), j .0 .1, omega (arith, w .1, j .0 .0), (omega (arith, w .0 .0, j .1 .0), omega (arith, w .0 .0, j .1 .1)), tt, record { roots = w .2; cover = j .2 })
+        (w .0 .0, w .0 .1, w .1, (omega (arith, w .0 .0), omega (arith, w .0 .0)), (omega arith, omega arith), record { roots = w .2; cover = tt; references = omega arith }, omega (arith, w .0 .0))
+    go (Covered c b) j = let w = u in (
+      omega (arith, w .0 .0, j .0 .0),
+      j .0 .1,
+      omega (arith, w .1, j .0 .0),
+      (omega (arith, w .0 .0, j .1 .0), omega (arith, w .0 .0, j .1 .1)),
+      tt,
+      record { roots = w .2; cover = j .2; references = omega arith },
+      omega (arith, w .0 .0, j .0 .0),
+    )
+
+module _ (l : List ℕ) (p n : ℕ) (x : TailRead) (d : tailOf l n x ≡ covered n l p) where
+  pub no-tail : x ≡ NoTail → broken ≡ tail n l p
+  unfolding tail _>>=_
+  no-tail e = rw (← d, e)
+
+  pub is-tail : {t : TailAt} {r : TailRead} (c : Cites) → Plain x → x ≡ TailIs t → citesOf l n (t .end) c ≡ optionally 7 (Parse.references n) l (t .end) → r ≡ citedWith t c
+      → tailOf l n r ≡ tail n l p
+  unfolding tail _>>=_ citedTail tailIn
+  is-tail {t} c h e f g = rw (← d, e, ← f, g) (go c)
+    where
+      plain : t .cited ≡ false
+      plain = rw e at h
+
+      go : (c : Cites)
+          → tailOf l n (citedWith t c) ≡ andThen (citesOf l n (t .end) c) (λ xs q. got (record { roots = tailIn l n t .roots; cover = tailIn l n t .cover; references = xs }) q)
+      go BadCites = refl
+      go Uncited = rw plain
+      go (Cited m a) = refl
+
+pub cited-with : (t : TailAt) (c : Cites) {n : ℕ} {a : Part} {u : TailAt} → c ≡ Cited n a → u ≡ citedTail t n a → TailIs u ≡ citedWith t c
+cited-with t c e f = rw (e, f)
+
+pub covered-plain : (m : ℕ) (a : Part) {r : TailRead} (y : Optional) → r ≡ coveredWith m a y → Plain r
+unfolding coveredWith
+covered-plain m a y g = rw g (go y)
+  where
+    go : (y : Optional) → Plain (coveredWith m a y)
+    go BadCover = tt
+    go Uncovered = refl
+    go (Covered c b) = refl
+
+pub tail-after : (l : List ℕ) (p n : ℕ) (x : TailRead) {t : TailAt} → AfterTail l p n x → x ≡ TailIs t → (c : Cites) {r : TailRead} → AfterCites l (t .end) n c → r ≡ citedWith t c
+    → AfterTail l p n r
+unfolding citedTail
+tail-after l p n x {t} i e c k g = rw g (go c k)
+  where
+    u : AfterTail l p n (TailIs t)
+    u = rw e at i
+
+    go : (c : Cites) → AfterCites l (t .end) n c → AfterTail l p n (citedWith t c)
+    go BadCites j = tt
+    go Uncited j = u
+    go (Cited m a) j = let w = u in (
+      omega (arith, w .0, j .0 .0),
+      j .0 .1,
+      omega (arith, w .2, j .0 .0),
+      (omega (arith, w .3 .0, j .0 .0), omega (arith, w .3 .1, j .0 .0)),
+      w .4,
+      record { roots = w .5 .roots; cover = w .5 .cover; references = j .2 },
+      omega (arith, w .0, j .1),
+    )
+
+pub tail-end-fits : (l : List ℕ) (p n : ℕ) (x : TailRead) {t : TailAt} → AfterTail l p n x → x ≡ TailIs t → t .end ≤ length l
+tail-end-fits l p n x i e = (rw e at i) .1
 
 module _ (l : List ℕ) (p n : ℕ) (x : MiddleRead) (d : middleOf l n x ≡ middle n l p) where
   pub no-rest1 : x ≡ NoMiddle → broken ≡ rest n l p
@@ -277,6 +367,7 @@ rest-after l p n x i e y j f =
       v .4,
       u .3,
       v .5,
+      omega (arith, u .0 .0, v .6),
     )
 
 -- ── a file ───────────────────────────────────────────────────────────────────────────────────
@@ -286,7 +377,7 @@ andThen-assoc broken f g = refl
 andThen-assoc (got x q) f g = refl
 
 pub file-parts : (l : List ℕ) (p : ℕ) → andThen (front l p) (λ f q. andThen (rest (f .head .rows) l q) (λ r q. got (fileFrom f r) q)) ≡ file kinds l p
-unfolding file front rest middle tail fileFrom _>>=_
+unfolding file front rest middle tail covered fileFrom _>>=_
 file-parts l p = simp andThen-assoc
 
 module _ (l : List ℕ) (p : ℕ) (x : FrontRead) (d : frontOf l x ≡ front l p) where
@@ -316,6 +407,7 @@ file-after l p x i e y j g =
         (omega (arith, u .0 .0, v .5 .0), omega (arith, u .0 .0, v .5 .1)),
         (omega (arith, u .1 .0, v .0), omega (arith, u .1 .1, v .0), omega (arith, u .1 .2, v .0)),
         v .6,
+        omega (arith, u .0 .0, v .9),
       ),
       record { head = u .2; sets = u .3; middle = v .7; tail = v .8 },
     )

@@ -2,15 +2,17 @@
 use mathlib.Core.Bool.{Bool, true, false, cond}
 use mathlib.Core.List.{List}
 use mathlib.Core.Option.{Option, none, some}
+use mathlib.Core.Path.{_≡_}
 use Prim.Native.Nat.{ℕ, _+_, _*_, _≤_, _<_}
 use lib.ListN.{length, drop}
+use Rattle.lists.specs.Lists.{sum}
 use Rattle.columns.specs.Limits.{kinds}
 use Rattle.archive.specs.Bytes.{several}
 use Rattle.archive.specs.Reader.{Parsed, broken, got, Reader, _>>=_, return, recordOf, optionally}
-use Rattle.archive.specs.File.{Row, Unresolved, Root, CoverColumns, File}
+use Rattle.archive.specs.File.{Row, Unresolved, Root, CoverColumns, Reference, File}
 use Rattle.archive.specs.Parse
-use Rattle.archive.specs.Parse.{Head, Sets, rowAt, unresolvedAt, rootAt}
-use Rattle.archive_read.specs.bodies.View.{bodyIn, headIn, setEnd, setsIn, coverEnd, coverIn}
+use Rattle.archive.specs.Parse.{Head, Sets, rowAt, unresolvedAt, rootAt, referencesOf}
+use Rattle.archive_read.specs.bodies.View.{bodyIn, headIn, setEnd, setsIn, coverEnd, coverIn, referencesFrom}
 use Rattle.archive_read.specs.declared.bodies.HeadAt.{HeadAt}
 use Rattle.archive_read.specs.declared.bodies.EdgesAt.{EdgesAt}
 use Rattle.archive_read.specs.declared.bodies.CoverAt.{CoverAt}
@@ -19,6 +21,8 @@ use Rattle.archive_read.specs.declared.records.Body.{Body}
 use Rattle.archive_read.specs.declared.records.Body.the-variants.{BodyAt, NoBody}
 use Rattle.archive_read.specs.declared.records.Optional.{Optional}
 use Rattle.archive_read.specs.declared.records.Optional.the-variants.{Covered, Uncovered, BadCover}
+use Rattle.archive_read.specs.declared.records.Cites.{Cites}
+use Rattle.archive_read.specs.declared.records.Cites.the-variants.{Cited, Uncited, BadCites}
 use Rattle.archive_read.specs.declared.records.FrontAt.{FrontAt}
 use Rattle.archive_read.specs.declared.records.FrontRead.{FrontRead}
 use Rattle.archive_read.specs.declared.records.FrontRead.the-variants.{FrontIs, NoFront}
@@ -89,6 +93,21 @@ AfterOptional l p rows BadCover = Unit {0}
 AfterOptional l p rows Uncovered = Unit {0}
 AfterOptional l p rows (Covered c a) = Ends l p a × FewOf p c (a .end) × HoldsCover l rows c a
 
+-- 7: so many references, which are there
+pub record HoldsCites (l : List ℕ) (rows n : ℕ) (a : Part) : Type 0 where
+  pub holds : Holds l a n
+  pub counted : n ≡ sum length (referencesFrom rows (partIn l a))
+
+abbrev pub citesOf : List ℕ → ℕ → ℕ → Cites → Parsed (Option (List (List Reference)))
+citesOf l rows p BadCites = broken
+citesOf l rows p Uncited = got none p
+citesOf l rows p (Cited n a) = got (some (referencesFrom rows (partIn l a))) (a .end)
+
+abbrev pub AfterCites : List ℕ → ℕ → ℕ → Cites → Type 0
+AfterCites l p rows BadCites = Unit {0}
+AfterCites l p rows Uncited = Unit {0}
+AfterCites l p rows (Cited n a) = Ends l p a × (p + n ≤ a .end) × HoldsCites l rows n a
+
 -- ── records in pairs ─────────────────────────────────────────────────────────────────────────
 
 pub record Front : Type 0 where
@@ -141,17 +160,26 @@ AfterMiddle l p n (MiddleIs m) = Ends l p (m .unresolved) × (p + n ≤ m .unres
 pub record Tail : Type 0 where
   pub roots : List Root
   pub cover : Option CoverColumns
+  pub references : Option (List (List Reference))
+
+-- the roots and the cover
+unfoldable pub covered : ℕ → Reader Tail
+covered n = do
+  ts ← recordOf 5 Parse.roots
+  c ← optionally 6 (Parse.cover n)
+  return (record { roots = ts; cover = c; references = none })
 
 unfoldable pub tail : ℕ → Reader Tail
 tail n = do
-  ts ← recordOf 5 Parse.roots
-  c ← optionally 6 (Parse.cover n)
-  return (record { roots = ts; cover = c })
+  t ← covered n
+  xs ← optionally 7 (Parse.references n)
+  return (record { roots = t .roots; cover = t .cover; references = xs })
 
 unfoldable pub tailIn : List ℕ → ℕ → TailAt → Tail
 tailIn l n t = record {
   roots = several 16 rootAt (t .count) (drop 4 (partIn l (t .roots)));
   cover = cond (t .covered) (some (coverIn (partIn l (t .body)) n (t .cover))) none;
+  references = cond (t .cited) (some (referencesFrom n (partIn l (t .cites)))) none;
 }
 
 abbrev pub tailOf : List ℕ → ℕ → TailRead → Parsed Tail
@@ -159,10 +187,36 @@ tailOf l n NoTail = broken
 tailOf l n (TailIs t) = got (tailIn l n t) (t .end)
 
 -- a tail from the roots and what came of looking for a cover
-unfoldable pub tailWith : ℕ → Part → Optional → TailRead
-tailWith n a BadCover = NoTail
-tailWith n a Uncovered = TailIs (record { count = n; roots = a; covered = false; cover = record { ranges = 0; links = 0 }; body = a; end = a .end })
-tailWith n a (Covered c b) = TailIs (record { count = n; roots = a; covered = true; cover = c; body = b; end = b .end })
+unfoldable pub coveredWith : ℕ → Part → Optional → TailRead
+coveredWith n a BadCover = NoTail
+coveredWith n a Uncovered =
+    TailIs (record { count = n; roots = a; covered = false; cover = record { ranges = 0; links = 0 }; body = a; cited = false; references = 0; cites = a; end = a .end })
+coveredWith n a (Covered c b) = TailIs (record { count = n; roots = a; covered = true; cover = c; body = b; cited = false; references = 0; cites = a; end = b .end })
+
+-- no references are looked for yet
+abbrev pub Plain : TailRead → Type 0
+Plain NoTail = Unit {0}
+Plain (TailIs t) = t .cited ≡ false
+
+-- a tail with references
+unfoldable pub citedTail : TailAt → ℕ → Part → TailAt
+citedTail t n a = record {
+  count = t .count;
+  roots = t .roots;
+  covered = t .covered;
+  cover = t .cover;
+  body = t .body;
+  cited = true;
+  references = n;
+  cites = a;
+  end = a .end;
+}
+
+-- a tail with what came of looking for references
+abbrev pub citedWith : TailAt → Cites → TailRead
+citedWith t BadCites = NoTail
+citedWith t Uncited = TailIs t
+citedWith t (Cited n a) = TailIs (citedTail t n a)
 
 -- where there is no cover, it has no ranges and no links
 abbrev pub Uncovers : Bool → CoverAt → Type 0
@@ -174,14 +228,21 @@ abbrev pub MayCover : Bool → List ℕ → ℕ → CoverAt → Part → Type 0
 MayCover true l rows c a = HoldsCover l rows c a
 MayCover false l rows c a = Unit {0}
 
--- the roots are there, and the cover where there is one
+-- the references are there where there are some
+abbrev pub MayCite : Bool → List ℕ → ℕ → ℕ → Part → Type 0
+MayCite true l rows n a = HoldsCites l rows n a
+MayCite false l rows n a = n ≤ 0
+
+-- the roots are there, and the cover and the references where there are any
 pub record HoldsTail (l : List ℕ) (rows : ℕ) (t : TailAt) : Type 0 where
   pub roots : Holds l (t .roots) (4 + t .count * 16)
   pub cover : MayCover (t .covered) l rows (t .cover) (t .body)
+  pub references : MayCite (t .cited) l rows (t .references) (t .cites)
 
 abbrev pub AfterTail : List ℕ → ℕ → ℕ → TailRead → Type 0
 AfterTail l p n NoTail = Unit {0}
 AfterTail l p n (TailIs t) = (p < t .end) × (t .end ≤ length l) × (p + t .count ≤ t .end) × FewOf p (t .cover) (t .end) × Uncovers (t .covered) (t .cover) × HoldsTail l n t
+    × (p + t .references ≤ t .end)
 
 pub record Rest : Type 0 where
   pub middle : Middle
@@ -201,7 +262,7 @@ abbrev pub AfterRest : List ℕ → ℕ → ℕ → RestRead → Type 0
 AfterRest l p n NoRest = Unit {0}
 AfterRest l p n (RestIs m t) =
     (p < t .end) × (t .end ≤ length l) × (p + n ≤ t .end) × (p + m .count ≤ t .end) × (p + t .count ≤ t .end) × FewOf p (t .cover) (t .end) × Uncovers (t .covered) (t .cover)
-    × HoldsMiddle l n m × HoldsTail l n t
+    × HoldsMiddle l n m × HoldsTail l n t × (p + t .references ≤ t .end)
 
 -- ── a file ───────────────────────────────────────────────────────────────────────────────────
 
@@ -218,6 +279,7 @@ fileFrom f r = record {
   unresolved = r .middle .unresolved;
   roots = r .tail .roots;
   cover = r .tail .cover;
+  references = referencesOf (r .middle .rows) (r .tail .references);
 }
 
 -- the file whose parts lie at the given places
@@ -233,6 +295,7 @@ abbrev pub Counts : ℕ → FileAt → Type 0
 Counts p f =
     (p + f .front .head .rows ≤ f .tail .end) × (p + f .middle .count ≤ f .tail .end) × (p + f .tail .count ≤ f .tail .end)
     × FewOf p (f .tail .cover) (f .tail .end) × FewDeltas p (f .front .edges) (f .tail .end) × Uncovers (f .tail .covered) (f .tail .cover)
+    × (p + f .tail .references ≤ f .tail .end)
 
 -- every part of a file is there
 pub record HoldsFile (l : List ℕ) (f : FileAt) : Type 0 where

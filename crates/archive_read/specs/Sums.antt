@@ -31,6 +31,7 @@ totals fs = record {
   forward = sum (λ f. length (f .forward .deltas)) fs;
   reverse = sum (λ f. length (f .reverse .deltas)) fs;
   inbound = sum (λ f. length (f .inbound .deltas)) fs;
+  references = sum (λ f. sum length (f .references)) fs;
 }
 
 -- what an archive's bytes come to: 23, or the sums over its files
@@ -50,13 +51,14 @@ withFile t f = record {
   forward = t .forward + f .front .edges .forwards;
   reverse = t .reverse + f .front .edges .reverses;
   inbound = t .inbound + f .front .edges .inbounds;
+  references = t .references + f .tail .references;
 }
 
 -- no sum is above p
 abbrev pub Below : Totals → ℕ → Type 0
 Below t p =
     (t .files ≤ p) × (t .events ≤ p) × (t .roots ≤ p) × (t .unresolved ≤ p) × (t .ranges ≤ p) × (t .links ≤ p)
-    × (t .forward ≤ p) × (t .reverse ≤ p) × (t .inbound ≤ p)
+    × (t .forward ≤ p) × (t .reverse ≤ p) × (t .inbound ≤ p) × (t .references ≤ p)
 
 unfoldable pub plus : Totals → Summed → Summed
 plus t (Refused r) = Refused r
@@ -70,4 +72,5 @@ plus t (Sums u) = Sums (record {
   forward = t .forward + u .forward;
   reverse = t .reverse + u .reverse;
   inbound = t .inbound + u .inbound;
+  references = t .references + u .references;
 })

@@ -21,6 +21,7 @@ pub struct Totals {
     pub forward: usize,
     pub reverse: usize,
     pub inbound: usize,
+    pub references: usize,
 }
 
 pub enum Summed {
@@ -49,6 +50,7 @@ fn with_file(t: Totals, f: FileAt, p: usize) -> Totals
         forward: t.forward + s.forwards,
         reverse: t.reverse + s.reverses,
         inbound: t.inbound + s.inbounds,
+        references: t.references + e.references,
     }
 }
 
@@ -66,6 +68,7 @@ pub fn sum_up(bytes: &[u8]) -> Summed
         forward: 0,
         reverse: 0,
         inbound: 0,
+        references: 0,
     };
     let mut p = 0;
     while p < bytes.len() {

@@ -2,3 +2,4 @@
 pub mod bodies;
 pub mod files;
 pub mod records;
+pub mod references;

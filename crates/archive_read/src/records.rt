@@ -12,15 +12,16 @@ use crate::bodies::head_body;
 use crate::bodies::roots_body;
 use crate::bodies::rows_body;
 use crate::bodies::unresolved_body;
+use crate::references::references_body;
 use arrays::index;
 ghost use mathlib.Core.Path.{_≡_};
 ghost use Prim.Native.Nat.{_+_, _≤_};
 ghost use lib.ListN.{length, getD};
 ghost use Rattle.columns.specs.Limits.{kinds};
 ghost use Rattle.archive.specs.Reader.{body, optionally};
-ghost use Rattle.archive.specs.Parse.{cover, file};
+ghost use Rattle.archive.specs.Parse.{cover, references, file};
 ghost use Rattle.archive_read.specs.Layout.{partIn, bodyOf, Inside, optionalOf, AfterOptional, front, frontOf, AfterFront, middle, middleOf, AfterMiddle, tail};
-ghost use Rattle.archive_read.specs.Layout.{tailOf, tailWith, AfterTail, rest, restOf, AfterRest, fileOf, AfterFile};
+ghost use Rattle.archive_read.specs.Layout.{citesOf, AfterCites, tailOf, covered, coveredWith, Plain, AfterTail, citedTail, citedWith, rest, restOf, AfterRest, fileOf, AfterFile};
 
 // The body of a record: the bytes from `at` up to `end`.
 pub struct Part {
@@ -64,13 +65,24 @@ pub enum MiddleRead {
     NoMiddle,
 }
 
-// Record 5 and how many roots there are; record 6 where there is one; the place after them.
+// How many references record 7 has, where there is one.
+pub enum Cites {
+    Cited { count: usize, part: Part },
+    Uncited,
+    BadCites,
+}
+
+// Record 5 and how many roots there are; record 6 where there is one; record 7 where there is one, and how many references it has; the place
+// after them.
 pub struct TailAt {
     pub count: usize,
     pub roots: Part,
     pub covered: bool,
     pub cover: CoverAt,
     pub body: Part,
+    pub cited: bool,
+    pub references: usize,
+    pub cites: Part,
     pub end: usize,
 }
 
@@ -168,6 +180,28 @@ fn optional_record(bytes: &[u8], p: usize, n: u32) -> Optional
     }
 }
 
+fn cited_record(bytes: &[u8], p: usize, n: u32) -> Cites
+    requires { ⌜ p ≤ length (now bytes) ⌝ }
+    ensures { λ r. ⌜ citesOf (now (bytes .entry)) n p r ≡ optionally 7 (references n) (now (bytes .entry)) p ⌝ }
+    ensures { λ r. ⌜ AfterCites (now (bytes .entry)) p n r ⌝ }
+{
+    if kind_at(bytes, p) != 7 {
+        return Cites::Uncited;
+    }
+    let x = find_body(bytes, p, 7);
+    let Body::BodyAt(part) = x else {
+        return Cites::BadCites;
+    };
+    let y = references_body(bytes_of(bytes, part), n);
+    let Counted::CountIs(count) = y else {
+        return Cites::BadCites;
+    };
+    Cites::Cited {
+        count: count,
+        part: part,
+    }
+}
+
 fn read_front(bytes: &[u8], p: usize) -> FrontRead
     ensures { λ r. ⌜ frontOf (now (bytes .entry)) r ≡ front (now (bytes .entry)) p ⌝ }
     ensures { λ r. ⌜ AfterFront (now (bytes .entry)) p r ⌝ }
@@ -227,7 +261,7 @@ fn read_middle(bytes: &[u8], p: usize, n: u32) -> MiddleRead
 
 // A tail from the roots and what came of looking for a cover.
 fn tail_of(count: usize, part: Part, c: Optional) -> TailRead
-    ensures { λ r. ⌜ r ≡ tailWith count part c ⌝ }
+    ensures { λ r. ⌜ r ≡ coveredWith count part c ⌝ }
 {
     let end = part.end;
     match c {
@@ -241,6 +275,9 @@ fn tail_of(count: usize, part: Part, c: Optional) -> TailRead
                 links: 0,
             },
             body: part,
+            cited: false,
+            references: 0,
+            cites: part,
             end: end,
         }),
         Optional::Covered { cover, part: body } => {
@@ -251,15 +288,19 @@ fn tail_of(count: usize, part: Part, c: Optional) -> TailRead
                 covered: true,
                 cover: cover,
                 body: body,
+                cited: false,
+                references: 0,
+                cites: part,
                 end: last,
             })
         }
     }
 }
 
-fn read_tail(bytes: &[u8], p: usize, n: u32) -> TailRead
-    ensures { λ r. ⌜ tailOf (now (bytes .entry)) n r ≡ tail n (now (bytes .entry)) p ⌝ }
-    ensures { λ r. ⌜ AfterTail (now (bytes .entry)) p n r ⌝ }
+// The roots and the cover.
+fn read_covered(bytes: &[u8], p: usize, n: u32) -> TailRead
+    ensures { λ r. ⌜ tailOf (now (bytes .entry)) n r ≡ covered n (now (bytes .entry)) p ⌝ }
+    ensures { λ r. ⌜ AfterTail (now (bytes .entry)) p n r × Plain r ⌝ }
 {
     let x = find_body(bytes, p, 5);
     let Body::BodyAt(part) = x else {
@@ -272,6 +313,51 @@ fn read_tail(bytes: &[u8], p: usize, n: u32) -> TailRead
     let q = part.end;
     let c = optional_record(bytes, q, n);
     tail_of(count, part, c)
+}
+
+// A tail with references.
+fn with_cites(t: TailAt, count: usize, part: Part) -> TailAt
+    ensures { λ r. ⌜ r ≡ citedTail t count part ⌝ }
+{
+    let roots = t.roots;
+    let cover = t.cover;
+    let body = t.body;
+    let last = part.end;
+    TailAt {
+        count: t.count,
+        roots: roots,
+        covered: t.covered,
+        cover: cover,
+        body: body,
+        cited: true,
+        references: count,
+        cites: part,
+        end: last,
+    }
+}
+
+// A tail with what came of looking for references.
+fn cite(t: TailAt, c: Cites) -> TailRead
+    ensures { λ r. ⌜ r ≡ citedWith t c ⌝ }
+{
+    match c {
+        Cites::BadCites => TailRead::NoTail,
+        Cites::Uncited => TailRead::TailIs(t),
+        Cites::Cited { count, part } => TailRead::TailIs(with_cites(t, count, part)),
+    }
+}
+
+fn read_tail(bytes: &[u8], p: usize, n: u32) -> TailRead
+    ensures { λ r. ⌜ tailOf (now (bytes .entry)) n r ≡ tail n (now (bytes .entry)) p ⌝ }
+    ensures { λ r. ⌜ AfterTail (now (bytes .entry)) p n r ⌝ }
+{
+    let x = read_covered(bytes, p, n);
+    let TailRead::TailIs(t) = x else {
+        return TailRead::NoTail;
+    };
+    let q = t.end;
+    let c = cited_record(bytes, q, n);
+    cite(t, c)
 }
 
 fn read_rest(bytes: &[u8], p: usize, n: u32) -> RestRead

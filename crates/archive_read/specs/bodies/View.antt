@@ -1,17 +1,19 @@
 -- What the reader's answers say of the bytes that they were read from: a body is the bytes between two places, and the numbers of an answer say which
 -- parts of it are a file's columns.
 use mathlib.Core.Bool.{Bool, true, false, cond}
-use mathlib.Core.List.{List, map}
-use Prim.Native.Nat.{ℕ, _+_, _-_, _*_, _≤_}
+use mathlib.Core.List.{List, [], _∷_, map}
+use mathlib.Core.Path.{_≡_}
+use Prim.Native.Nat.{ℕ, zero, suc, _+_, _-_, _*_, _≤_}
 use lib.ListN.{length, take, drop}
+use Rattle.lists.specs.Lists.{sum}
 use Rattle.columns.specs.Limits.{kinds}
 use Rattle.columns.specs.EdgeSet.{EdgeSet}
 use Rattle.archive_bytes.specs.Bytes.{column}
-use Rattle.archive.specs.Bytes.{signedOf, several}
+use Rattle.archive.specs.Bytes.{be, signedOf, several}
 use Rattle.archive.specs.Reader.{Parsed, broken, got}
-use Rattle.archive.specs.File.{Row, Unresolved, Root, CoverColumns}
+use Rattle.archive.specs.File.{Row, Unresolved, Root, CoverColumns, Reference}
 use Rattle.archive.specs.Parse
-use Rattle.archive.specs.Parse.{Head, depthRead, Sets, rowAt, unresolvedAt, rootAt, rangeAt}
+use Rattle.archive.specs.Parse.{Head, depthRead, Sets, rowAt, unresolvedAt, rootAt, rangeAt, referenceAt}
 use Rattle.archive_read.specs.declared.bodies.HeadAt.{HeadAt}
 use Rattle.archive_read.specs.declared.bodies.HeadRead.{HeadRead}
 use Rattle.archive_read.specs.declared.bodies.HeadRead.the-variants.{HeadIs, NoHead}
@@ -125,3 +127,26 @@ coverOf b rows (CoverIs c) = got (coverIn b rows c) (length b)
 abbrev pub CoverInside : List ℕ → ℕ → CoverRead → Type 0
 CoverInside b rows NoCover = Unit {0}
 CoverInside b rows (CoverIs c) = coverEnd rows (c .ranges) (c .links) ≤ length b
+
+-- 7: the references of a row that stands at place p
+abbrev pub rowCited : List ℕ → ℕ → Counted → Parsed (List Reference)
+rowCited b p NoCount = broken
+rowCited b p (CountIs n) = got (several 10 referenceAt n (drop (p + 4) b)) (p + 4 + n * 10)
+
+abbrev pub RowInside : List ℕ → ℕ → Counted → Type 0
+RowInside b p NoCount = Unit {0}
+RowInside b p (CountIs n) = p + 4 + n * 10 ≤ length b
+
+-- the references of n rows from the front of the bytes on
+unfoldable pub referencesFrom : ℕ → List ℕ → List (List Reference)
+referencesFrom zero b = []
+referencesFrom (suc n) b = several 10 referenceAt (be 4 b 0) (drop 4 b) ∷ referencesFrom n (drop (4 + be 4 b 0 * 10) b)
+
+abbrev pub citedOf : List ℕ → ℕ → Counted → Parsed (List (List Reference))
+citedOf b rows NoCount = broken
+citedOf b rows (CountIs n) = got (referencesFrom rows b) (length b)
+
+-- so many references in all, which are there
+abbrev pub CitedInside : List ℕ → ℕ → Counted → Type 0
+CitedInside b rows NoCount = Unit {0}
+CitedInside b rows (CountIs n) = (n ≤ length b) × (n ≡ sum length (referencesFrom rows b))

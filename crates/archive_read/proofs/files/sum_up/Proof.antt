@@ -17,7 +17,7 @@ abbrev μ-loop : tie.MeasureT-loop
 μ-loop bytes t₀ p₀ t p = length bytes - p
 
 loop-holds : tie.Need-loop-holds Inv-loop μ-loop
-loop-holds c = ((search needs, search needs, search needs, search needs, search needs, search needs, search needs, search needs, search needs), search needs, search sums-start)
+loop-holds c = ((search needs, search needs, search needs, search needs, search needs, search needs, search needs, search needs, search needs, search needs), search needs, search sums-start)
 
 returns : tie.Need-returns Inv-loop μ-loop
 returns c = search sums-broken

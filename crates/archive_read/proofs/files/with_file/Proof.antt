@@ -5,6 +5,10 @@ use borrow.Author.Needs.{needs}
 use Rattle.archive_read.proofs.files.with_file.Statement.{statement}
 use Rattle.archive_read.proofs.files.with_file.Tie as tie
 
+add-t13 : tie.Need-add-t13
+add-t13 c = let q = c .before .before .before .before .before .before .before .before .before .before .before .pre in
+    record { fits = omega (arith, q .0 .2, q .1 .0 .2, q .1 .1 .1) }
+
 add-t14 : tie.Need-add-t14
 add-t14 c = let q = c .before .before .before .before .before .before .before .before .before .before .before .before .before .pre in
     record { fits = omega (arith, q .0 .3, q .1 .0 .1, q .1 .1 .1) }
@@ -29,6 +33,10 @@ add-t19 : tie.Need-add-t19
 add-t19 c = let q = c .before .before .before .before .before .before .before .before .before .before .before .before .before .before .before .before .before .before .before .before .before .before .before .pre in
     record { fits = omega (arith, q .0 .8, q .1 .0 .4 .2, q .1 .1 .1) }
 
+add-t20 : tie.Need-add-t20
+add-t20 c = let q = c .before .before .before .before .before .before .before .before .before .before .before .before .before .before .before .before .before .before .before .before .before .before .before .before .before .pre in
+    record { fits = omega (arith, q .0 .9, q .1 .0 .6, q .1 .1 .1) }
+
 returns : tie.Need-returns
 unfolding withFile
 returns c = search needs
@@ -36,5 +44,5 @@ returns c = search needs
 pub with-file-spec : {M : Type 1} → statement M
 with-file-spec =
     tie.close
-    (tie.spec (λ c. search needs) (λ c. search needs) (λ c. search needs) (λ c. search needs) add-t14 add-t15 add-t16 add-t17 add-t18
-    add-t19 returns)
+    (tie.spec (λ c. search needs) (λ c. search needs) (λ c. search needs) add-t13 add-t14 add-t15 add-t16 add-t17 add-t18 add-t19 add-t20
+    returns)

@@ -1,26 +1,19 @@
 -- `archive_read::records::read_tail` meets its contract.
-use Rattle.archive_read.proofs.AtRecords.{starts-before, body-fits, no-tail1, no-tail2, is-tail, tail-after}
+use Rattle.archive_read.proofs.AtRecords.{no-tail, is-tail, tail-after, tail-end-fits}
 use borrow.Author.Needs.{needs}
 use Rattle.archive_read.proofs.records.read_tail.Statement.{statement}
 use Rattle.archive_read.proofs.records.read_tail.Tie as tie
 
 returns : tie.Need-returns
-returns c = (search no-tail1, tt)
+returns c = (search no-tail, tt)
 
-bytes-of-requires : tie.Need-bytes-of-requires
-bytes-of-requires c κs = (search starts-before, search body-fits)
+cited-record-requires : tie.Need-cited-record-requires
+cited-record-requires c κs = search tail-end-fits
 
 returns-2 : tie.Need-returns-2
-returns-2 c = (search no-tail2, tt)
-
-optional-record-requires : tie.Need-optional-record-requires
-optional-record-requires c κs = search body-fits
-
-returns-3 : tie.Need-returns-3
-returns-3 c = (search is-tail, search tail-after)
+returns-2 c = (search is-tail, search tail-after)
 
 pub read-tail-spec : {M : Type 1} → statement M
 read-tail-spec =
     tie.close
-    (tie.spec (λ c κs. search needs) (λ c. search needs) (λ c. search needs) returns bytes-of-requires (λ c κs. search needs)
-    (λ c. search needs) (λ c. search needs) returns-2 optional-record-requires (λ c κs. search needs) returns-3)
+    (tie.spec (λ c κs. search needs) (λ c. search needs) (λ c. search needs) returns cited-record-requires (λ c κs. search needs) returns-2)
