@@ -29,10 +29,14 @@ use Rattle.archive.proofs.Bodies.{counted-back}
 abbrev pub found : List (List Reference) → Option (List (List Reference))
 found rss = cond (anyReference rss) (some rss) none
 
-none-of : {A : Type 0} (rs : List A) → anyReference (noReferences rs) ≡ false
+pub none-of : {A : Type 0} (rs : List A) → anyReference (noReferences rs) ≡ false
 unfolding anyReference
 none-of [] = refl
 none-of (r ∷ rs) = none-of rs
+
+-- rows without references have no record
+pub no-record : {A : Type 0} (rs : List A) → referencesRecord (noReferences rs) ≡ []
+no-record rs = rw (none-of rs)
 
 -- rows without references have empty lists
 pub no-reference : {A : Type 0} (rs : List A) (rss : List (List Reference)) → length rss ≡ length rs → anyReference rss ≡ false → noReferences rs ≡ rss
@@ -135,18 +139,21 @@ record-back-found n =
     }))
     (record { bytes = refl; fits = tt })
 
-empty-fits : (rs : List Row) → Each RowReferencesFit (noReferences rs)
+empty-fits : {A : Type 0} (rs : List A) → Each RowReferencesFit (noReferences rs)
 unfolding referencesOk all ofKind
 empty-fits [] = tt
 empty-fits (r ∷ rs) = (record { count = omega arith; targets = tt; known = refl }, empty-fits rs)
 
-length-none : (rs : List Row) → length (noReferences rs) ≡ length rs
+length-none : {A : Type 0} (rs : List A) → length (noReferences rs) ≡ length rs
 length-none [] = refl
 length-none (r ∷ rs) = ap suc (length-none rs)
+
+pub none-fit : {n : ℕ} {A : Type 0} (rs : List A) → length rs ≡ n → ReferencesFit n (noReferences rs)
+none-fit rs z = record { rowCount = length-none rs ∙ z; each = empty-fits rs; short = λ e. absurd (not-both e (none-of rs)) }
 
 -- what a file has of what was found
 pub found-back : (n : ℕ) (rs : List Row) (o : Option (List (List Reference))) → length rs ≡ n → FoundFits n o
     → (referencesRecord (referencesOf rs o) ≡ foundBytes o) × ReferencesFit n (referencesOf rs o)
 unfolding referencesOf
-found-back n rs none z k = (rw (none-of rs), record { rowCount = length-none rs ∙ z; each = empty-fits rs; short = λ e. absurd (not-both e (none-of rs)) })
+found-back n rs none z k = (no-record rs, none-fit rs z)
 found-back n rs (some rss) z k = (rw (k .1), k .0)

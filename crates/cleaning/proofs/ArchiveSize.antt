@@ -23,8 +23,9 @@ use Rattle.columns.specs.Building.{Built, slotRules, within}
 use Rattle.cover.specs.Chains.{Link, rangesOf}
 use Rattle.cover.specs.Cover.{differences, columnsOf}
 use Rattle.archive.specs.File.{CoverColumns, File}
-use Rattle.archive.specs.Encode.{headBytes, edgesBytes, rowBytes, unresolvedBytes, rootBytes, coverBytes, countedBytes, coverRecord, fileBytes, encode}
+use Rattle.archive.specs.Encode.{headBytes, edgesBytes, rowBytes, unresolvedBytes, rootBytes, coverBytes, countedBytes, coverRecord, referencesRecord, fileBytes, encode}
 use Rattle.archive.proofs.Lengths.{length-record, length-head, length-set, length-sets, length-counted, length-links, length-cover, wide-row, wide-unresolved, wide-root}
+use Rattle.archive.proofs.References.{no-record}
 use Rattle.cleaning.specs.Sheet.{Sheet, rowCount}
 use Rattle.cleaning.specs.Writing.{labelColumns}
 use Rattle.cleaning.specs.Sections.{Tidy, factsOf, place, between, sectionStart, sectionRows, sectionFirst, sectionEnd, sheetEnd, sectionTags, sectionLists}
@@ -85,7 +86,7 @@ length-file : (f : File) → length (fileBytes f)
     ≡ 81 + length (f .subject)
     + (8 * (length (f .forward .offsets) + length (f .reverse .offsets) + length (f .inbound .offsets))
     + (8 * (length (f .forward .deltas) + length (f .reverse .deltas) + length (f .inbound .deltas))
-    + (9 * length (f .rows) + (13 * length (f .unresolved) + (16 * length (f .roots) + length (coverRecord (f .cover)))))))
+    + (9 * length (f .rows) + (13 * length (f .unresolved) + (16 * length (f .roots) + (length (coverRecord (f .cover)) + length (referencesRecord (f .references))))))))
 unfolding fileBytes headBytes edgesBytes
 length-file f =
     simp length-append
@@ -192,6 +193,7 @@ module _ (K : ℕ) (served : Served K) (s : Sheet) (t : Tidy K s) where
         (omega (
           arith,
           length-file (sectionFileOf s g built),
+          ap length (no-record (sectionTags s g)),
           set-offsets K served first forward,
           set-offsets K served first reverse,
           set-offsets K served first inbound,

@@ -4,15 +4,14 @@ use mathlib.Core.List.{List, [], _∷_, _++_, map, append-nil}
 use mathlib.Core.Option.{Option, none, some}
 use Rattle.columns.specs.Limits.{Served}
 use Rattle.lists.specs.Lists.{flat, last}
-use Rattle.columns.specs.Refusal.{unless, refuse}
+use Rattle.columns.specs.Refusal.{unless}
 use Rattle.columns.specs.declared.refusal.Refusal.{Refusal}
-use Rattle.columns.specs.declared.refusal.Refusal.the-variants.{OverRecords, OverNumbers}
 use Prim.Native.Nat.{ℕ}
 use Rattle.archive.specs.File.{File}
 use Rattle.archive.specs.Reader.{Parsed, broken, got}
 use Rattle.archive.specs.Parse.{parse}
 use Rattle.cleaning.specs.Source.{Source, sourceOf}
-use Rattle.cleaning.specs.Taking.{overRecords, overNumbers, filesRules, takeRules, takenFrom}
+use Rattle.cleaning.specs.Taking.{filesRules, takeRules, takenFrom}
 use Rattle.cleaning.specs.Archive.{Taken, archiveOf}
 use Rattle.cleaning.specs.Memo.{tables}
 use Rattle.cleaning.specs.Resolving.{resolveRules}
@@ -39,7 +38,7 @@ quiet K served s ss i = rw (append-nil ss) i
 
 rules-of-files : (K : ℕ) (served : Served K) (ss : List Source) (fs : List File) → takeRules K ss fs ≡ none → filesRules K (last ss) fs ≡ none
 unfolding takeRules
-rules-of-files K served ss fs e = (each-none (refuse OverRecords (overRecords ss fs) ∷ refuse OverNumbers (overNumbers ss fs) ∷ filesRules K (last ss) fs ∷ []) e) .1 .1 .0
+rules-of-files K served ss fs e = each-none _ e .1 .1 .1 .0
 
 take-after : (K : ℕ) (served : Served K) (t : Taken) (b : List ℕ) (x : Parsed (List File)) → parse K b ≡ x → (ss : List Source) → Inv K (taking t) ss
     → After K (takes b) (takeMore t (takenFrom K (t .sources) x)) ss

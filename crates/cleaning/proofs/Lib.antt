@@ -10,6 +10,7 @@ pub mod Tabled
 pub mod Worked
 pub mod Sides
 pub mod Taken
+pub mod Carried
 pub mod Events
 pub mod Invariant
 pub mod Writes

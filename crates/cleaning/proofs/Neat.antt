@@ -17,14 +17,14 @@ use Rattle.lists.proofs.Each.{each-imp}
 use Rattle.columns.specs.Limits.{Served, maxNumbers}
 use Rattle.columns.specs.Refusal.{refuse}
 use Rattle.columns.specs.Building.{slotRules}
-use Rattle.columns.specs.declared.refusal.Refusal.the-variants.{GroupOrder, OverRecords, OverNumbers, NoSurvivor}
+use Rattle.columns.specs.declared.refusal.Refusal.the-variants.{GroupOrder, OverNumbers, NoSurvivor}
 use Rattle.columns.proofs.FirstBroken.{each-none, passed}
 use Rattle.archive.specs.File.{File}
 use Rattle.archive.specs.Fits.{FileFits}
 use Rattle.cleaning.specs.Source.{SourceCover, Source, sourceOf, isThere}
 use Rattle.cleaning.specs.Taking.{filesRules}
 use Rattle.cleaning.specs.Sheet.{Sheet, rowCount}
-use Rattle.cleaning.specs.Held.{Held, nothing, archiveHeld, sheetWith, heldWith, noFacts, ending, lookBack, holdRules, recordsOver, numbersOver}
+use Rattle.cleaning.specs.Held.{Held, nothing, archiveHeld, sheetWith, heldWith, noFacts, ending, lookBack, holdRules}
 use Rattle.cleaning.specs.Routes.{Valid}
 use Rattle.cleaning.specs.Memo.{tables}
 use Rattle.cleaning.specs.Resolving.{entries, groupsSurvive}
@@ -153,8 +153,7 @@ pub neat-more : (K : ℕ) (served : Served K) (h : Held) (fs : List File) → Ne
 unfolding holdRules
 neat-more K served h fs n e k =
     let before = lookBack (h .sheet) in
-    let rules : filesRules K before fs ≡ none =
-    each-none (refuse OverRecords (recordsOver h fs) ∷ refuse OverNumbers (numbersOver h fs) ∷ filesRules K before fs ∷ []) e .1 .1 .0 in
+    let rules : filesRules K before fs ≡ none = each-none _ e .1 .1 .1 .0 in
     go (map (sourceOf K) fs) (taken-followed K served before fs rules) (orderly-taken K served before fs rules k) (tested (isEmpty (h .sheet .groups)))
   where
     go : (ss : List Source) → Followed K (lookBack (h .sheet)) ss → Each Orderly ss

@@ -26,7 +26,7 @@ use Rattle.archive.specs.Fits.{FileFits}
 use Rattle.archive.proofs.Round.{parse-encode}
 use Rattle.archive.proofs.Faithful.{parse-fits}
 use Rattle.cleaning.specs.Source.{Source, sourceOf}
-use Rattle.cleaning.specs.Taking.{overRecords, overNumbers, filesRules, takeRules, takenFrom}
+use Rattle.cleaning.specs.Taking.{overRecords, takeRules, takenFrom}
 use Rattle.cleaning.specs.Archive.{Taken, Archive, archiveOf, at, parentsOf}
 use Rattle.cleaning.specs.Routes.{Valid, ends}
 use Rattle.cleaning.specs.Cleaning.{rank, renumber, newParents, survivors}
@@ -181,7 +181,7 @@ none-taken = record { fitting = tt; limited = record { events = omega arith; ref
 more : (K : ℕ) (served : Served K) (ss : List Source) (fs : List File) → takeRules K ss fs ≡ none → Each (FileFits K) fs → Few ss → Few (ss ++ map (sourceOf K) fs)
 unfolding takeRules
 more K served ss fs e h few =
-    let r = each-none (refuse OverRecords (overRecords ss fs) ∷ refuse OverNumbers (overNumbers ss fs) ∷ filesRules K (last ss) fs ∷ []) e in record {
+    let r = each-none _ e .1 in record {
       fitting = each-append Fitting ss (map (sourceOf K) fs) (few .fitting) (fitting-taken K served (last ss) fs (r .1 .1 .0) h);
       limited = limited-more K served ss fs (r .1 .1 .0) h (not-refused OverRecords (overRecords ss fs) (r .0));
     }

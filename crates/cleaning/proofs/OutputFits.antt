@@ -18,6 +18,7 @@ use Rattle.columns.specs.EdgeSet.{setOf}
 use Rattle.columns.specs.Building.{Graph, subjectOk, granuleStart, deltasFit, forwardPart, reversePart, inboundPart}
 use Rattle.archive.specs.File.{File}
 use Rattle.archive.specs.Fits.{UnresolvedFits, SetFits, FileFits}
+use Rattle.archive.proofs.References.{none-fit}
 use Rattle.cleaning.specs.Taking.{storedRanges, storedLinkCount}
 use Rattle.cleaning.specs.Summary.{Summary}
 use Rattle.cleaning.specs.Writing.{Numbered, rowsIn, unresolvedOf, rootsFrom, graphOf, groupAt, noGroup, fileOfRows, outputOf, outputs, groupNumbers}
@@ -130,6 +131,7 @@ module _ (K : ℕ) (served : Served K) (S : Summary) (good : Good K S) (g : ℕ)
     cover = cover-fits ((groupAt S g) .links) rs (length (map rowOf rs)) (sym row-number) few-rows (this-group .2)
         (one-file maxRecords (λ f. storedRanges (f .cover)) (few-ranges K served S good)) (one-file maxRecords (λ f. storedLinkCount (f .cover)) (few-links K served S good))
         (rows-have (λ r. GoodLabel ((groupAt S g) .links) (r .row .body .label)) (λ r k. rw (k .group) at (k .body .label)));
+    references = none-fit rs (sym row-number);
     edgesShort = short-edges K served file (few-here (forwardOf S g) (forward-full K served S good g) forward-few)
         (few-here (reverseOf K S g) (reverse-full K served S good g) reverse-few) (few-here (inboundOf K S g) (inbound-full K served S good g) inbound-few);
     rowsShort = short-rows (map rowOf rs) few-rows;

@@ -17,6 +17,7 @@ use Rattle.lists.proofs.Filters.{each-below}
 use Rattle.columns.specs.Refusal.{unless}
 use Rattle.columns.specs.Building.{buildRules, builtOf}
 use Rattle.cover.specs.Chains.{Link}
+use Rattle.archive.specs.File.{noReferences}
 use Rattle.archive.specs.Encode.{encode}
 use Rattle.cleaning.specs.Sheet.{Facts, GroupLink, Sheet, groupsFrom, groupsOfSheet, summaryOf}
 use Rattle.cleaning.specs.Writing.{Numbered, rowsIn, firstNumber, labelsIn, labelsOfGroup, edgesInto, edgesOf, inboundColumns, unresolvedColumns, graphOfRows}
@@ -81,6 +82,7 @@ module _ (K : ℕ) (served : Served K) (s : Sheet) (t : Tidy K s) (g : ℕ) wher
         let group = group-section K served s t g l in
         let b = ap (builtOf K) graph-section in
         let rows = sym (map-map unerasedRow (λ r. r .row .body .tag) rs) ∙ ap (map unerasedRow) (tags-section K served s t g) in
+        let references = sym (map-map (λ x. []) (λ r. r .row .body .tag) rs) ∙ ap noReferences (tags-section K served s t g) in
         let cover : coverOfGroup ((groupAt (summaryOf K s) g) .links) rs ≡ coverWhere ((factsOf s g) .covered) (sectionLabels s g) (sectionLinks s g) =
         ap (λ x. coverOfGroup (x .links) rs) group ∙ cover-where ((factsOf s g) .covered) (sectionLinks s g) rs
         ∙ ap (λ ls. coverWhere ((factsOf s g) .covered) ls (sectionLinks s g)) (labels-section K served s t g) in
@@ -96,6 +98,7 @@ module _ (K : ℕ) (served : Served K) (s : Sheet) (t : Tidy K s) (g : ℕ) wher
           unresolved = unresolved-section K served s t g k;
           roots = roots-section K served s t g k;
           cover = cover k;
+          references = references k;
         }
 
 -- ── every group has a row ────────────────────────────────────────────────────────────────────

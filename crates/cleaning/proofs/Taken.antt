@@ -17,10 +17,10 @@ use Rattle.columns.specs.EdgeSet.{forward, reverse, inbound}
 use Rattle.columns.specs.Reading.{setRules}
 use Rattle.columns.specs.Building.{subjectOk, numbersOk, depthOk, inFile}
 use Rattle.columns.specs.declared.refusal.Refusal.the-variants.{SubjectLength, NumberRange, UnresolvedChild, UnresolvedKind, DepthOrder, RootOutside, GroupOrder}
-use Rattle.columns.specs.declared.refusal.Refusal.the-variants.{SourceOrder, CoverInSome, OverRecords, OverNumbers}
+use Rattle.columns.specs.declared.refusal.Refusal.the-variants.{SourceOrder, CoverInSome}
 use Rattle.archive.specs.File.{Unresolved, CoverColumns, File}
 use Rattle.cleaning.specs.Source.{Source, coverRead, sourceOf, endOf, isThere}
-use Rattle.cleaning.specs.Taking.{groupFollows, sourceFollows, coverFollows, fileEnd, unresolvedRules, coverRules, overRecords, overNumbers, fileRules, filesRules, takeRules}
+use Rattle.cleaning.specs.Taking.{groupFollows, sourceFollows, coverFollows, fileEnd, unresolvedRules, coverRules, fileRules, filesRules, takeRules}
 use Rattle.columns.proofs.FirstBroken.{each-none, each-none-in, passed}
 use Rattle.lists.proofs.From.{EachFrom}
 use Rattle.cleaning.proofs.Sides.{SlotBelow, each-slot, forward-below}
@@ -168,4 +168,4 @@ taken-followed K served before (f ∷ fs) e =
 pub taking-followed : (K : ℕ) (served : Served K) (ss : List Source) (fs : List File) → takeRules K ss fs ≡ none → Followed K (last ss) (map (sourceOf K) fs)
 unfolding takeRules
 taking-followed K served ss fs e =
-    taken-followed K served (last ss) fs (each-none (refuse OverRecords (overRecords ss fs) ∷ refuse OverNumbers (overNumbers ss fs) ∷ filesRules K (last ss) fs ∷ []) e .1 .1 .0)
+    taken-followed K served (last ss) fs (each-none _ e .1 .1 .1 .0)

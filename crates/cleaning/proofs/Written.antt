@@ -10,12 +10,12 @@ use borrow.Author.Tests.{le-leb, le-ltb}
 use Rattle.lists.specs.Lists.{isEmpty, last}
 use Rattle.columns.specs.Limits.{Served, maxNumbers}
 use Rattle.columns.specs.Refusal.{unless, refuse}
-use Rattle.columns.specs.declared.refusal.Refusal.the-variants.{OverRecords, OverNumbers, GroupOrder, NoSurvivor}
+use Rattle.columns.specs.declared.refusal.Refusal.the-variants.{OverRecords, OverNumbers, GroupOrder, NoSurvivor, RecordBroken}
 use Rattle.archive.specs.File.{File}
 use Rattle.archive.specs.Encode.{encode}
 use Rattle.archive.proofs.Round.{parse-encode}
 use Rattle.cleaning.specs.Source.{sourceOf}
-use Rattle.cleaning.specs.Taking.{overRecords, overNumbers, filesRules, takeRules}
+use Rattle.cleaning.specs.Taking.{overRecords, overNumbers, carries, takeRules}
 use Rattle.cleaning.specs.Memo.{tables}
 use Rattle.cleaning.specs.Resolving.{entries, groupsSurvive, resolveRules}
 use Rattle.cleaning.specs.Writing.{written}
@@ -34,8 +34,8 @@ module _ (K : ℕ) (served : Served K) (fs : List File) (c : Cleanable K fs) whe
 
   take-none : takeRules K [] fs ≡ none
   unfolding takeRules last
-  take-none = none-of (refuse OverRecords (overRecords [] fs) ∷ refuse OverNumbers (overNumbers [] fs) ∷ filesRules K none fs ∷ [])
-      (fails OverRecords (overRecords [] fs) (c .records), (fails OverNumbers (overNumbers [] fs) (c .numbers), (c .rules, tt)))
+  take-none = none-of _
+      (fails RecordBroken (carries fs) (c .references), (fails OverRecords (overRecords [] fs) (c .records), (fails OverNumbers (overNumbers [] fs) (c .numbers), (c .rules, tt))))
 
   resolve-none : resolveRules (record { sources = map (sourceOf K) fs }) (archiveOfFiles K fs) (tables K (archiveOfFiles K fs)) ≡ none
   unfolding resolveRules

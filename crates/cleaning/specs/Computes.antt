@@ -36,6 +36,6 @@ unfolding
     Step.resolve Step.step
     Summary.keptBy Summary.summary Summary.keptIn Summary.tabled
     Survivors.keep Survivors.rankIn Survivors.keepSlots Survivors.keepUnresolved Survivors.keepRoots Survivors.sortGroups Survivors.survivorSheet
-    Taking.total Taking.groupCount Taking.overRecords Taking.overNumbers Taking.unresolvedRules Taking.fileRules Taking.filesRules Taking.takeRules
+    Taking.total Taking.groupCount Taking.overRecords Taking.overNumbers Taking.unresolvedRules Taking.fileRules Taking.filesRules Taking.carries Taking.takeRules
     Writing.numberedFrom Writing.numbered Writing.rowsIn Writing.unresolvedOf Writing.rootsFrom Writing.labelsIn Writing.labelColumns Writing.edgesInto Writing.edgesOf Writing.inboundColumns Writing.slotsOfRows Writing.unresolvedColumns Writing.graphOfRows Writing.graphOf Writing.outputOf Writing.outputs Writing.writeRules Writing.bytesOf Writing.written
 computes = tt

@@ -16,7 +16,7 @@ use Rattle.archive.specs.File.{Root, File}
 use Rattle.archive.specs.Reader.{Parsed, broken, got}
 use Rattle.cleaning.specs.Source.{SourceCover, Source, sourceOf, isThere, rangeCount}
 use Rattle.cleaning.specs.Archive.{Event, Archive, labelIn, joinDepth}
-use Rattle.cleaning.specs.Taking.{storedRanges, storedLinkCount, filesRules}
+use Rattle.cleaning.specs.Taking.{storedRanges, storedLinkCount, filesRules, carries}
 use Rattle.cleaning.specs.Sheet.{Facts, GroupLink, Sheet, rowCount, bodyAt, parentsAt, groupsOfSheet}
 
 pub record Held : Type 0 where
@@ -141,9 +141,10 @@ lookBack s =
     let g = length (s .groups) - 1 in
     cond (isEmpty (s .groups)) none (some (ending g (s .subject) (s .start + rowCount s) ((getD (s .groups) g noFacts) .covered)))
 
--- 42, 43, then file by file
+-- 23 of references, 42, 43, then file by file
 unfoldable pub holdRules : (K : ℕ) → Held → List File → Option Refusal
-holdRules K h fs = firstOf (refuse OverRecords (recordsOver h fs) ∷ refuse OverNumbers (numbersOver h fs) ∷ filesRules K (lookBack (h .sheet)) fs ∷ [])
+holdRules K h fs =
+    firstOf (refuse RecordBroken (carries fs) ∷ refuse OverRecords (recordsOver h fs) ∷ refuse OverNumbers (numbersOver h fs) ∷ filesRules K (lookBack (h .sheet)) fs ∷ [])
 
 -- what a run holds with an archive more; 23 comes first
 abbrev pub holdMore : (K : ℕ) → Held → Parsed (List File) → Verdict Held

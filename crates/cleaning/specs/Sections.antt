@@ -17,7 +17,7 @@ use Rattle.columns.specs.declared.refusal.Refusal.{Refusal}
 use Rattle.columns.specs.declared.refusal.Refusal.the-variants.{SubjectLength, UnresolvedKind, DepthOrder, SeqNotRising, DeltaRange}
 use Rattle.cover.specs.Chains.{Link, rangesOf}
 use Rattle.cover.specs.Cover.{columnsOf}
-use Rattle.archive.specs.File.{Row, Unresolved, Root, CoverColumns, File}
+use Rattle.archive.specs.File.{Row, Unresolved, Root, CoverColumns, noReferences, File}
 use Rattle.archive.specs.Encode.{encode}
 use Rattle.cleaning.specs.Source.{isThere}
 use Rattle.cleaning.specs.Writing.{Edge, labelList, labelColumns, edgesInto, inboundColumns, unresolvedColumns}
@@ -175,6 +175,7 @@ sectionFileOf s g b = record {
   unresolved = sectionUnresolved s g;
   roots = sectionRoots s g;
   cover = coverWhere ((factsOf s g) .covered) (sectionLabels s g) (sectionLinks s g);
+  references = noReferences (sectionTags s g);
 }
 
 -- the output file of a group

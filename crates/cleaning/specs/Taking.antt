@@ -5,7 +5,7 @@ use mathlib.Core.Option.{Option, none, some}
 use Prim.Native.Nat.{ℕ, _+_}
 use lib.Dec.{ltb, eqb}
 use lib.ListN.{length}
-use Rattle.lists.specs.Lists.{all, sum, same, once, last}
+use Rattle.lists.specs.Lists.{all, any, sum, same, once, last}
 use Rattle.columns.specs.Limits.{maxRecords, maxGroups, maxNumbers, referenceKinds}
 use Rattle.columns.specs.Refusal.{Verdict, refused, unless, refuse, firstOf, firstIn}
 use Rattle.columns.specs.EdgeSet.{forward, reverse, inbound}
@@ -15,7 +15,7 @@ use Rattle.columns.specs.declared.refusal.Refusal.{Refusal}
 use Rattle.columns.specs.declared.refusal.Refusal.the-variants.{SubjectLength, NumberRange, UnresolvedChild, UnresolvedKind, DepthOrder, RootOutside, GroupOrder}
 use Rattle.columns.specs.declared.refusal.Refusal.the-variants.{SourceOrder, CoverInSome, OverRecords, OverNumbers, RecordBroken}
 use Rattle.cover.specs.Cover.{rangeRules, linkRules}
-use Rattle.archive.specs.File.{Unresolved, CoverColumns, File}
+use Rattle.archive.specs.File.{Unresolved, CoverColumns, anyReference, File}
 use Rattle.archive.specs.Reader.{Parsed, broken, got}
 use Rattle.cleaning.specs.Source.{Source, sourceOf, endOf, isThere, rangeCount, linkCount}
 
@@ -110,9 +110,14 @@ filesRules K before (f ∷ fs) = firstOf (fileRules K before f ∷ filesRules K 
 
 -- ── taking ───────────────────────────────────────────────────────────────────────────────────
 
--- 42, 43, then file by file; a refused taking takes nothing
+-- whether some file has a reference. A run does not carry references yet, so it refuses an archive that has any, with 23, and loses none in silence
+unfoldable pub carries : List File → Bool
+carries fs = any (λ f. anyReference (f .references)) fs
+
+-- 23 of references, 42, 43, then file by file; a refused taking takes nothing
 unfoldable pub takeRules : (K : ℕ) → List Source → List File → Option Refusal
-takeRules K ss fs = firstOf (refuse OverRecords (overRecords ss fs) ∷ refuse OverNumbers (overNumbers ss fs) ∷ filesRules K (last ss) fs ∷ [])
+takeRules K ss fs =
+    firstOf (refuse RecordBroken (carries fs) ∷ refuse OverRecords (overRecords ss fs) ∷ refuse OverNumbers (overNumbers ss fs) ∷ filesRules K (last ss) fs ∷ [])
 
 -- the sources of an archive that a run with sources `ss` is given; 23 comes first
 abbrev pub takenFrom : (K : ℕ) → List Source → Parsed (List File) → Verdict (List Source)

@@ -15,7 +15,7 @@ use Rattle.columns.specs.Walk.{Walked, walk}
 use Rattle.cover.specs.Chains.{Range}
 use Rattle.cover.specs.Cover.{LinkColumns, differences, readCover}
 use Rattle.cover.specs.Questions.{mayHoldChain}
-use Rattle.archive.specs.File.{Row, File}
+use Rattle.archive.specs.File.{Row, noReferences, File}
 use Rattle.archive.specs.Encode.{encode}
 use Rattle.cleaning.specs.Source.{sourceOf}
 use Rattle.cleaning.specs.Archive.{archiveOf}
@@ -42,6 +42,7 @@ plainFile first rows lists = record {
   unresolved = [];
   roots = [];
   cover = none;
+  references = noReferences rows;
 }
 
 -- four events from 100 on, of which 101 and 102 are erased: prev, then auth of each
