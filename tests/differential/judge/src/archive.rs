@@ -1,4 +1,4 @@
-//! A file of an archive, as its six records hold it.
+//! A file of an archive, as its seven records hold it.
 
 #[derive(Debug, Clone, PartialEq, Eq)]
 pub struct File {
@@ -12,6 +12,8 @@ pub struct File {
     pub unresolved: Vec<Unresolved>,
     pub roots: Vec<Root>,
     pub cover: Option<Cover>,
+    /// Row by row; empty where no row has one.
+    pub references: Vec<Vec<Reference>>,
 }
 
 #[derive(Debug, Clone, Copy, PartialEq, Eq)]
@@ -38,6 +40,13 @@ pub struct Unresolved {
     pub child: u64,
     pub kind: u8,
     pub handle: u32,
+}
+
+#[derive(Debug, Clone, Copy, PartialEq, Eq)]
+pub struct Reference {
+    pub kind: u8,
+    pub space: u8,
+    pub target: u64,
 }
 
 #[derive(Debug, Clone, Copy, PartialEq, Eq)]

@@ -129,6 +129,7 @@ fn output(group: usize, file: &RenumberedGraphFile) -> Result<File, FormatError>
             let (ranges, links) = blocks::cover_columns(&encode_cover(&built));
             Cover { chains, seqs, ranges, links }
         }),
+        references: Vec::new(),
     })
 }
 

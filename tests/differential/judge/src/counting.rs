@@ -76,5 +76,6 @@ fn one_file(first: u64, events: &[Event]) -> File {
         unresolved: Vec::new(),
         roots: Vec::new(),
         cover: None,
+        references: Vec::new(),
     }
 }

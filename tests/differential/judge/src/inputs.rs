@@ -54,6 +54,7 @@ pub fn short(events: usize, number: usize) -> Vec<u8> {
         unresolved: Vec::new(),
         roots: Vec::new(),
         cover: None,
+        references: Vec::new(),
     }])
 }
 

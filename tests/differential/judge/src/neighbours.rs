@@ -3,13 +3,13 @@
 
 #![allow(clippy::ptr_arg, reason = "all changes have one type")]
 
-use crate::archive::{Cover, Depth, File, Range, Root, Row, Set, Unresolved};
+use crate::archive::{Cover, Depth, File, Range, Reference, Root, Row, Set, Unresolved};
 use crate::random::Random;
 
 type Change = fn(&mut Random, &mut Vec<File>);
 
 /// Every change, each tried as often as any other.
-pub const CHANGES: [(&str, Change); 20] = [
+pub const CHANGES: [(&str, Change); 21] = [
     ("subject length", subject_length),
     ("other subject", other_subject),
     ("first number", first_number),
@@ -30,6 +30,7 @@ pub const CHANGES: [(&str, Change); 20] = [
     ("events", events),
     ("groups", groups),
     ("new lists", new_lists),
+    ("references", references),
 ];
 
 /// One change; its name, where it changed something.
@@ -277,6 +278,7 @@ fn groups(random: &mut Random, files: &mut Vec<File>) {
             unresolved: Vec::new(),
             roots: Vec::new(),
             cover: None,
+            references: Vec::new(),
         });
         first += 1;
     }
@@ -307,5 +309,18 @@ fn new_lists(random: &mut Random, files: &mut Vec<File>) {
         unresolved: Vec::new(),
         roots: Vec::new(),
         cover: None,
+        references: Vec::new(),
     }];
+}
+
+/// References of some rows, of kinds and spaces that there are or one past them, now and then with a second parent or root; or a record of none.
+fn references(random: &mut Random, files: &mut Vec<File>) {
+    let file = any(random, files);
+    file.references = vec![Vec::new(); file.rows.len()];
+    for list in &mut file.references {
+        while random.once_in(2) {
+            let target = random.of(&[0, file.first, u64::MAX]);
+            list.push(Reference { kind: random.of(&[0, 1, 2, 3, 4, 5, 5, 6]), space: random.of(&[0, 1, 2, 3, 3, 3, 4]), target });
+        }
+    }
 }

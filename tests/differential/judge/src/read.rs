@@ -1,6 +1,6 @@
-//! Bytes to files, by document 01's "Archive records". Anything that does not fit is `None`: refusal 23.
+//! Bytes to files, by document 01's "Archive records" and document 02, L1. Anything that does not fit is `None`: refusal 23.
 
-use crate::archive::{Cover, Depth, File, Range, Root, Row, Set, Unresolved};
+use crate::archive::{Cover, Depth, File, Range, Reference, Root, Row, Set, Unresolved};
 
 struct Cursor<'a> {
     bytes: &'a [u8],
@@ -124,6 +124,21 @@ fn cover(mut body: Cursor, rows: usize) -> Option<Cover> {
     Some(Cover { chains, seqs, ranges, links })
 }
 
+/// Kinds prev 0, auth 1, link 2, parent 3, related 4, root 5; spaces event id 0, external 1, protocol id 2, sequence 3; at most one parent and one
+/// root in a row, and some reference in the record.
+fn references(mut body: Cursor, rows: usize) -> Option<Vec<Vec<Reference>>> {
+    let mut lists = Vec::new();
+    for _ in 0..rows {
+        let count = body.word()? as usize;
+        let list = body.table(count, 10, |part| Some(Reference { kind: part.byte()?, space: part.byte()?, target: part.number(8)? }))?;
+        let of = |kind: u8| list.iter().filter(|reference| reference.kind == kind).count();
+        let known = list.iter().all(|reference| reference.kind <= 5 && reference.space <= 3);
+        (known && of(3) <= 1 && of(5) <= 1).then(|| lists.push(list.clone()))?;
+    }
+    body.ends()?;
+    lists.iter().any(|list| !list.is_empty()).then_some(lists)
+}
+
 fn file(bytes: &mut Cursor) -> Option<File> {
     let head = head(bytes.record(1)?)?;
     let sets = sets(bytes.record(2)?, head.rows)?;
@@ -132,8 +147,10 @@ fn file(bytes: &mut Cursor) -> Option<File> {
     let roots = roots(bytes.record(5)?)?;
     let covered = bytes.bytes.get(5) == Some(&6);
     let cover = if covered { Some(cover(bytes.record(6)?, head.rows)?) } else { None };
+    let cited = bytes.bytes.get(5) == Some(&7);
+    let references = if cited { references(bytes.record(7)?, head.rows)? } else { Vec::new() };
     let Head { first, group, subject, depth, .. } = head;
-    Some(File { first, group, subject, depth, sets, rows, unresolved, roots, cover })
+    Some(File { first, group, subject, depth, sets, rows, unresolved, roots, cover, references })
 }
 
 pub fn archive(bytes: &[u8]) -> Option<Vec<File>> {

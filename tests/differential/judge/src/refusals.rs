@@ -174,6 +174,7 @@ fn one_row(first: u64, covered: bool) -> File {
         unresolved: Vec::new(),
         roots: Vec::new(),
         cover: covered.then(|| Cover { chains: vec![0], seqs: vec![0], ..Cover::default() }),
+        references: Vec::new(),
     }
 }
 

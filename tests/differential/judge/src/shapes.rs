@@ -130,6 +130,7 @@ fn plain(first: u64, group: u8, subject: &[u8], rows: usize) -> File {
         unresolved: Vec::new(),
         roots: Vec::new(),
         cover: None,
+        references: Vec::new(),
     }
 }
 

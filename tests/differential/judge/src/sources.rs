@@ -89,6 +89,7 @@ pub fn bare(file: &File) -> File {
             ..Default::default()
         }),
         subject: file.subject.clone(),
+        references: Vec::new(),
         ..*file
     }
 }

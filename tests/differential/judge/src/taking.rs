@@ -1,4 +1,4 @@
-//! Taking an archive: 23, 42, 43, then file by file document 01's order. The original decides each rule that it has; the limits,
+//! Taking an archive: 23, also where there are references, which a run does not carry yet; 42, 43, then file by file document 01's order. The original decides each rule that it has; the limits,
 //! the group numbers and the order are document 01's own.
 
 use crate::archive::File;
@@ -21,7 +21,7 @@ pub fn take(bytes: &[u8]) -> Result<Vec<File>, Number> {
 
 /// The same after files that were taken before.
 pub fn take_after(taken: &[File], bytes: &[u8]) -> Result<Vec<File>, Number> {
-    let files = read::archive(bytes).ok_or(23)?;
+    let files = read::archive(bytes).filter(|files| files.iter().all(|file| file.references.is_empty())).ok_or(23)?;
     limits(&[taken, &files].concat())?;
     let mut before = taken.last();
     for file in &files {

@@ -1,4 +1,4 @@
-//! Files to bytes, by document 01's "Archive records".
+//! Files to bytes, by document 01's "Archive records" and document 02, L1.
 
 use crate::archive::{Cover, Depth, File, Set};
 
@@ -83,6 +83,18 @@ fn cover(cover: &Cover) -> Vec<u8> {
     out
 }
 
+fn references(file: &File) -> Vec<u8> {
+    let mut out = Vec::new();
+    for list in &file.references {
+        words(&mut out, &[list.len() as u32]);
+        for reference in list {
+            out.extend([reference.kind, reference.space]);
+            out.extend(reference.target.to_be_bytes());
+        }
+    }
+    out
+}
+
 pub fn file(out: &mut Vec<u8>, file: &File) {
     record(out, 1, head(file));
     record(out, 2, edges(file));
@@ -91,6 +103,9 @@ pub fn file(out: &mut Vec<u8>, file: &File) {
     record(out, 5, roots(file));
     if let Some(one) = &file.cover {
         record(out, 6, cover(one));
+    }
+    if !file.references.is_empty() {
+        record(out, 7, references(file));
     }
 }
 

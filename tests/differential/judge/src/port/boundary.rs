@@ -80,6 +80,7 @@ pub struct Sums {
     pub forward: usize,
     pub reverse: usize,
     pub inbound: usize,
+    pub references: usize,
 }
 
 /// A run is the library's own, given and given back by value.

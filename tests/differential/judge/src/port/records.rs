@@ -20,22 +20,25 @@ pub fn differs(bytes: &[u8]) -> Option<String> {
     })
 }
 
-/// A refusal or 0, and the counts: of files, events, roots, unresolved records, ranges, links, and deltas of each set.
-fn counts(files: Option<&[File]>) -> [u64; 10] {
-    let Some(files) = files else { return [23, 0, 0, 0, 0, 0, 0, 0, 0, 0] };
+/// A refusal or 0, and the counts: of files, events, roots, unresolved records, ranges, links, deltas of each set, and references.
+fn counts(files: Option<&[File]>) -> [u64; 11] {
+    let Some(files) = files else { return [23, 0, 0, 0, 0, 0, 0, 0, 0, 0, 0] };
     let sum = |count: &dyn Fn(&File) -> usize| files.iter().map(|file| count(file) as u64).sum();
     let of_cover = |file: &File| file.cover.as_ref().map_or((0, 0), |cover| (cover.ranges.len(), cover.links[0].len()));
     let set = |number: usize| sum(&|file: &File| file.sets[number].deltas.len());
     [
         0, files.len() as u64, sum(&|file| file.rows.len()), sum(&|file| file.roots.len()), sum(&|file| file.unresolved.len()),
         sum(&|file| of_cover(file).0), sum(&|file| of_cover(file).1), set(0), set(1), set(2),
+        sum(&|file| file.references.iter().map(Vec::len).sum()),
     ]
 }
 
-fn summed(bytes: &[u8]) -> [u64; 10] {
+fn summed(bytes: &[u8]) -> [u64; 11] {
     let sums = unsafe { ridgeoven_sums(bytes.as_ptr(), bytes.len()) };
-    let counts = [sums.files, sums.events, sums.roots, sums.unresolved, sums.ranges, sums.links, sums.forward, sums.reverse, sums.inbound];
-    let mut all = [sums.refusal; 10];
+    let counts = [
+        sums.files, sums.events, sums.roots, sums.unresolved, sums.ranges, sums.links, sums.forward, sums.reverse, sums.inbound, sums.references,
+    ];
+    let mut all = [sums.refusal; 11];
     for (place, count) in all[1..].iter_mut().zip(counts) {
         *place = count as u64;
     }
