@@ -34,6 +34,10 @@ unfolding anyReference
 none-of [] = refl
 none-of (r ∷ rs) = none-of rs
 
+-- and no record
+pub no-record : {A : Type 0} (rs : List A) → referencesRecord (noReferences rs) ≡ []
+no-record rs = rw (none-of rs)
+
 -- rows without references have empty lists
 pub no-reference : {A : Type 0} (rs : List A) (rss : List (List Reference)) → length rss ≡ length rs → anyReference rss ≡ false → noReferences rs ≡ rss
 unfolding anyReference
