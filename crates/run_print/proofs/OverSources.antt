@@ -20,7 +20,7 @@ use Rattle.archive.specs.Fits.{FileFits}
 use Rattle.archive.specs.Reader.{Parsed, broken, got}
 use Rattle.archive.specs.Parse.{parse}
 use Rattle.cleaning.specs.Source.{sourceOf}
-use Rattle.cleaning.specs.Taking.{overRecords, overNumbers, filesRules, takeRules, takenFrom}
+use Rattle.cleaning.specs.Taking.{overRecords, filesRules, takeRules, takenFrom}
 use Rattle.cleaning.specs.Archive.{Taken, Archive, archiveOf}
 use Rattle.cleaning.specs.Memo.{tables}
 use Rattle.cleaning.specs.Resolving.{entries, groupsSurvive, resolveRules}
@@ -105,7 +105,7 @@ module _ (room : ℕ) where
     unfolding unless takeRules last
     rules-say fs h (some x) e = refl
     rules-say fs h none e =
-        let rules = each-none (refuse OverRecords (overRecords [] fs) ∷ refuse OverNumbers (overNumbers [] fs) ∷ filesRules kinds none fs ∷ []) e in
+        let rules = each-none _ e .1 in
         let kept : filesRules kinds none fs ≡ none = rules .1 .1 .0 in
         let few = not-refused OverRecords (overRecords [] fs) (rules .0) in
         taken-says r (record { sources = map (sourceOf kinds) fs }) (taken-followed kinds kinds-served none fs kept) (fitting-taken kinds kinds-served none fs kept h)
