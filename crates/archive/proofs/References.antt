@@ -4,11 +4,12 @@ use mathlib.Core.Bool.{Bool, true, false, cond}
 use mathlib.Core.List.{List, [], _∷_, _++_, map, append-nil}
 use mathlib.Core.Option.{Option, none, some}
 use Prim.Native.Nat.{ℕ, zero, suc, _≤_, _<_, _+_, _*_, _^_}
-use native.Mathlib.Nat.{add-zero}
+use native.Mathlib.Nat.{add-zero, zero-add}
 use native.Mathlib.Omega.{arith}
-use lib.Dec.{leb, eqb}
+use lib.Dec.{leb, ltb, eqb}
+use borrow.Author.Tests.{lt-ltb}
 use lib.ListN.{length, getD, take}
-use Rattle.lists.specs.Lists.{Each, flat, all}
+use Rattle.lists.specs.Lists.{Each, flat, all, sum}
 use Rattle.lists.proofs.Each.{each-imp}
 use Rattle.lists.proofs.Tests.{not-both}
 use Rattle.archive.specs.Bytes.{bytesOf}
@@ -46,6 +47,13 @@ no-reference [] (r ∷ rss) n e = absurd (omega arith)
 no-reference (x ∷ rs) [] n e = absurd (omega arith)
 no-reference (x ∷ rs) ([] ∷ rss) n e = ap (λ t. [] ∷ t) (no-reference rs rss (omega arith) e)
 no-reference (x ∷ rs) ((r ∷ r') ∷ rss) n e = absurd (not-both refl e)
+
+-- some row has a reference just where there are more than none in all
+pub any-counted : (rss : List (List Reference)) → anyReference rss ≡ ltb 0 (sum length rss)
+unfolding anyReference sum
+any-counted [] = refl
+any-counted ([] ∷ rss) = rw (any-counted rss, zero-add (sum length rss))
+any-counted ((r ∷ rs) ∷ rss) = rw (lt-ltb 0 (length (r ∷ rs) + sum length rss) (omega arith))
 
 -- what is found is what the file has
 pub found-of : (rs : List Row) (rss : List (List Reference)) → length rss ≡ length rs → referencesOf rs (found rss) ≡ rss

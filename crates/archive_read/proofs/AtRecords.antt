@@ -257,7 +257,8 @@ module _ (l : List ℕ) (p n : ℕ) (x : Body) (d : bodyOf l x ≡ body 5 l p) w
     unfolding covered recordOf _>>=_ coveredWith tailIn
     is-covered {m} y g k h = rw (← d, e, ← t, ← f, g, ← k, h, t) (go y)
       where
-        go : (y : Optional) → tailOf l n (coveredWith m a y) ≡ andThen (optionalOf l n (a .end) y) (λ c q. got (record { roots = several 16 rootAt m (drop 4 (partIn l a)); cover = c; references = none }) q)
+        go : (y : Optional) → tailOf l n (coveredWith m a y)
+            ≡ andThen (optionalOf l n (a .end) y) (λ c q. got (record { roots = several 16 rootAt m (drop 4 (partIn l a)); cover = c; references = none }) q)
         go BadCover = refl
         go Uncovered = refl
         go (Covered c b) = refl

@@ -5,14 +5,13 @@ use mathlib.Core.Logic.{inl, inr}
 use mathlib.Core.List.{List, [], _∷_, map}
 use Prim.Native.Nat.{ℕ, _+_}
 use native.Mathlib.Omega.{arith}
-use native.Mathlib.Nat.{zero-add}
 use borrow.Author.Tests.{lt-ltb, ltb-true, ltb-false}
 use lib.Dec.{ltb}
 use lib.ListN.{length}
 use Rattle.lists.specs.Lists.{any, sum}
 use Rattle.lists.proofs.Tests.{tested}
-use Rattle.archive.specs.File.{Reference, anyReference, File}
-use Rattle.archive.proofs.References.{none-of}
+use Rattle.archive.specs.File.{anyReference, File}
+use Rattle.archive.proofs.References.{none-of, any-counted}
 use Rattle.cleaning.specs.Taking.{carries}
 use Rattle.cleaning.specs.Summary.{Summary}
 use Rattle.cleaning.specs.Writing.{rowsIn, outputOf, outputs, groupNumbers}
@@ -31,12 +30,6 @@ some-of a b = elim (tested (ltb 0 a)) [
   | inl e ↦ rw (e, lt-ltb 0 (a + b) (omega (arith, ltb-true 0 a e)))
   | inr e ↦ let s : a + b ≡ b = omega (arith, ltb-false 0 a e) in rw (e, s)
 ]
-
-any-counted : (rss : List (List Reference)) → anyReference rss ≡ ltb 0 (sum length rss)
-unfolding anyReference sum
-any-counted [] = refl
-any-counted ([] ∷ rss) = rw (any-counted rss, zero-add (sum length rss))
-any-counted ((r ∷ rs) ∷ rss) = rw (lt-ltb 0 (length (r ∷ rs) + sum length rss) (omega arith))
 
 pub carries-counted : (fs : List File) → carries fs ≡ ltb 0 (sum (λ f. sum length (f .references)) fs)
 unfolding carries any sum

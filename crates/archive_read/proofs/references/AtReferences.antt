@@ -8,7 +8,8 @@ use native.Mathlib.Omega.{arith}
 use lib.Dec.{leb, eqb}
 use lib.ListN.{length, getD, drop}
 use lib.Seq.{getD-drop, drop-drop}
-use borrow.Author.Tests.{le-leb, lt-leb, eq-eqb, ne-eqb, not-true, not-false}
+use borrow.Author.Tests.{le-leb, lt-leb, le-ltb, lt-ltb, eq-eqb, ne-eqb, not-true, not-false}
+use Rattle.archive.proofs.References.{any-counted}
 use Rattle.lists.specs.Lists.{all, sum}
 use Rattle.lists.proofs.Tests.{not-both}
 use Rattle.archive_bytes.proofs.Several.{be-front, several-none, several-cons}
@@ -163,13 +164,6 @@ module _ {c : Parsed ℕ} (t n i : ℕ) (b : List ℕ) (p : ℕ) (e : c ≡ coun
 
 -- ── the record ───────────────────────────────────────────────────────────────────────────────
 
--- some row has a reference where there is one in all
-pub any-counted : (rss : List (List Reference)) → anyReference rss ≡ not (eqb (sum length rss) 0)
-unfolding anyReference sum
-any-counted [] = refl
-any-counted ([] ∷ rss) = let z : 0 + sum length rss ≡ sum length rss = omega arith in rw z (any-counted rss)
-any-counted ((r ∷ rs) ∷ rss) = rw (ne-eqb (suc (length rs) + sum length rss) 0 (λ e. omega arith))
-
 -- rows that were read are those that stand there
 rows-from : (k : ℕ) (b : List ℕ) (p : ℕ) (rss : List (List Reference)) (q : ℕ) → rowsReferences k b p ≡ got rss q → rss ≡ referencesFrom k (drop p b)
 unfolding rowsReferences referencesFrom _>>=_ table
@@ -195,6 +189,10 @@ rows-from (suc k) b p rss q e = go (leb (p + 4 + be 4 b p * 10) (length b)) (ref
     go false t x y f = let u = rw x at e in let v : _≡_ {A = ℕ} 0 1 = cc in absurd (omega arith)
     go true false x y f = let u = rw (x, y) at e in let v : _≡_ {A = ℕ} 0 1 = cc in absurd (omega arith)
     go true true x y f = let u = rw (x, y) at e in back (rowsReferences k b next) f u
+
+above : (t : ℕ) → (t ≡ 0 → ⊥) → 0 < t
+above zero k = absurd (k refl)
+above (suc t) k = omega arith
 
 module _ (n : ℕ) (b : List ℕ) where
   module _ (t i p : ℕ) (x : counts 0 n b 0 ≡ counts t (n - i) b p) (y : i < n) (o : Counted) (d : rowCited b p o ≡ rowReferences b p) (z : o ≡ NoCount) where
@@ -235,11 +233,11 @@ module _ (n : ℕ) (b : List ℕ) where
 
     pub body-empty : t ≡ 0 → broken ≡ whole (Parse.references n) b
     unfolding whole Parse.references _>>=_
-    body-empty h = given (λ rss g s r. rw (g, any-counted rss, s, eq-eqb t 0 h))
+    body-empty h = given (λ rss g s r. rw (g, any-counted rss, s, le-ltb 0 t (omega arith)))
 
     pub is-body-cited : length b ≡ p → (t ≡ 0 → ⊥) → got (referencesFrom n b) (length b) ≡ whole (Parse.references n) b
     unfolding whole Parse.references _>>=_
-    is-body-cited h k = given (λ rss g s r. rw (g, any-counted rss, s, ne-eqb t 0 k, eq-eqb (length b) p h, ← r, h))
+    is-body-cited h k = given (λ rss g s r. rw (g, any-counted rss, s, lt-ltb 0 t (above t k), eq-eqb (length b) p h, ← r, h))
 
     pub body-counted : t ≡ sum length (referencesFrom n b)
     body-counted = given (λ rss g s r. rw (← r) (sym s))

@@ -48,5 +48,5 @@ returns-4 c = (search (needs, is-body-cited), (search needs, search (needs, body
 pub references-body-spec : {M : Type 1} → statement M
 references-body-spec =
     tie.close
-    (tie.spec Inv-loop μ-loop loop-holds (λ c κs. search needs) (λ c. search needs) (λ c. search needs) returns add-total add-p mul-p add-p-2
-    (λ c. search needs) (λ c. search needs) loop-again returns-2 returns-3 returns-4)
+    (tie.spec Inv-loop μ-loop loop-holds (λ c κs. search needs) (λ c. search needs) (λ c. search needs) returns add-total add-p mul-p
+    add-p-2 (λ c. search needs) (λ c. search needs) loop-again returns-2 returns-3 returns-4)
