@@ -28,3 +28,7 @@ maxCoverSize = 36878
 
 abbrev pub maxFileSize : ℕ
 maxFileSize = 223606
+
+-- the size of a record of references at both limits
+abbrev pub maxReferencesSize : ℕ
+maxReferencesSize = 45062
