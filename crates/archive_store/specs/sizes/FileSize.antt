@@ -1,4 +1,4 @@
--- Document 01, "Archive records": how many bytes a file's six records have, by its counts.
+-- Document 01, "Archive records": how many bytes a file's first six records have, by its counts.
 use mathlib.Core.Bool.{Bool, true, false}
 use Prim.Native.Nat.{ℕ, _+_, _*_}
 use Rattle.columns.specs.Limits.{kinds}
