@@ -34,7 +34,7 @@ unfolding anyReference
 none-of [] = refl
 none-of (r ∷ rs) = none-of rs
 
--- and no record
+-- rows without references have no record
 pub no-record : {A : Type 0} (rs : List A) → referencesRecord (noReferences rs) ≡ []
 no-record rs = rw (none-of rs)
 
