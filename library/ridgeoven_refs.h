@@ -1,6 +1,6 @@
-/* Parent lists out of the references of a file's rows. A slice is a pointer and a length in elements, of which the caller owes what ridgeoven.h
- * says; a refusal is told by its number, 0 is none, and after one nothing is written. What the call promises is its contract in
- * crates/ffi_refs. */
+/* The references of a file's rows: parent lists out of them, and their record. A slice is a pointer and a length in elements, of which the
+ * caller owes what ridgeoven.h says; a refusal is told by its number, 0 is none, and after one nothing is written. What a call promises is its
+ * contract in crates/ffi_refs and crates/ffi_archive. */
 #ifndef RIDGEOVEN_REFS_H
 #define RIDGEOVEN_REFS_H
 
@@ -55,6 +55,16 @@ ridgeoven_resolved ridgeoven_resolve_graph(uint64_t first, size_t rows, const ui
                                            size_t parents_room, uint64_t *record_children, size_t record_children_room,
                                            uint64_t *record_kinds, size_t record_kinds_room, uint64_t *record_places,
                                            size_t record_places_room);
+
+/* Writes the record of the references of a file's rows into out, from place at on: the length that it answers is the place after the record.
+ * The references are given as above, without answers, so that there is a start more than rows; a record has 6 bytes, 4 more for each row and 10
+ * for each reference.
+ *
+ * Refused in this order: 42, more than 1,024 rows; 43, more than 4,096 references; 23, columns or starts of another form, no reference, a kind or
+ * a space that there is not, or a second parent or root in a row; 41, too little room. */
+ridgeoven_answer ridgeoven_write_references(uint8_t *out, size_t out_room, size_t at, const uint64_t *starts, size_t starts_length,
+                                            const uint8_t *kinds, size_t kinds_length, const uint8_t *spaces, size_t spaces_length,
+                                            const uint64_t *targets, size_t targets_length);
 
 #ifdef __cplusplus
 }

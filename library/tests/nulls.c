@@ -17,7 +17,7 @@
 typedef struct { uint64_t refusal; size_t more[3]; } three;
 typedef struct { uint64_t refusal, found; uint32_t chain, seq; } label;
 typedef struct { uint64_t refusal; size_t more[2]; } two;
-typedef struct { uint64_t refusal; size_t more[9]; } nine;
+typedef struct { uint64_t refusal; size_t more[10]; } ten;
 ridgeoven_answer ridgeoven_read_set(uint64_t set, FILE_OF, SET(one), OUT(uint64_t, targets));
 three ridgeoven_read_granule(FILE_OF, SET(forward), SET(reverse), SET(inbound), uint64_t cover, IN(uint64_t, chains), IN(uint64_t, seqs),
                              OUT(uint64_t, f), OUT(uint64_t, r), OUT(uint64_t, i));
@@ -35,7 +35,7 @@ three ridgeoven_build(IN(uint8_t, subject), uint64_t first, size_t rows, IN(uint
                       OUT(uint64_t, fo), OUT(int64_t, fd), OUT(uint64_t, ro), OUT(int64_t, rd), OUT(uint64_t, io), OUT(int64_t, id));
 ridgeoven_answer ridgeoven_cover_read(RANGES(IN), IN(uint32_t, e), IN(uint32_t, f), IN(uint32_t, g), IN(uint32_t, h), FOUR(OUT));
 ridgeoven_answer ridgeoven_window(RANGES(IN), uint32_t chain, uint32_t low, uint32_t high);
-nine ridgeoven_sums(IN(uint8_t, bytes));
+ten ridgeoven_sums(IN(uint8_t, bytes));
 ridgeoven_answer ridgeoven_write_edges(OUT(uint8_t, out), size_t at, IN(uint64_t, fo), IN(int64_t, fd), IN(uint64_t, ro), IN(int64_t, rd),
                                        IN(uint64_t, io), IN(int64_t, id));
 ridgeoven_answer ridgeoven_write_rows(OUT(uint8_t, out), size_t at, IN(uint8_t, flags), IN(uint64_t, tags));
@@ -156,6 +156,8 @@ static void references(void) {
                                                                 LIST(4)).refusal, 2);
     answered("ridgeoven_resolve_graph", ridgeoven_resolve_graph(0, 0, &zero, 1, NONE, NONE, NONE, NONE, NONE, LIST(0), LIST(1), LIST(2), LIST(3),
                                                                 LIST(4)).refusal, 0);
+    answered("ridgeoven_write_references", ridgeoven_write_references(NONE, 0, NONE, NONE, NONE, NONE).refusal, 23);
+    answered("ridgeoven_write_references", ridgeoven_write_references(BYTES, 0, &zero, 1, NONE, NONE, NONE).refusal, 23);
 }
 
 static void archives(void) {

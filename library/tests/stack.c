@@ -75,6 +75,10 @@ static uint64_t resolve_graph(void) {
                                    unresolved[2], COLUMN).refusal;
 }
 
+static uint64_t write_references(void) {
+    return ridgeoven_write_references(out, sizeof out, 0, starts, COLUMN + 1, kinds, REFERENCES, spaces, REFERENCES, targets, REFERENCES).refusal;
+}
+
 typedef struct asked {
     const char *name;
     uint64_t (*call)(void);
@@ -93,7 +97,7 @@ static asked of_covers[] = {
     {"ridgeoven_links_from", from, 0, 0}, {"ridgeoven_links_store", store_records, 0, 0}, {"ridgeoven_links_build", build_records, 0, 0},
     {"ridgeoven_cover_build", build, 0, 0}, {"ridgeoven_cover_store", store, 0, 0}, {"ridgeoven_chain_links", chain_links, 0, 0},
 };
-static asked of_references[] = {{"ridgeoven_resolve_graph", resolve_graph, 0, 0}};
+static asked of_references[] = {{"ridgeoven_resolve_graph", resolve_graph, 0, 0}, {"ridgeoven_write_references", write_references, 0, 0}};
 
 /* The stack, and how far down its paint is gone. */
 static uint64_t *place, *gone;
@@ -173,10 +177,11 @@ int main(int count, char **names) {
         starts[i] = i * (REFERENCES / COLUMN);
     for (size_t i = 0; i < REFERENCES; i++)
         known[i] = i % 4 != 0;
-    ask(of_references);
+    for (size_t k = 0; k < sizeof of_references / sizeof *of_references; k++)
+        ask(&of_references[k]);
     size_t most = most_of(of_archives, sizeof of_archives / sizeof *of_archives);
     size_t of_cover = most_of(of_covers, sizeof of_covers / sizeof *of_covers);
-    size_t of_reference = most_of(of_references, 1);
+    size_t of_reference = most_of(of_references, sizeof of_references / sizeof *of_references);
     int all = holds("a call", larger(larger(most, of_cover), of_reference), RIDGEOVEN_STACK);
     return holds("ridgeoven_clean", of_archives[0].most, RIDGEOVEN_CLEAN_STACK) && all ? 0 : 1;
 }

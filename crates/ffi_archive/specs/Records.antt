@@ -19,8 +19,21 @@ sumsOf (reader.the-variants.Sums t) = record {
   forward = t .forward;
   reverse = t .reverse;
   inbound = t .inbound;
+  references = t .references;
 }
-sumsOf (reader.the-variants.Refused r) = record { refusal = numberOf r; files = 0; events = 0; roots = 0; unresolved = 0; ranges = 0; links = 0; forward = 0; reverse = 0; inbound = 0 }
+sumsOf (reader.the-variants.Refused r) = record {
+  refusal = numberOf r;
+  files = 0;
+  events = 0;
+  roots = 0;
+  unresolved = 0;
+  ranges = 0;
+  links = 0;
+  forward = 0;
+  reverse = 0;
+  inbound = 0;
+  references = 0;
+}
 
 -- the place after what was written
 unfoldable pub wroteOf : writer.Wrote → Answer

@@ -15,10 +15,10 @@ ghost use Rattle.columns.specs.Limits.{kinds};
 ghost use Rattle.lists.specs.Lists.{flat};
 ghost use Rattle.archive_bytes.specs.After.{left};
 ghost use Rattle.archive.specs.Parse.{parse};
-ghost use Rattle.archive.specs.Encode.{recordBytes, setsBytes, rowBytes};
+ghost use Rattle.archive.specs.Encode.{recordBytes, setsBytes, rowBytes, referencesBytes};
 ghost use Rattle.archive_read.specs.Sums.{totalsOf};
-ghost use Rattle.archive_store.specs.Lent.{zip2, setFrom, rowFrom};
-ghost use Rattle.archive_write.specs.Writes.{edgesRules, rowsRules, wrote};
+ghost use Rattle.archive_store.specs.Lent.{zip2, setFrom, rowFrom, citedFrom};
+ghost use Rattle.archive_write.specs.Writes.{edgesRules, rowsRules, referencesRules, wrote};
 ghost use Rattle.ffi_archive.specs.Records.{sumsOf, wroteOf};
 
 // How many files an archive has, and the sums of their counts; `refusal` is 23 where the bytes are no archive.
@@ -34,6 +34,7 @@ pub struct Sums {
     pub forward: usize,
     pub reverse: usize,
     pub inbound: usize,
+    pub references: usize,
 }
 
 fn sums_of(summed: Summed) -> Sums
@@ -51,6 +52,7 @@ fn sums_of(summed: Summed) -> Sums
             forward: t.forward,
             reverse: t.reverse,
             inbound: t.inbound,
+            references: t.references,
         },
         Summed::Refused(why) => Sums {
             refusal: number(why),
@@ -63,6 +65,7 @@ fn sums_of(summed: Summed) -> Sums
             forward: 0,
             reverse: 0,
             inbound: 0,
+            references: 0,
         },
     }
 }
@@ -122,4 +125,23 @@ pub extern "C" fn ridgeoven_write_rows(
         (sets (now (out .entry)) at (recordBytes 3 (flat rowBytes (zip2 rowFrom (now (flags .entry)) (now (tags .entry)))))) ⌝ }
 {
     wrote_of(writer::write_rows(out, at, flags, tags))
+}
+
+// 7: references, each of a kind, a space and a target. Row r has those from place offsets[r] up to offsets[r + 1].
+#[no_mangle]
+pub extern "C" fn ridgeoven_write_references(
+    out: &mut [u8],
+    at: usize,
+    offsets: &[u64],
+    kinds: &[u8],
+    spaces: &[u8],
+    targets: &[u64],
+) -> Answer
+    ensures { λ r. ⌜ r ≡ wroteOf (wrote (referencesRules (now (offsets .entry)) (now (kinds .entry)) (now (spaces .entry)) (now (targets .entry)) (length (now (out .entry))) at)
+        (at + length (recordBytes 7 (referencesBytes (citedFrom (now (offsets .entry)) (now (kinds .entry)) (now (spaces .entry)) (now (targets .entry))))))) ⌝ }
+    ensures { λ _. ⌜ now (out .exit) ≡ left (referencesRules (now (offsets .entry)) (now (kinds .entry)) (now (spaces .entry)) (now (targets .entry))
+        (length (now (out .entry))) at) (now (out .entry)) (sets (now (out .entry)) at
+        (recordBytes 7 (referencesBytes (citedFrom (now (offsets .entry)) (now (kinds .entry)) (now (spaces .entry)) (now (targets .entry)))))) ⌝ }
+{
+    wrote_of(writer::write_references(out, at, offsets, kinds, spaces, targets))
 }

@@ -14,7 +14,7 @@ mod run;
 mod sizes;
 
 pub use links::{Cover, LINKS_MAX, Link, Range, build_cover, chain_links, links_from, sort_links, store_links};
-pub use refs::{Parents, Reference, ReferenceKind, ResolvedGraph, Space, Unresolved, resolve_graph};
+pub use refs::{Parents, Reference, ReferenceKind, ResolvedGraph, Space, Unresolved, resolve_graph, write_references};
 pub use refusal::Refusal;
 pub use run::Run;
 

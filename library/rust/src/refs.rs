@@ -1,6 +1,7 @@
-//! Parent lists and unresolved records out of the references of a file's rows.
+//! The references of a file's rows: parent lists and unresolved records out of them, and their record.
 
-use crate::refusal::{Refusal, accepted};
+use crate::boundary::Answer;
+use crate::refusal::{Refusal, accepted, length};
 
 const OFFSETS: usize = 2049;
 const PARENTS: usize = 4096;
@@ -72,6 +73,10 @@ unsafe extern "C" {
         numbers_length: usize, offsets: *mut u64, offsets_room: usize, parents: *mut u64, parents_room: usize, children: *mut u64,
         children_room: usize, record_kinds: *mut u64, record_kinds_room: usize, places: *mut u64, places_room: usize,
     ) -> Resolved;
+    fn ridgeoven_write_references(
+        out: *mut u8, out_room: usize, at: usize, starts: *const u64, starts_length: usize, kinds: *const u8, kinds_length: usize,
+        spaces: *const u8, spaces_length: usize, targets: *const u64, targets_length: usize,
+    ) -> Answer;
 }
 
 /// The references of all rows, a column for each part, and where each row's start.
@@ -152,5 +157,25 @@ pub fn resolve_graph(first: u64, rows: &[Vec<Reference>], answers: &[Option<u64>
     Ok(ResolvedGraph {
         parents: (0..rows.len()).map(|row| Parents { prev: made.slot(2 * row), auth: made.slot(2 * row + 1) }).collect(),
         unresolved: (0..unresolved).map(|at| made.record(at)).collect(),
+    })
+}
+
+/// Writes the record of the references of a file's rows into `out`, from place `at` on: the place after it. A refused call writes nothing; a
+/// record of no reference is refused with 23, and so is a second parent or root in a row.
+///
+/// ```
+/// use ridgeoven::{Reference, ReferenceKind::Prev, Space, write_references};
+/// let mut out = [0; 20];
+/// let end = write_references(&[vec![Reference { kind: Prev, space: Space::Sequence, target: 99 }]], &mut out, 0);
+/// assert_eq!(end, Ok(20));
+/// assert_eq!(out, [0, 0, 0, 16, 1, 7, 0, 0, 0, 1, 0, 3, 0, 0, 0, 0, 0, 0, 0, 99]);
+/// ```
+pub fn write_references(rows: &[Vec<Reference>], out: &mut [u8], at: usize) -> Result<usize, Refusal> {
+    let Given { starts, kinds, spaces, targets } = Given::of(rows);
+    length(unsafe {
+        ridgeoven_write_references(
+            out.as_mut_ptr(), out.len(), at, starts.as_ptr(), starts.len(), kinds.as_ptr(), kinds.len(), spaces.as_ptr(), spaces.len(),
+            targets.as_ptr(), targets.len(),
+        )
     })
 }

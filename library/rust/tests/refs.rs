@@ -1,8 +1,8 @@
-//! References to parent lists and unresolved records: answers that document 02's words give, worked out by hand.
+//! References to parent lists and unresolved records, and to their record: answers that document 02's words give, worked out by hand.
 
 use ridgeoven::ReferenceKind::{Auth, Link, Parent, Prev, Related, Root};
 use ridgeoven::Space::{EventId, External, ProtocolId, Sequence};
-use ridgeoven::{Parents, Reference, ReferenceKind, Refusal, Space, Unresolved, resolve_graph};
+use ridgeoven::{Parents, Reference, ReferenceKind, Refusal, Space, Unresolved, resolve_graph, write_references};
 
 fn to(kind: ReferenceKind, space: Space, target: u64) -> Reference {
     Reference { kind, space, target }
@@ -78,4 +78,40 @@ fn limits() {
     assert_eq!(resolve_graph(0, &[vec![one; 1025]], &[None; 1025]), Err(Refusal(42)));
     assert_eq!(resolve_graph(0, &[vec![one; 4096]], &[Some(1); 4096]).map(|graph| graph.parents[0].prev.len()), Ok(4096));
     assert_eq!(resolve_graph(0, &[vec![one; 4097]], &[Some(1); 4097]), Err(Refusal(43)));
+}
+
+#[test]
+fn a_record_row_by_row() {
+    let rows = [vec![to(Auth, Sequence, 0x0102), to(Root, ProtocolId, u64::MAX)], vec![], vec![to(Parent, EventId, 7)]];
+    let mut out = [9; 50];
+    assert_eq!(write_references(&rows, &mut out, 1), Ok(49));
+    // its length without itself, version 1, kind 7
+    assert_eq!(out[..7], [9, 0, 0, 0, 44, 1, 7]);
+    assert_eq!(out[7..31], [0, 0, 0, 2, 1, 3, 0, 0, 0, 0, 0, 0, 1, 2, 5, 2, 255, 255, 255, 255, 255, 255, 255, 255]);
+    assert_eq!(out[31..], [0, 0, 0, 0, 0, 0, 0, 1, 3, 0, 0, 0, 0, 0, 0, 0, 0, 7, 9]);
+}
+
+#[test]
+fn refused_records_write_nothing() {
+    let one = to(Prev, External, 1);
+    let mut out = [9; 45062];
+    for (rows, refusal) in [
+        (vec![], 23),
+        (vec![vec![], vec![]], 23),
+        (vec![vec![to(Parent, Sequence, 1), to(Parent, External, 1)]], 23),
+        (vec![vec![one], vec![to(Root, EventId, 1), one, to(Root, EventId, 1)]], 23),
+        (vec![vec![one]; 1025], 42),
+        (vec![vec![one; 4097]], 43),
+        (vec![vec![one; 4096], vec![to(Root, EventId, 1)]], 43),
+    ] {
+        assert_eq!(write_references(&rows, &mut out, 0), Err(Refusal(refusal)));
+    }
+    let most = vec![vec![one; 4]; 1024];
+    assert_eq!(write_references(&most, &mut out[1..], 0), Err(Refusal(41)));
+    assert_eq!(write_references(&most, &mut out, 1), Err(Refusal(41)));
+    assert_eq!(write_references(&most, &mut out, usize::MAX), Err(Refusal(41)));
+    assert!(out.iter().all(|byte| *byte == 9));
+    assert_eq!(write_references(&most, &mut out, 0), Ok(45062));
+    let apart = [vec![to(Parent, Sequence, 1), to(Root, Sequence, 1)], vec![to(Parent, Sequence, 1), to(Root, Sequence, 1)]];
+    assert_eq!(write_references(&apart, &mut out, 0), Ok(54));
 }
