@@ -118,6 +118,16 @@ pub fn edges_and_rows(one: &File) -> Vec<u8> {
     out
 }
 
+/// The record of a file's references, where it has any.
+#[cfg(feature = "port")]
+pub fn references_record(one: &File) -> Vec<u8> {
+    let mut out = Vec::new();
+    if !one.references.is_empty() {
+        record(&mut out, 7, references(one));
+    }
+    out
+}
+
 pub fn archive(files: &[File]) -> Vec<u8> {
     let mut out = Vec::new();
     for one in files {

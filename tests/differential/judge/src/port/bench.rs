@@ -109,7 +109,8 @@ impl Inputs {
     fn archive_with(&self, erased: fn(u64) -> bool, cover: Option<Cover>) -> Vec<u8> {
         let rows = (0..self.rows as u64).map(|tag| Row { erased: erased(tag), tag }).collect();
         let (subject, sets) = (b"a".to_vec(), self.sets.clone());
-        write::archive(&[File { first: FIRST, group: 0, subject, depth: None, sets, rows, unresolved: Vec::new(), roots: Vec::new(), cover }])
+        let (unresolved, roots, references) = (Vec::new(), Vec::new(), Vec::new());
+        write::archive(&[File { first: FIRST, group: 0, subject, depth: None, sets, rows, unresolved, roots, cover, references }])
     }
 
     /// The same with a cover of at most sixty-four chains and as many links as rows.
@@ -136,7 +137,8 @@ impl Inputs {
             let forward = self.lists[0][2 * from..2 * (from + each)].to_vec();
             let rows = (from..from + each).map(|row| Row { erased: false, tag: row as u64 }).collect();
             let (subject, sets) = (b"a".to_vec(), [Set::of(first, &forward), Set::empty(each), Set::empty(each)]);
-            File { first, group: group as u8, subject, depth: None, sets, rows, unresolved: Vec::new(), roots: Vec::new(), cover: None }
+            let (unresolved, roots, references) = (Vec::new(), Vec::new(), Vec::new());
+            File { first, group: group as u8, subject, depth: None, sets, rows, unresolved, roots, cover: None, references }
         };
         write::archive(&(0..GROUPS).map(file).collect::<Vec<_>>())
     }

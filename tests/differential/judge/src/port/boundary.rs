@@ -130,6 +130,11 @@ unsafe extern "C" {
         out: *mut u8, out_len: usize, at: usize, flags: *const u8, flags_len: usize, tags: *const u64, tags_len: usize,
     ) -> Answer;
 
+    pub fn ridgeoven_write_references(
+        out: *mut u8, out_len: usize, at: usize, offsets: *const u64, offsets_len: usize, kinds: *const u8, kinds_len: usize,
+        spaces: *const u8, spaces_len: usize, targets: *const u64, targets_len: usize,
+    ) -> Answer;
+
     pub fn ridgeoven_read_set(
         set: u64, first: u64, rows: usize, end: u64,
         count: u64, offsets: *const u64, offsets_len: usize, deltas: *const i64, deltas_len: usize,

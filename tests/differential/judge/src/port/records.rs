@@ -1,7 +1,7 @@
-//! The records of an archive asked of the proved library (feature `port`): how many of each kind it has, and each file's edges and rows written
-//! again, which must be the bytes that stand in the archive.
+//! The records of an archive asked of the proved library (feature `port`): how many of each kind it has, and each file's edges, rows and
+//! references written again, which must be the bytes that stand in the archive.
 
-use super::boundary::{ridgeoven_sums, ridgeoven_write_edges, ridgeoven_write_rows};
+use super::boundary::{ridgeoven_sums, ridgeoven_write_edges, ridgeoven_write_references, ridgeoven_write_rows};
 use super::lent::{Lent, NUMBERS, RECORDS};
 use crate::archive::File;
 use crate::{read, write};
@@ -13,10 +13,14 @@ pub fn differs(bytes: &[u8]) -> Option<String> {
     if port != expected {
         return Some(format!("the archive's counts are {expected:?}, the port's {port:?}"));
     }
-    let small = |file: &File| file.rows.len() <= RECORDS && file.sets.iter().all(|set| set.deltas.len() <= NUMBERS);
-    files?.into_iter().filter(small).find_map(|file| match written(&file) {
-        Err(wrong) => Some(format!("records: {wrong}")),
-        Ok(port) => (port != write::edges_and_rows(&file)).then(|| "edges and rows are written otherwise".into()),
+    let small = |file: &File| {
+        let cited: usize = file.references.iter().map(Vec::len).sum();
+        file.rows.len() <= RECORDS && cited <= NUMBERS && file.sets.iter().all(|set| set.deltas.len() <= NUMBERS)
+    };
+    files?.into_iter().filter(small).find_map(|file| match (written(&file), cited(&file)) {
+        (Err(wrong), _) | (_, Err(wrong)) => Some(format!("records: {wrong}")),
+        (Ok(port), _) if port != write::edges_and_rows(&file) => Some("edges and rows are written otherwise".into()),
+        (_, Ok(port)) => (port != write::references_record(&file)).then(|| "references are written otherwise".into()),
     })
 }
 
@@ -62,4 +66,27 @@ fn written(file: &File) -> Result<Vec<u8>, String> {
         (0, 0) => Ok(out.taken(rows.length)?.to_vec()),
         refused => Err(format!("refused {refused:?}")),
     }
+}
+
+/// The record of references, where there are any.
+fn cited(file: &File) -> Result<Vec<u8>, String> {
+    if file.references.is_empty() {
+        return Ok(Vec::new());
+    }
+    let mut offsets = vec![0u64];
+    offsets.extend(file.references.iter().scan(0, |place, list| {
+        *place += list.len() as u64;
+        Some(*place)
+    }));
+    let all = || file.references.iter().flatten();
+    let (kinds, spaces): (Vec<u8>, Vec<u8>) = all().map(|reference| (reference.kind, reference.space)).unzip();
+    let targets: Vec<u64> = all().map(|reference| reference.target).collect();
+    let mut out = Lent::<u8>::new(write::references_record(file).len() + 1);
+    let answer = unsafe {
+        ridgeoven_write_references(
+            out.at(), out.len(), 0, offsets.as_ptr(), offsets.len(), kinds.as_ptr(), kinds.len(), spaces.as_ptr(), spaces.len(),
+            targets.as_ptr(), targets.len(),
+        )
+    };
+    if answer.refusal == 0 { Ok(out.taken(answer.length)?.to_vec()) } else { Err(format!("refused {}", answer.refusal)) }
 }
