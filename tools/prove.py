@@ -62,14 +62,10 @@ def prove(name):
 
 def check(name, crates, folder, kept):
     """What the prover says of the crate in a folder, over what an earlier check has left, if it left something."""
-    words = ["rt", "check", str(folder), "-L", f"dependency={TARGET / 'rlib'}"]
+    kit = [dep for dep in crates[name] if dep not in crates]
+    words = ["rt", "check", str(folder), *(["--deps", ",".join(kit)] if kit else []), "-L", f"dependency={TARGET / 'rlib'}"]
     for dep in crates[name]:
-        if (TARGET / "rlib" / f"{dep}.rlib").is_dir():
-            words += ["--extern", f"{dep}={TARGET / 'rlib' / dep}.rlib"]
-        else:
-            words[3:3] = ["--deps", dep] if "--deps" not in words else []
-            at = words.index("--deps") + 1
-            words[at] = ",".join(sorted(set(words[at].split(",")) | {dep}))
+        words += ["--extern", f"{dep}={TARGET / 'rlib' / dep}.rlib"] if dep in crates else []
     words += ["--incremental", str(kept)] if kept else []
     done = subprocess.run(words, cwd=ROOT, capture_output=True, text=True)
     return done.returncode, done.stdout + done.stderr
@@ -161,7 +157,8 @@ class Work:
                 fine, said = False, repr(wrong)
             took = time.monotonic() - began
             with self.lock:
-                print(f"{key[0]} {'/'.join(key[1:])}: {'done' if fine else 'FAILED'}{', first at ' + said if fine and key[0] == 'edit' else ''} ({took:.0f} s)", flush=True)
+                told = "FAILED" if not fine else f"refused, first at {said}" if key[0] == "edit" else "done"
+                print(f"{key[0]} {'/'.join(key[1:])}: {told} ({took:.0f} s)", flush=True)
                 if fine:
                     self.done.add(key)
                 else:
@@ -170,31 +167,38 @@ class Work:
                 self.lock.notify_all()
 
 
+def add_edits(work, name, crates):
+    """A crate's edits, once it and those that it names are proved; how many they are."""
+    found = sorted((CRATES / name / "must-fail").glob("*.edit"))
+    before = [("prove", dep) for dep in [name, *crates[name]] if dep in crates and not is_program(dep)]
+    shared = len(found) >= SHARED
+    if shared:
+        work.add(("keep", name), before, lambda: keep(name, crates))
+        before = [("keep", name)]
+    for edit in found:
+        work.add(("edit", name, edit.stem), before, lambda edit=edit: refused(name, edit, crates, shared))
+    return len(found)
+
+
 def main(names):
     crates = listed()
     chosen = beneath(names or crates, crates)
     shutil.rmtree(PLACE if names else TARGET, ignore_errors=True)
     for part in ("rlib", "stamp", "gate"):
         (TARGET / part).mkdir(parents=True, exist_ok=True)
-    work, edits = Work(), 0
+    work = Work()
     for name in (name for name in crates if name in chosen and not is_program(name)):
         work.add(("prove", name), [("prove", dep) for dep in crates[name] if dep in crates], lambda name=name: prove(name))
-    for name in (name for name in crates if name in (names or chosen)):
-        found = sorted((CRATES / name / "must-fail").glob("*.edit"))
-        shared, before = len(found) >= SHARED, [("prove", dep) for dep in [name, *crates[name]] if dep in crates and not is_program(dep)]
-        if shared:
-            work.add(("keep", name), before, lambda name=name: keep(name, crates))
-            before = [("keep", name)]
-        for edit in found:
-            work.add(("edit", name, edit.stem), before, lambda name=name, edit=edit, shared=shared: refused(name, edit, crates, shared))
-        edits += len(found)
+    edits = sum(add_edits(work, name, crates) for name in crates if name in (names or chosen))
     with concurrent.futures.ThreadPoolExecutor(JOBS) as pool:
         for ended in [pool.submit(work.serve) for _ in range(JOBS)]:
             ended.result()
     shutil.rmtree(PLACE)
-    left = [key for key, _, _ in work.tasks]
-    print(f"prove: {edits} must-fail edits refused" if not work.failed else f"prove: failed {work.failed}; not begun {len(left)}")
-    return 1 if work.failed else 0
+    if work.failed:
+        print(f"prove: FAILED: {', '.join('/'.join(key) for key in work.failed)}; {len(work.tasks)} not begun")
+        return 1
+    print(f"prove: {edits} must-fail edits refused")
+    return 0
 
 
 if __name__ == "__main__":
