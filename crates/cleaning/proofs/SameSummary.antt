@@ -53,10 +53,10 @@ module _ (K : ℕ) (served : Served K) (A B : Archive) (s : A .start ≡ B .star
 
   same-kept : (p q : ℕ) → SameSurvivor K A B p q → keptBy K A p ≡ keptBy K B q
   unfolding keptBy
-  same-kept p q r = ap₂ kept (same-body p q r)
+  same-kept p q r = λ i. kept (same-body p q r i)
       (map-ext (λ k. newParents A k p) (λ k. newParents B k q) (upFrom 0 K)
       (each-imp (λ k. (0 ≤ k) × (k < 0 + K)) (λ k. newParents A k p ≡ newParents B k q) (upFrom 0 K)
-      (λ k h. same-new k p q (r .same-ends k (omega arith))) (each-upFrom 0 K)))
+      (λ k h. same-new k p q (r .same-ends k (omega arith))) (each-upFrom 0 K)) i) (r .same-references i)
 
 -- ── the whole ────────────────────────────────────────────────────────────────────────────────
 

@@ -9,6 +9,7 @@ use Rattle.cover.specs.Chains.{Link}
 use Rattle.cleaning.specs.Archive.{Group, Archive, at}
 use Rattle.cleaning.specs.Routes.{ends}
 use Rattle.cleaning.specs.Cleaning.{rank, survivors}
+use Rattle.cleaning.specs.Rewriting.{rewritten}
 
 -- the same links as a set
 abbrev pub SameSet : List Link → List Link → Type 0
@@ -36,6 +37,7 @@ pub record SameSurvivor (K : ℕ) (A B : Archive) (p q : ℕ) : Type 0 where
   pub same-label : (at A p) .body .label ≡ (at B q) .body .label
   pub same-root : (at A p) .body .root ≡ (at B q) .body .root
   pub same-unresolved : (at A p) .body .unresolved ≡ (at B q) .body .unresolved
+  pub same-references : rewritten A p ≡ rewritten B q
   pub same-ends : (k : ℕ) → k < K → Pairs (SameEnd A B) (once (ends A k p)) (once (ends B k q))
 
 pub record Alike (K : ℕ) (A B : Archive) : Type 0 where
