@@ -2,7 +2,7 @@
 use mathlib.Core.Path.{_≡_, sym, ap, _∙_}
 use mathlib.Core.Bool.{true}
 use mathlib.Core.Logic.{inl, inr}
-use mathlib.Core.List.{List, _++_, map, append-assoc}
+use mathlib.Core.List.{List, _++_, map, append-assoc, append-nil}
 use Prim.Native.Nat.{ℕ, zero, suc, _+_, _-_, _*_, _^_, _≤_, _<_}
 use native.Mathlib.Nat.{mul-le-mul-right}
 use native.Mathlib.Numerals.{add-one}
@@ -19,6 +19,7 @@ use Rattle.cover.proofs.Extremes.{Ends, ranges-ends}
 use Rattle.archive_bytes.specs.Bytes.{several, Wide}
 use Rattle.archive.specs.Encode.{fileBytes, headBytes, edgesBytes, coverRecord}
 use Rattle.archive.proofs.Back.{length-several}
+use Rattle.archive.proofs.References.{no-record}
 use Rattle.cleaning.specs.Sheet.{Sheet}
 use Rattle.cleaning.specs.Sections.{sectionFile, sectionLabels, coverWhere, unerasedRow}
 use Rattle.run_state.specs.declared.Groups.{Groups}
@@ -209,7 +210,7 @@ module _ (z : Counts) (subject : List ℕ) (groups : Groups) (covers : Covers) (
           let n : length (map unerasedRow (tagsAt s rows)) ≡ many (s .rows) =
           length-map (tagsAt s rows) unerasedRow ∙ length-several 4 (field 1) (many (s .rows)) (drop (s .rows .from * 4) rows) in
           ap fileBytes (file-is z subject groups rows unresolved roots links offsets targets g s h ready there children)
-          ∙ rw (n, ← k .known-is .depth-is, sixth) (simp append-assoc)
+          ∙ rw (n, ← k .known-is .depth-is, sixth, no-record (tagsAt s rows), append-nil) (simp append-assoc)
 
       -- ── one turn ───────────────────────────────────────────────────────────────────────────
 

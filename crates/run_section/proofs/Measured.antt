@@ -19,6 +19,7 @@ use Rattle.cover.specs.Chains.{Link, rangesOf}
 use Rattle.cover.specs.Cover.{columnsOf}
 use Rattle.archive_bytes.specs.Bytes.{several}
 use Rattle.archive.proofs.Back.{length-several}
+use Rattle.archive.proofs.References.{no-record}
 use Rattle.archive.specs.File.{CoverColumns}
 use Rattle.archive.specs.Encode.{fileBytes}
 use Rattle.archive_store.specs.sizes.FileSize.{fileSize}
@@ -86,6 +87,7 @@ module _ (z : Counts) (subject : List ℕ) (groups : Groups) (g : ℕ) (s : Sect
       (set-has first (z .start + s .rows .to) (z .start + z .rows) (s .rows .from) n (z .rows) starts kids (lists .children) inside refl)
       (cover-has there ls (linksAt s links) n ranges (many (s .links)) labels spans
       (length-map (several 5 linkIn (many (s .links)) (drop (s .links .from * 5) links)) (λ l. l .link) ∙ length-several 5 linkIn (many (s .links)) (drop (s .links .from * 5) links)))
+      (no-record (tagsAt s rows))
       ∙ ap₂ (λ u r. fileSize (length subject) n (b .forward .count) (b .reverse .count) (b .inbound .count) u r there ranges (many (s .links)))
       (length-several 3 unresolvedIn (many (s .unresolved)) (drop (s .unresolved .from * 3) unresolved))
       (length-map (several 2 rootIn (many (s .roots)) (drop (s .roots .from * 2) roots)) (λ r. record { row = r .row - s .rows .from; handle = r .handle })

@@ -9,7 +9,7 @@ use Rattle.columns.specs.EdgeSet.{cut, setOf}
 use Rattle.columns.specs.Building.{Built, rowsWithin}
 use Rattle.cover.specs.Chains.{Link}
 use Rattle.archive_bytes.specs.Bytes.{several}
-use Rattle.archive.specs.File.{Unresolved, Root, CoverColumns, File}
+use Rattle.archive.specs.File.{Unresolved, Root, CoverColumns, noReferences, File}
 use Rattle.cleaning.specs.Sections.{unerasedRow}
 use Rattle.run_state.specs.declared.Groups.{Groups}
 use Rattle.run_state.specs.View.{factsAt}
@@ -65,4 +65,5 @@ fileAt z subject groups g s rows unresolved roots sets cover = record {
   unresolved = unresolvedAt s unresolved;
   roots = rootsAt s roots;
   cover = cover;
+  references = noReferences (tagsAt s rows);
 }

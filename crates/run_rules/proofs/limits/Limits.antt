@@ -4,7 +4,7 @@ use mathlib.Core.Bool.{true, false≢true}
 use mathlib.Core.List.{List, [], _∷_}
 use Prim.Native.Nat.{ℕ, _+_, _-_, _*_, _≤_}
 use native.Mathlib.Omega.{arith}
-use lib.Dec.{leb, eqb}
+use lib.Dec.{leb, eqb, ltb}
 use lib.ListN.{length, take, length-drop}
 use lib.Seq.{slice, length-take-le}
 use borrow.Author.Tests.{leb-true, eqb-true}
@@ -20,6 +20,8 @@ use Rattle.archive_read.specs.declared.files.Totals.{Totals}
 use Rattle.archive_read.specs.Sums.{totals}
 use Rattle.archive_groups.specs.Groups.{groupsOver}
 use Rattle.cleaning.specs.Held.{recordsOver, numbersOver}
+use Rattle.cleaning.specs.Taking.{carries}
+use Rattle.cleaning.proofs.Carried.{carries-counted}
 use Rattle.run_state.specs.declared.Edges.{Edges}
 use Rattle.run_state.specs.declared.Held.{Held}
 use Rattle.run_state.specs.View.{factsAt, unresolvedAt, rootAt, linkAt, slotsIn, sheetIn, heldIn}
@@ -56,6 +58,10 @@ slots-sum n e l k = go (take (kinds * n + 1) (e .offsets)) (both (eqb (length (t
         omega (arith, sums-from (e .count) a bs (take (e .count) (e .targets)) (q .1) few)
 
 -- ── the figures ──────────────────────────────────────────────────────────────────────────────
+
+pub references-same : (fs : List File) → ltb 0 (totals fs .references) ≡ carries fs
+unfolding totals
+references-same fs = sym (carries-counted fs)
 
 module _ (h : Held) (l : LongHeld h) (k : heldOk h ≡ true) (fs : List File) where
   sheet-ok : sheetOk (h .sheet) ≡ true
