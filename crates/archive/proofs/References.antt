@@ -158,7 +158,7 @@ unfolding referencesOk all ofKind
 empty-fits [] = tt
 empty-fits (r ∷ rs) = (record { count = omega arith; targets = tt; known = refl }, empty-fits rs)
 
-length-none : {A : Type 0} (rs : List A) → length (noReferences rs) ≡ length rs
+pub length-none : {A : Type 0} (rs : List A) → length (noReferences rs) ≡ length rs
 length-none [] = refl
 length-none (r ∷ rs) = ap suc (length-none rs)
 

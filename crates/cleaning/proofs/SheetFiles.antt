@@ -2,28 +2,29 @@
 use mathlib.Core.Path.{_≡_, refl, ap, ap₂, sym, _∙_}
 use mathlib.Core.Bool.{Bool, true, false, cond, false≢true}
 use mathlib.Core.Logic.{inl, inr}
-use mathlib.Core.List.{List, [], _∷_, map, map-map}
+use mathlib.Core.List.{List, [], _∷_, _++_, map, map-map, append-assoc, append-nil}
 use mathlib.Core.Option.{none, some}
-use Prim.Native.Nat.{ℕ, suc, _+_, _≤_, _<_}
+use Prim.Native.Nat.{ℕ, zero, suc, _+_, _≤_, _<_}
 use native.Mathlib.Omega.{arith}
 use lib.Dec.{eqb, ltb}
-use lib.ListN.{length}
+use lib.ListN.{length, take, drop}
 use borrow.Author.Tests.{eqb-true, eqb-false, lt-ltb, le-ltb, ltb-true, ltb-false}
 use Rattle.columns.specs.Limits.{Served}
-use Rattle.lists.specs.Lists.{flat, filter, joined, starts, mem, upFrom}
+use Rattle.lists.specs.Lists.{flat, filter, joined, starts, mem, part, upFrom}
 use Rattle.lists.proofs.Tests.{tested}
 use Rattle.lists.proofs.Flat.{map-ext, flat-map}
 use Rattle.lists.proofs.Filters.{each-below}
 use Rattle.columns.specs.Refusal.{unless}
 use Rattle.columns.specs.Building.{buildRules, builtOf}
 use Rattle.cover.specs.Chains.{Link}
-use Rattle.archive.specs.File.{Reference}
-use Rattle.archive.specs.Encode.{encode}
+use Rattle.archive.specs.File.{Reference, noReferences}
+use Rattle.archive.specs.Encode.{headBytes, edgesBytes, referencesRecord, fileBytes, encode}
+use Rattle.archive.proofs.References.{no-record}
 use Rattle.cleaning.specs.Sheet.{Facts, GroupLink, Sheet, rowCount, groupsFrom, groupsOfSheet, summaryOf}
 use Rattle.cleaning.specs.Writing.{Numbered, rowsIn, firstNumber, labelsIn, labelsOfGroup, edgesInto, edgesOf, inboundColumns, unresolvedColumns, graphOfRows}
 use Rattle.cleaning.specs.Writing.{groupAt, graphOf, coverOfGroup, outputOf, groupNumbers, outputs, writeRules, bytesOf, written}
-use Rattle.cleaning.specs.Sections.{Tidy, Filled, factsOf, reaches, place, sectionStart, sectionRows, sectionFirst, sectionEnd, sectionLabels, sectionLinks}
-use Rattle.cleaning.specs.Sections.{sectionEdges, rowEdges, otherRows, labelsWhere, coverWhere, unerasedRow, sectionGraph, sectionFile, sectionRules, sectionBytes}
+use Rattle.cleaning.specs.Sections.{Tidy, Filled, factsOf, reaches, place, sectionStart, sectionRows, sectionFirst, sectionEnd, sectionLabels, sectionLinks, sectionTags, sectionReferences}
+use Rattle.cleaning.specs.Sections.{sectionEdges, rowEdges, otherRows, labelsWhere, coverWhere, unerasedRow, sectionGraph, sectionFile, bareFile, sectionRules, sectionBytes}
 use Rattle.cleaning.proofs.Places.{place-rises}
 use Rattle.cleaning.proofs.FirstRules.{first-ext}
 use Rattle.cleaning.proofs.SheetRows.{rowAt, section-end, others-section, count-section, first-section, tags-section, labels-section, lists-section, references-section}
@@ -100,6 +101,27 @@ module _ (K : ℕ) (served : Served K) (s : Sheet) (t : Tidy K s) (g : ℕ) wher
           cover = cover k;
           references = references k;
         }
+
+-- ── a file with references and without ───────────────────────────────────────────────────────
+
+part-same : {A B : Type 0} (f : A → B) (i n : ℕ) (xs : List A) → part i n (map f xs) ≡ map f (part i n xs)
+unfolding part
+part-same f zero zero xs = refl
+part-same f zero (suc n) [] = refl
+part-same f zero (suc n) (x ∷ xs) = ap (λ ys. f x ∷ ys) (part-same f zero n xs)
+part-same f (suc i) zero [] = refl
+part-same f (suc i) (suc n) [] = refl
+part-same f (suc i) n (x ∷ xs) = part-same f i n xs
+
+-- the references of rows that have none
+pub bare-references : (s : Sheet) (g : ℕ) → sectionReferences s (noReferences (s .tags)) g ≡ noReferences (sectionTags s g)
+bare-references s g = part-same (λ x. []) (sectionStart s g) (sectionRows s g) (s .tags)
+
+-- the record of references stands last
+pub file-cited : (K : ℕ) (s : Sheet) (cites : List (List Reference)) (g : ℕ)
+    → fileBytes (sectionFile K s cites g) ≡ fileBytes (bareFile K s g) ++ referencesRecord (sectionReferences s cites g)
+unfolding fileBytes sectionFile headBytes edgesBytes
+file-cited K s cites g = rw (bare-references s g, no-record (sectionTags s g)) (simp (append-assoc, append-nil))
 
 -- ── every group has a row ────────────────────────────────────────────────────────────────────
 

@@ -17,7 +17,7 @@ use Rattle.columns.specs.declared.refusal.Refusal.{Refusal}
 use Rattle.columns.specs.declared.refusal.Refusal.the-variants.{SubjectLength, UnresolvedKind, DepthOrder, SeqNotRising, DeltaRange}
 use Rattle.cover.specs.Chains.{Link, rangesOf}
 use Rattle.cover.specs.Cover.{columnsOf}
-use Rattle.archive.specs.File.{Row, Unresolved, Root, CoverColumns, Reference, File}
+use Rattle.archive.specs.File.{Row, Unresolved, Root, CoverColumns, Reference, noReferences, File}
 use Rattle.archive.specs.Encode.{encode}
 use Rattle.cleaning.specs.Source.{isThere}
 use Rattle.cleaning.specs.Writing.{Edge, labelList, labelColumns, edgesInto, inboundColumns, unresolvedColumns}
@@ -204,6 +204,13 @@ sectionRules K s = firstIn (λ g. buildRules K (sectionGraph K s g)) (upFrom 0 (
 -- the archive's bytes
 unfoldable pub sectionBytes : (K : ℕ) → Sheet → List (List Reference) → List ℕ
 sectionBytes K s cites = encode (map (sectionFile K s cites) (upFrom 0 (length (s .groups))))
+
+-- without references: what the records before the seventh are
+abbrev pub bareFile : (K : ℕ) → Sheet → ℕ → File
+bareFile K s g = sectionFile K s (noReferences (s .tags)) g
+
+abbrev pub bareBytes : (K : ℕ) → Sheet → List ℕ
+bareBytes K s = sectionBytes K s (noReferences (s .tags))
 
 -- ── room ─────────────────────────────────────────────────────────────────────────────────────
 
