@@ -20,25 +20,15 @@ use Rattle.cleaning.specs.References.{namesEvent, citesBefore, sameRefer
 use Rattle.cleaning.specs.Archive.{Event, Archive, blank, at}
 use Rattle.cleaning.specs.Routes.{through, Valid}
 use Rattle.cleaning.specs.Cleaning.{rank, renumber, survivors}
-use Rattle.cleaning.specs.Rewriting.{isFollowed, retargeted, endsFrom, follow, rewritten, CitesEarlier}
+use Rattle.cleaning.specs.Rewriting.{isFollowed, retargeted, endsFrom, rewritten, CitesEarlier}
 use Rattle.cleaning.specs.Summary.{Kept, keptBy, summary}
 use Rattle.cleaning.proofs.Ends.{Stop, through-stop}
 use Rattle.cleaning.proofs.Inj.{renumber-lt, renumber-past}
 use Rattle.cleaning.proofs.Good.{WellCited, GoodCites}
 use Rattle.cleaning.proofs.Survivors.{Within, within, map-renumber-survivors, count-few}
-use Rattle.cleaning.proofs.Rewriting.{Cited, cited-on, cited-now, cite-there}
+use Rattle.cleaning.proofs.Rewriting.{Cited, cited-on, cited-now, cite-there, same-is, each-cite, follow, rewritten-once}
 
 -- ── references once ──────────────────────────────────────────────────────────────────────────
-
-same-is : (r s : Reference) → sameReference r s ≡ true → r ≡ s
-unfolding sameReference
-same-is r s h =
-    let a = both (eqb (r .kind) (s .kind)) (eqb (r .space) (s .space) && eqb (r .target) (s .target)) h in
-    let b = both (eqb (r .space) (s .space)) (eqb (r .target) (s .target)) (a .1) in
-    let kind = eqb-true (r .kind) (s .kind) (a .0) in
-    let space = eqb-true (r .space) (s .space) (b .0) in
-    let target = eqb-true (r .target) (s .target) (b .1) in
-    λ i. record { kind = kind i; space = space i; target = target i }
 
 cited-among : (rs : List Reference) (c : Reference) (cs : List Reference) → any (sameReference c) cs ≡ true → Cited c (foldl cite rs cs)
 unfolding any
@@ -65,17 +55,9 @@ unfolding citeOnce
 once-again rs = fold-cites [] [] rs
 
 module _ (P : Reference → Type 0) where
-  each-cite : (rs : List Reference) (c : Reference) → Each P rs → P c → Each P (cite rs c)
-  unfolding cite
-  each-cite rs c h k = go (any (sameReference c) rs)
-    where
-      go : (b : Bool) → Each P (cond b rs (rs ++ (c ∷ [])))
-      go true = h
-      go false = each-append P rs (c ∷ []) h (k, tt)
-
   each-cites : (rs cs : List Reference) → Each P rs → Each P cs → Each P (foldl cite rs cs)
   each-cites rs [] h k = h
-  each-cites rs (c ∷ cs) h k = each-cites (cite rs c) cs (each-cite rs c h (k .0)) (k .1)
+  each-cites rs (c ∷ cs) h k = each-cites (cite rs c) cs (each-cite P rs c h (k .0)) (k .1)
 
   each-once : (cs : List Reference) → Each P cs → Each P (citeOnce cs)
   unfolding citeOnce
@@ -178,16 +160,19 @@ module _ (A : Archive) (v : Valid A) (p : ℕ) (w : Within (A .start) (A .events
     abbrev rs : List Reference
     rs = (at A p) .references
 
-    fine : Each Fine (rewritten A p)
-    unfolding rewritten referencesOk
+    abbrev new : List Reference
+    new = citeOnce (flat (follow A) rs)
+
+    fine : Each Fine new
+    unfolding referencesOk
     fine = each-once Fine (flat (follow A) rs) (all-fine rs (both (all referenceOk rs) _ (wide .known) .0) (wide .targets) earlier)
 
-    one-of : (k : ℕ) → referenceKinds ≤ k → ofKind k rs ≤ 1 → ofKind k (rewritten A p) ≤ 1
-    unfolding rewritten citeOnce ofKind
+    one-of : (k : ℕ) → referenceKinds ≤ k → ofKind k rs ≤ 1 → ofKind k new ≤ 1
+    unfolding citeOnce ofKind
     one-of k l h = omega (arith, kind-cites k [] (flat (follow A) rs), kind-follows k A l rs)
 
-    pub good-cites : GoodCites (renumber A p) (rewritten A p)
-    unfolding Fine referencesOk rewritten
+    pub good-cites : GoodCites (renumber A p) new
+    unfolding Fine referencesOk
     good-cites =
         let x = both (all referenceOk rs) (leb (ofKind 3 rs) 1 && leb (ofKind 5 rs) 1) (wide .known) in
         let y = both (leb (ofKind 3 rs) 1) (leb (ofKind 5 rs) 1) (x .1) in
@@ -195,13 +180,13 @@ module _ (A : Archive) (v : Valid A) (p : ℕ) (w : Within (A .start) (A .events
         let roots = one-of 5 (omega arith) (leb-true (ofKind 5 rs) 1 (y .1)) in
         record {
           known = rw (
-            all-of referenceOk (rewritten A p) (each-imp Fine (λ r. referenceOk r ≡ true) (rewritten A p) (λ r f. f .0) fine),
-            le-leb (ofKind 3 (rewritten A p)) 1 parents,
-            le-leb (ofKind 5 (rewritten A p)) 1 roots,
+            all-of referenceOk new (each-imp Fine (λ r. referenceOk r ≡ true) new (λ r f. f .0) fine),
+            le-leb (ofKind 3 new) 1 parents,
+            le-leb (ofKind 5 new) 1 roots,
           );
-          targets = each-imp Fine (λ r. r .target < 2 ^ 64) (rewritten A p) (λ r f. f .1) fine;
+          targets = each-imp Fine (λ r. r .target < 2 ^ 64) new (λ r f. f .1) fine;
           once = once-again (flat (follow A) rs);
-          earlier = all-of (citesBefore (renumber A p)) (rewritten A p) (each-imp Fine (λ r. citesBefore (renumber A p) r ≡ true) (rewritten A p) (λ r f. f .2) fine);
+          earlier = all-of (citesBefore (renumber A p)) new (each-imp Fine (λ r. citesBefore (renumber A p) r ≡ true) new (λ r f. f .2) fine);
         }
 
 -- ── rows ─────────────────────────────────────────────────────────────────────────────────────
@@ -218,4 +203,4 @@ unfolding summary keptBy CitesEarlier at
 cites-good K served A v c h few =
     rows-from (renumber A) (keptBy K A) (A .start) (survivors A) (map-renumber-survivors A)
     (each-imp (Within (A .start) (A .events)) (λ p. GoodCites (renumber A p) (rewritten A p)) (survivors A)
-    (λ p w. good-cites A v p w few (each-getD (λ e. WellCited (e .references)) (A .events) (p - A .start) blank h (omega (arith, w .0, w .1))) (c p (w .0))) (within A))
+    (λ p w. subst (GoodCites (renumber A p)) (sym (rewritten-once A v c p (w .1) (w .0))) (good-cites A v p w few (each-getD (λ e. WellCited (e .references)) (A .events) (p - A .start) blank h (omega (arith, w .0, w .1))) (c p (w .0)))) (within A))

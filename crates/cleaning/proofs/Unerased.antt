@@ -1,7 +1,7 @@
 -- An archive in which nobody is erased, each number of a list once: every list is its own new list, every number its own new number, so that the
 -- cleaned form of a good summary's rows is that summary.
 use mathlib.Core.Path.{_≡_, refl, ap, ap₂, sym, _∙_}
-use mathlib.Core.Bool.{Bool, true, false, cond, not}
+use mathlib.Core.Bool.{Bool, true, false, cond, _||_, not}
 use mathlib.Core.Logic.{inl, inr}
 use mathlib.Core.List.{List, [], _∷_, map, map-id}
 use mathlib.Core.Option.{Option, none, some}
@@ -16,7 +16,7 @@ use Rattle.lists.proofs.Tests.{both, tested}
 use Rattle.lists.proofs.From.{from-getD}
 use Rattle.archive.specs.File.{Reference}
 use Rattle.cleaning.specs.References.{namesEvent, citesBefore, citeOnce}
-use Rattle.cleaning.specs.Rewriting.{isFollowed, endsFrom, follow, rewritten}
+use Rattle.cleaning.specs.Rewriting.{isFollowed, endsFrom, reach, reached, renewed, rewritten}
 use Rattle.lists.proofs.Each.{each-imp, each-all, each-getD}
 use Rattle.lists.proofs.Flat.{flat-ext, map-ext}
 use Rattle.lists.proofs.Once.{once-distinct}
@@ -131,29 +131,41 @@ module _ (K : ℕ) (served : Served K) (S : Summary) (good : Good K S) (i : ℕ)
       ∙ map-id ps)
 
   -- every reference is followed to itself
-  follow-stays : (c : Reference) → citesBefore p c ≡ true → follow (unerased S) c ≡ c ∷ []
-  unfolding follow isFollowed endsFrom citesBefore
-  follow-stays c h = elim (tested (isFollowed (unerased S) c)) [
-    | inl e ↦ let q = both (namesEvent c) (not (ltb (c .target) (S .start))) e in
-        let b : ltb (c .target) p ≡ true = rw (q .0) at h in
-        let n = renumber-same S (c .target) (omega (arith, ltb-true (c .target) p b)) in
-        rw (e, one-step S (c .kind) (suc (c .target - S .start)) (c .target), n)
+  reach-stays : (c : Reference) → reach (unerased S) c ≡ c ∷ []
+  unfolding reach isFollowed endsFrom
+  reach-stays c = elim (tested (isFollowed (unerased S) c)) [
+    | inl e ↦ rw (e, one-step S (c .kind) (suc (c .target - S .start)) (c .target))
     | inr e ↦ rw e
   ]
 
-  follows-stay : (cs : List Reference) → all (citesBefore p) cs ≡ true → flat (follow (unerased S)) cs ≡ cs
+  reaches-stay : (cs : List Reference) → flat (reach (unerased S)) cs ≡ cs
+  reaches-stay [] = refl
+  reaches-stay (c ∷ cs) = rw (reach-stays c, reaches-stay cs)
+
+  renewed-stays : (c : Reference) → citesBefore p c ≡ true → renewed (unerased S) c ≡ c
+  unfolding renewed citesBefore
+  renewed-stays c h = go (namesEvent c) refl h
+    where
+      go : (b : Bool) → namesEvent c ≡ b → (not (namesEvent c) || ltb (c .target) p) ≡ true
+          → cond b (record { kind = c .kind; space = c .space; target = renumber (unerased S) (c .target) }) c ≡ c
+      go false e h = refl
+      go true e h =
+          let below : ltb (c .target) p ≡ true = rw e at h in
+          let n = renumber-same S (c .target) (omega (arith, ltb-true (c .target) p below, l)) in
+          λ i. record { kind = c .kind; space = c .space; target = n i }
+
+  all-stay : (cs : List Reference) → all (citesBefore p) cs ≡ true → map (renewed (unerased S)) cs ≡ cs
   unfolding all
-  follows-stay [] h = refl
-  follows-stay (c ∷ cs) h =
-      let q = both (citesBefore p c) (all (citesBefore p) cs) h in
-      rw (follow-stays c (q .0), follows-stay cs (q .1))
+  all-stay [] h = refl
+  all-stay (c ∷ cs) h = let q = both (citesBefore p c) (all (citesBefore p) cs) h in rw (renewed-stays c (q .0), all-stay cs (q .1))
 
   cites-stay : rewritten (unerased S) p ≡ row .references
-  unfolding rewritten
+  unfolding rewritten reached
   cites-stay =
       let good-row = from-getD (λ n r. GoodCites n (r .references)) (S .start) (S .rows) i blankRow (good .cites) l in
-      ap (λ e. citeOnce (flat (follow (unerased S)) (e .references))) (at-row S p ∙ ap eventOf this-row)
-      ∙ ap citeOnce (follows-stay (row .references) (good-row .earlier)) ∙ good-row .once
+      ap (λ e. map (renewed (unerased S)) (citeOnce (flat (reach (unerased S)) (e .references)))) (at-row S p ∙ ap eventOf this-row)
+      ∙ ap (λ cs. map (renewed (unerased S)) (citeOnce cs)) (reaches-stay (row .references))
+      ∙ ap (map (renewed (unerased S))) (good-row .once) ∙ all-stay (row .references) (good-row .earlier)
 
   row-stays : keptBy K (unerased S) p ≡ row
   unfolding keptBy

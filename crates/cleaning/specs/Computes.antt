@@ -31,7 +31,7 @@ unfolding
     Memo.addParent Memo.memo Memo.tables
     References.namesEvent References.citesBefore References.sameReference References.cite References.citeOnce
     Resolving.entries Resolving.survivesIn Resolving.groupsSurvive Resolving.resolveRules
-    Rewriting.isFollowed Rewriting.endsFrom Rewriting.follow Rewriting.rewritten Rewriting.comesTo Rewriting.followIn Rewriting.rewrittenIn Rewriting.citations Rewriting.CitesEarlier
+    Rewriting.isFollowed Rewriting.endsFrom Rewriting.reach Rewriting.reached Rewriting.renewed Rewriting.rewritten Rewriting.comesTo Rewriting.followIn Rewriting.rewrittenIn Rewriting.citations Rewriting.CitesEarlier
     Routes.passes Routes.through Routes.ends Routes.Valid
     Runs.slotted Runs.heldRules Runs.resolveHeld Runs.runStep
     Sections.labelsFit Sections.reaches Sections.place Sections.between Sections.sectionStart Sections.sectionRows Sections.rowEdges Sections.otherRows Sections.childLists Sections.sectionGraph Sections.sectionFile Sections.sectionFaults Sections.sectionRules Sections.sectionBytes

@@ -25,13 +25,21 @@ retargeted r ps = map (λ p. record { kind = r .kind; space = r .space; target =
 unfoldable pub endsFrom : Archive → ℕ → ℕ → List ℕ
 endsFrom A k p = flat (through A k (suc (suc (p - A .start)))) (p ∷ [])
 
--- what becomes of a reference
-unfoldable pub follow : Archive → Reference → List Reference
-follow A r = cond (isFollowed A r) (retargeted r (map (renumber A) (endsFrom A (r .kind) (r .target)))) (r ∷ [])
+-- what a reference comes to, by old numbers
+unfoldable pub reach : Archive → Reference → List Reference
+reach A r = cond (isFollowed A r) (retargeted r (endsFrom A (r .kind) (r .target))) (r ∷ [])
 
--- an event's references, rewritten
+-- what an event's references come to, each once, in order of first places
+unfoldable pub reached : Archive → ℕ → List Reference
+reached A p = citeOnce (flat (reach A) ((at A p) .references))
+
+-- a reference that names an event names it by its new number
+unfoldable pub renewed : Archive → Reference → Reference
+renewed A r = cond (namesEvent r) (record { kind = r .kind; space = r .space; target = renumber A (r .target) }) r
+
+-- an event's references, rewritten. That repeats are dropped before the numbers are new makes no difference: proofs/Rewriting
 unfoldable pub rewritten : Archive → ℕ → List Reference
-rewritten A p = citeOnce (flat (follow A) ((at A p) .references))
+rewritten A p = map (renewed A) (reached A p)
 
 -- ── out of tables that hold every event's new lists, kind by kind ────────────────────────────
 
