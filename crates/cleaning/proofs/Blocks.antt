@@ -125,8 +125,12 @@ pub record GoodRow (K : ℕ) (S : Summary) (g : ℕ) (r : Numbered) : Type 0 whe
   pub body : GoodBody (S .groups) (r .row .body)
   pub cites : GoodCites (r .number) (r .row .references)
 
+-- what holds of a row under its number
+abbrev GoodNumbered : (K : ℕ) → Summary → Numbered → Type 0
+GoodNumbered K S r = GoodLists K (r .number) (r .row .parents) × (GoodBody (S .groups) (r .row .body) × GoodCites (r .number) (r .row .references))
+
 module _ (K : ℕ) (served : Served K) (S : Summary) (good : Good K S) where
-  good-rows : Each (λ r. GoodLists K (r .number) (r .row .parents) × (GoodBody (S .groups) (r .row .body) × GoodCites (r .number) (r .row .references))) (numbered S)
+  good-rows : Each (GoodNumbered K S) (numbered S)
   unfolding numbered
   good-rows =
       each-both (λ r. GoodLists K (r .number) (r .row .parents)) (λ r. GoodBody (S .groups) (r .row .body) × GoodCites (r .number) (r .row .references)) (numbered S)
@@ -139,7 +143,7 @@ module _ (K : ℕ) (served : Served K) (S : Summary) (good : Good K S) where
   unfolding rowsIn numbered notFalling
   all-rows =
       blocks-all (length (S .groups)) 0 (numbered S) (level-numbered 0 (S .start) (S .rows) (good .order))
-      (each-imp (λ r. GoodLists K (r .number) (r .row .parents) × (GoodBody (S .groups) (r .row .body) × GoodCites (r .number) (r .row .references))) (λ r. groupOf r < 0 + length (S .groups)) (numbered S)
+      (each-imp (GoodNumbered K S) (λ r. groupOf r < 0 + length (S .groups)) (numbered S)
       (λ r h. omega (arith, h .1 .0 .group)) good-rows)
 
   pub rows-counted : (g : ℕ) → g < length (S .groups) → Counted (S .start + rowsBefore S g) (rowsIn S g)
@@ -177,9 +181,9 @@ module _ (K : ℕ) (served : Served K) (S : Summary) (good : Good K S) where
   pub rows-good : (g : ℕ) → Each (GoodRow K S g) (rowsIn S g)
   unfolding rowsIn
   rows-good g =
-      each-imp (λ r. (groupIs g r ≡ true) × (GoodLists K (r .number) (r .row .parents) × (GoodBody (S .groups) (r .row .body) × GoodCites (r .number) (r .row .references)))) (GoodRow K S g) (rowsIn S g)
+      each-imp (λ r. (groupIs g r ≡ true) × GoodNumbered K S r) (GoodRow K S g) (rowsIn S g)
       (λ r h. record { group = eqb-true (groupOf r) g (h .0); lists = h .1 .0; body = h .1 .1 .0; cites = h .1 .1 .1 })
-      (each-both (λ r. groupIs g r ≡ true) (λ r. GoodLists K (r .number) (r .row .parents) × (GoodBody (S .groups) (r .row .body) × GoodCites (r .number) (r .row .references))) (rowsIn S g)
+      (each-both (λ r. groupIs g r ≡ true) (GoodNumbered K S) (rowsIn S g)
       (filter-passes (groupIs g) (numbered S)) (each-filter (groupIs g) _ (numbered S) good-rows))
 
   -- with its number in the group's block

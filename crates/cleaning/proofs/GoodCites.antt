@@ -203,4 +203,5 @@ unfolding summary keptBy CitesEarlier at
 cites-good K served A v c h few =
     rows-from (renumber A) (keptBy K A) (A .start) (survivors A) (map-renumber-survivors A)
     (each-imp (Within (A .start) (A .events)) (λ p. GoodCites (renumber A p) (rewritten A p)) (survivors A)
-    (λ p w. subst (GoodCites (renumber A p)) (sym (rewritten-once A v c p (w .1) (w .0))) (good-cites A v p w few (each-getD (λ e. WellCited (e .references)) (A .events) (p - A .start) blank h (omega (arith, w .0, w .1))) (c p (w .0)))) (within A))
+    (λ p w. subst (GoodCites (renumber A p)) (sym (rewritten-once A v c p (w .1) (w .0)))
+    (good-cites A v p w few (each-getD (λ e. WellCited (e .references)) (A .events) (p - A .start) blank h (omega (arith, w .0, w .1))) (c p (w .0)))) (within A))

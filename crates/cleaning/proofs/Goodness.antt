@@ -67,7 +67,8 @@ abbrev archiveFrom : (K : ℕ) → List Source → Archive
 archiveFrom K ss = archiveOf K (record { sources = ss })
 
 pub good-sources : (K : ℕ) (served : Served K) (ss : List Source) → isEmpty ss ≡ false → Followed K none ss → Each Fitting ss → Limited ss
-    → entries (tables K (archiveFrom K ss)) ≤ maxNumbers → citations (archiveFrom K ss) (tables K (archiveFrom K ss)) ≤ maxNumbers → groupsSurvive (archiveFrom K ss) ≡ true → Good K (summary K (archiveFrom K ss))
+    → entries (tables K (archiveFrom K ss)) ≤ maxNumbers → citations (archiveFrom K ss) (tables K (archiveFrom K ss)) ≤ maxNumbers
+    → groupsSurvive (archiveFrom K ss) ≡ true → Good K (summary K (archiveFrom K ss))
 unfolding summary archiveOf
 good-sources K served ss e f h l n x g =
     let t : Taken = record { sources = ss } in

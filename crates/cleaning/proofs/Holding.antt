@@ -89,7 +89,8 @@ module _ (K : ℕ) (served : Served K) (t : Taken) (f : Followed K none (t .sour
   unfolding resolveHeld resolve hold
   resolve-held = rw (archive-held K served (t .sources) f, rules-held (archiveOf K t) (tables K (archiveOf K t))) (go (resolveRules t (archiveOf K t) (tables K (archiveOf K t))))
     where
-      go : (r : Option Refusal) → resolveInto (heldOf (t .sources)) (surviving K t (tables K (archiveOf K t))) (citing K t (tables K (archiveOf K t))) r ≡ holdOutcome K (resolveBy t (tables K (archiveOf K t)) r)
+      go : (r : Option Refusal) → resolveInto (heldOf (t .sources)) (surviving K t (tables K (archiveOf K t))) (citing K t (tables K (archiveOf K t))) r
+          ≡ holdOutcome K (resolveBy t (tables K (archiveOf K t)) r)
       go none = refl
       go (some r) = refl
 
@@ -125,7 +126,8 @@ run-step K served (resolved t ts) (writes room) ss i =
 run-step K served (resolved t ts) (maps p) ss i =
     ap (λ A. runOutcome (RunState.resolved (heldOf (t .sources)) (surviving K t ts) (citing K t ts)) (told (mapped A p))) (archive-held K served (t .sources) (followed-of K served t ss (i .0) (i .1)))
 run-step K served (resolved t ts) counts ss i =
-    ap (λ A. runOutcome (RunState.resolved (heldOf (t .sources)) (surviving K t ts) (citing K t ts)) (counted (reparented A))) (archive-held K served (t .sources) (followed-of K served t ss (i .0) (i .1)))
+    ap (λ A. runOutcome (RunState.resolved (heldOf (t .sources)) (surviving K t ts) (citing K t ts)) (counted (reparented A)))
+    (archive-held K served (t .sources) (followed-of K served t ss (i .0) (i .1)))
 run-step K served (resolved t ts) (lists room) ss i =
     ap₂ (λ A S. runOutcome (RunState.resolved (heldOf (t .sources)) (surviving K t ts) (citing K t ts)) (listInto (listed K room A S)))
     (archive-held K served (t .sources) (followed-of K served t ss (i .0) (i .1))) (surviving-sheet K served t ts ss (i .0) (i .1) (i .2))

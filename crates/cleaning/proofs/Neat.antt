@@ -194,7 +194,8 @@ module _ (K : ℕ) (served : Served K) (h : Held) (n : Neat K h) where
       let A = archiveHeld K h in
       let v = neat-valid K served h n in
       let same = summary-held K served h (tables K A) (n .rows) (tables-length K served A) ∙ tabled-summary K served A v (neat-cites K served h n) in
-      rows-slots K served (survivorSheet K h (slotted (length (A .events)) (tables K A))) survivors-tidy (survivorReferences A (tables K A)) (subst (λ S. RowsFrom K (A .start) (S .rows)) (sym same) (lists-good K served A v))
+      rows-slots K served (survivorSheet K h (slotted (length (A .events)) (tables K A))) survivors-tidy (survivorReferences A (tables K A))
+      (subst (λ S. RowsFrom K (A .start) (S .rows)) (sym same) (lists-good K served A v))
 
   pub neat-resolved : heldRules h (archiveHeld K h) (tables K (archiveHeld K h)) ≡ none
       → Tidy K (survivorSheet K h (slotted (length ((archiveHeld K h) .events)) (tables K (archiveHeld K h))))

@@ -250,7 +250,8 @@ write-renews K served t ts ss room ((i, f, g), (few, r)) =
         → Each (Written K ss) (bytesWritten (did (writes room) (writeInto room (unless x (bytesOf K (summary K (archiveFrom K ss)))))))
     go f few r (some x) e = tt
     go f few r none e =
-        fits (renewed K served (archiveFrom K ss) (valid-sources K served ss f) (good-sources K served ss (r .some-source) f (few .fitting) (few .limited) (r .few-entries) (r .few-citations) (r .survive)) e)
+        fits (renewed K served (archiveFrom K ss) (valid-sources K served ss f)
+        (good-sources K served ss (r .some-source) f (few .fitting) (few .limited) (r .few-entries) (r .few-citations) (r .survive)) e)
         (leb (length (bytesOf K (summary K (archiveFrom K ss)))) room)
       where
         fits : Renewed K (archiveFrom K ss) (cleaned K (archiveFrom K ss)) → (b : Bool)

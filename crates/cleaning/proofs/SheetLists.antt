@@ -109,7 +109,8 @@ module _ (K : ℕ) (served : Served K) (s : Sheet) (t : Tidy K s) where
       ap (flat (λ r. r .row .parents)) (numbered-sheet K served s cites) ∙ flat-map (λ r. r .row .parents) (rowAt K s cites) (upFrom 0 (rowCount s))
       ∙ parts-all K (rowCount s) (s .lists) all-lists in
       subst (λ ls. slotRules K (s .start) 0 ls ≡ none) slots
-      (row-slots-none K served (s .start) (numbered (summaryOf K s cites)) (numbered-counted (s .start) ((summaryOf K s cites) .rows)) (lists-numbered K served (s .start) ((summaryOf K s cites) .rows) h))
+      (row-slots-none K served (s .start) (numbered (summaryOf K s cites)) (numbered-counted (s .start) ((summaryOf K s cites) .rows))
+      (lists-numbered K served (s .start) ((summaryOf K s cites) .rows) h))
 
   module _ (e : slotRules K (s .start) 0 (s .lists) ≡ none) where
     pub row-good : (i : ℕ) → i < rowCount s → GoodLists K (s .start + i) (parentsAt K s i)

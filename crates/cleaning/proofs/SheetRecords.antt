@@ -81,7 +81,8 @@ own-root a i (r ∷ rs) h = elim (tested (eqb (r .row) i)) [
   | inr e ↦ rw e (own-root a i rs (rises-rising (r .row) (map (λ r. r .row) rs) h))
 ]
 
-roots-places : (K : ℕ) (served : Served K) (s : Sheet) (cites : List (List Reference)) (a j n : ℕ) → rootsFrom j (map (rowAt K s cites) (upFrom (a + j) n)) ≡ flat (λ i. rootOf (i - a) (rootIn (s .roots) i)) (upFrom (a + j) n)
+roots-places : (K : ℕ) (served : Served K) (s : Sheet) (cites : List (List Reference)) (a j n : ℕ)
+    → rootsFrom j (map (rowAt K s cites) (upFrom (a + j) n)) ≡ flat (λ i. rootOf (i - a) (rootIn (s .roots) i)) (upFrom (a + j) n)
 unfolding rootsFrom upFrom bodyAt
 roots-places K served s cites a j zero = refl
 roots-places K served s cites a j (suc n) =

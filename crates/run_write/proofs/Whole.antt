@@ -47,7 +47,8 @@ module _ (s : Sheet) (t : Tidy kinds s) (f : Filled s) where
       no-rule : sectionRules kinds s ≡ none
       no-rule = told-kept (sectionRules kinds s) (d .rules) e
 
-      all-accepted : writeInto (length was) (written kinds (summaryOf kinds s (noReferences (s .tags)))) ≡ cond (leb (length (bareBytes kinds s)) (length was)) (wrote (allOf (bareBytes kinds s))) (refused SliceShort)
+      all-accepted : writeInto (length was) (written kinds (summaryOf kinds s (noReferences (s .tags))))
+          ≡ cond (leb (length (bareBytes kinds s)) (length was)) (wrote (allOf (bareBytes kinds s))) (refused SliceShort)
       unfolding unless
       all-accepted = ap (writeInto (length was)) (as-sections ∙ ap (λ r. unless r (bareBytes kinds s)) no-rule)
 
