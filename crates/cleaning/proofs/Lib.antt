@@ -10,7 +10,8 @@ pub mod Tabled
 pub mod Worked
 pub mod Sides
 pub mod Taken
-pub mod Carried
+pub mod Rewriting
+pub mod GoodCites
 pub mod Events
 pub mod Invariant
 pub mod Writes
