@@ -33,6 +33,7 @@ pub fn count(h: Held) -> Totals
         forward: h.sheet.edges.count,
         reverse: h.reverse.count,
         inbound: h.inbound.count,
+        references: h.cites.count,
     }
 }
 
@@ -58,7 +59,7 @@ fn many_records(a: Totals, b: Totals, groups: bool) -> bool
     groups
 }
 
-// 43: the deltas of each set.
+// 43: the deltas of each set, and the references.
 fn many_numbers(a: Totals, b: Totals) -> bool
     ensures { λ r. ⌜ r ≡ manyNumbers a b ⌝ }
 {
@@ -68,7 +69,10 @@ fn many_numbers(a: Totals, b: Totals) -> bool
     if is_over(4096, a.reverse, b.reverse) {
         return true;
     }
-    is_over(4096, a.inbound, b.inbound)
+    if is_over(4096, a.inbound, b.inbound) {
+        return true;
+    }
+    is_over(4096, a.references, b.references)
 }
 
 // 42, then 43, by the figures of what is held, which itself is not read.

@@ -64,9 +64,14 @@ module _ (a b : Totals) {x : Bool} (p : x ≡ ltb maxNumbers (a .forward + b .fo
     unfolding manyNumbers
     many-reverse k = rw (← p, h, ← q, k)
 
-    pub only-inbound : y ≡ false → {r : Bool} → r ≡ ltb maxNumbers (a .inbound + b .inbound) → r ≡ manyNumbers a b
-    unfolding manyNumbers
-    only-inbound k e = rw (← p, h, ← q, k) e
+    module _ (k : y ≡ false) {z : Bool} (r : z ≡ ltb maxNumbers (a .inbound + b .inbound)) where
+      pub many-inbound : z ≡ true → true ≡ manyNumbers a b
+      unfolding manyNumbers
+      many-inbound l = rw (← p, h, ← q, k, ← r, l)
+
+      pub only-references : z ≡ false → {w : Bool} → w ≡ ltb maxNumbers (a .references + b .references) → w ≡ manyNumbers a b
+      unfolding manyNumbers
+      only-references l e = rw (← p, h, ← q, k, ← r, l) e
 
 module _ (h : Held) (t a : Totals) (groups : Bool) (e : a ≡ figures h) {x : Bool} (p : x ≡ manyRecords a t groups) where
   pub records-many : x ≡ true → Broken OverRecords ≡ ruling (limitRules h t groups)

@@ -25,6 +25,7 @@ use Rattle.run_state.specs.declared.Held.{Held}
 use Rattle.run_state.specs.View.{factsAt, unresolvedAt, rootAt, linkAt, slotsIn, sheetIn, heldIn}
 use Rattle.run_state.specs.Valid.{edgesOk, sheetOk, heldOk}
 use Rattle.run_state.specs.order.Long.{LongEdges, LongHeld}
+use Rattle.run_state.proofs.cited.Kept.{cites-kept, cites-sum}
 use Rattle.run_state.proofs.order.TidySheets.{tags-length, edges-form}
 use Rattle.run_rules.specs.limits.Figures.{figures, manyRecords, manyNumbers}
 
@@ -79,5 +80,7 @@ module _ (h : Held) (l : LongHeld h) (k : heldOk h ≡ true) (fs : List File) wh
       rw (
         slots-sum (h .sheet .rows .count) (h .sheet .edges) (l .sheet .edges) (edges-form (h .sheet) (l .sheet) sheet-ok),
         slots-sum (h .sheet .rows .count) (h .reverse) (l .reverse) (both (edgesOk (h .sheet .rows .count) (h .reverse)) _ e .0),
-        slots-sum (h .sheet .rows .count) (h .inbound) (l .inbound) (both (edgesOk (h .sheet .rows .count) (h .reverse)) _ e .1),
+        slots-sum (h .sheet .rows .count) (h .inbound) (l .inbound)
+            (both (edgesOk (h .sheet .rows .count) (h .inbound)) _ (both (edgesOk (h .sheet .rows .count) (h .reverse)) _ e .1) .0),
+        cites-sum (h .sheet .start) (h .sheet .rows .count) (h .cites) (cites-kept h k) (l .cites),
       )

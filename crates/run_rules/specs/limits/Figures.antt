@@ -22,6 +22,7 @@ figures h = record {
   forward = h .sheet .edges .count;
   reverse = h .reverse .count;
   inbound = h .inbound .count;
+  references = h .cites .count;
 }
 
 unfoldable pub manyRecords : Totals → Totals → Bool → Bool
@@ -38,6 +39,7 @@ manyNumbers a b =
     ltb maxNumbers (a .forward + b .forward)
     || ltb maxNumbers (a .reverse + b .reverse)
     || ltb maxNumbers (a .inbound + b .inbound)
+    || ltb maxNumbers (a .references + b .references)
 
 unfoldable pub limitRules : Held → Totals → Bool → Option Refusal
 limitRules h t groups =
