@@ -80,7 +80,8 @@ limits-within h fs e =
     let c = or-is-false _ (ltb maxRecords (h .ranges + _)) (b .0) in
     let d = or-is-false _ (ltb maxRecords (length (h .sheet .unresolved) + _)) (c .0) in
     let g = or-is-false (ltb maxRecords (length (h .sheet .tags) + _)) (ltb maxRecords (length (h .sheet .roots) + _)) (d .0) in
-    let i = or-is-false _ (ltb maxNumbers (sum length (h .inbound) + _)) s in
+    let u = or-is-false _ (ltb maxNumbers (sum length (h .references) + _)) s in
+    let i = or-is-false _ (ltb maxNumbers (sum length (h .inbound) + _)) (u .0) in
     let j = or-is-false (ltb maxNumbers (sum length (h .sheet .lists) + _)) (ltb maxNumbers (sum length (h .reverse) + _)) (i .0) in
     (within maxRecords _ _ (g .0), within maxRecords _ _ (c .1), within maxRecords _ _ (b .1), within maxNumbers _ _ (j .0), within maxNumbers _ _ (j .1), within maxNumbers _ _ (i .1))
 
