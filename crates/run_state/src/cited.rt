@@ -1,6 +1,7 @@
 // Whether columns of references are those of a run: offsets in form, and each reference that names an event by its sequence number names one before
 // its own event.
 use crate::Cites;
+use crate::order::long::cites_long;
 use arrays::index;
 ghost use mathlib.Core.Path.{_≡_};
 ghost use mathlib.Core.Bool.{true};
@@ -187,11 +188,6 @@ fn columns_cited(
     }
     held_before(first, n, count, offsets, kinds, spaces, targets)
 }
-
-// How long the columns are: this function does nothing.
-fn cites_long(c: Cites)
-    ensures { λ _. ⌜ (length (c .offsets) ≡ 1025) × (length (c .kinds) ≡ 4096) × (length (c .spaces) ≡ 4096) × (length (c .targets) ≡ 4096) ⌝ }
-{}
 
 // Whether references are those of n rows of a run.
 pub fn cites_ok(first: u64, n: usize, c: Cites) -> bool

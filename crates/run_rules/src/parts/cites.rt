@@ -49,7 +49,7 @@ fn number_at(b: &[u8], p: usize) -> u64
     high * 4294967296 + low
 }
 
-// Whether the reference at p, of an event, names none but one before it.
+// Whether the reference at p, where it names an event by its sequence number, names one before `event`.
 fn reference_before(b: &[u8], p: usize, event: u64) -> bool
     requires { ⌜ p + 6 ≤ 2 ^ 47 ⌝ }
     ensures { λ r. ⌜ r ≡ citesBefore event (referenceAt (drop p (now (b .entry)))) ⌝ }

@@ -66,7 +66,7 @@ pub fn sheet_long(s: Sheet)
     links_long(s.links);
 }
 
-fn cites_long(c: Cites)
+pub fn cites_long(c: Cites)
     ensures { λ _. ⌜ LongCites c ⌝ }
 {}
 
