@@ -13,6 +13,7 @@ use Rattle.lists.specs.Lists.{sum, once, add, isEmpty, upFrom, Each}
 use Rattle.lists.proofs.Once.{or-is-false}
 use Rattle.columns.specs.Limits.{kinds, maxRecords, maxNumbers, maxGroups}
 use Rattle.columns.proofs.Served.{kinds-served}
+use Rattle.columns.specs.Refusal.{refuse}
 use Rattle.columns.specs.declared.refusal.Refusal.the-variants.{OverRecords, OverNumbers}
 use Rattle.columns.proofs.FirstBroken.{each-none, not-refused}
 use Rattle.archive.specs.File.{File}
@@ -58,7 +59,7 @@ within m a e = omega (arith, ltb-false m a e)
 pub left-start : (h : Held) (fs : List File) → LongHeld h → heldOk h ≡ true → holdRules kinds (heldIn h) fs ≡ none → Left h fs
 unfolding holdRules manyRecords manyNumbers figures totals groupsOver heldIn
 left-start h fs long ok e =
-    let parts = each-none _ e .1 in
+    let parts = each-none (refuse OverRecords (recordsOver (heldIn h) fs) ∷ refuse OverNumbers (numbersOver (heldIn h) fs) ∷ filesRules kinds (lookBack (sheetIn (h .sheet))) fs ∷ []) e in
     let r = records-same h long ok fs ∙ not-refused OverRecords (recordsOver (heldIn h) fs) (parts .0) in
     let s = numbers-same h long ok fs ∙ not-refused OverNumbers (numbersOver (heldIn h) fs) (parts .1 .0) in
     let a = or-is-false _ (ltb maxGroups (length (once (upFrom 0 (h .sheet .groups .count) ++ map (λ f. f .group) fs)))) r in
