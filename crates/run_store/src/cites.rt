@@ -1,10 +1,11 @@
 // The references of a run's rows, grown by those of every file of an archive, in place. Row by row a record has a count of 4 bytes and as many
 // references of 10 bytes: a kind, a space and a target. A byte past its end is read as 0, as the definition of the record reads it, so that rows
-// without a record are read from no bytes.
+// without a record are read from no bytes. Places are small: 1,024 rows and 4,096 references take 45,056 bytes.
 use crate::turns::next;
 use archive_bytes::wide;
 use archive_read::records::FileAt;
 use archive_read::records::FileRead;
+use archive_read::records::Part;
 use archive_read::records::file_at;
 use arrays::index;
 use run_state::Cites;
@@ -17,7 +18,7 @@ ghost use Rattle.lists.specs.Lists.{sum};
 ghost use Rattle.archive_bytes.specs.Bytes.{be, several};
 ghost use Rattle.archive.specs.Parse.{referenceAt};
 ghost use Rattle.archive_read.specs.bodies.View.{referencesFrom};
-ghost use Rattle.archive_read.specs.Layout.{fileIn, HoldsTail};
+ghost use Rattle.archive_read.specs.Layout.{partIn, fileIn, HoldsTail};
 ghost use Rattle.run_store.specs.parts.Grown.{citesRow, citesWith};
 ghost use Rattle.run_store.specs.turns.Parts.{stored, Accepted};
 ghost use Rattle.run_store.specs.cites.Columns.{citesOf, RowMore};
@@ -100,7 +101,7 @@ fn put_row(
     put_targets(targets, c, b, base, n);
 }
 
-// The same with where they end: that of row `row`, from 0 on.
+// The same with the place where they end, which is kept behind those of the rows up to `row`.
 fn add_row(
     offsets: &mut [u64; 1025],
     kinds: &mut [u8; 4096],
@@ -149,6 +150,29 @@ fn put_rows(
     c
 }
 
+// The same of the record's place in an archive.
+fn put_record(
+    offsets: &mut [u64; 1025],
+    kinds: &mut [u8; 4096],
+    spaces: &mut [u8; 4096],
+    targets: &mut [u64; 4096],
+    c: usize,
+    n: usize,
+    bytes: &[u8],
+    a: Part,
+    rows: usize,
+) -> usize
+    requires { ⌜ (a .at ≤ a .end) × (a .end ≤ length (now bytes)) ⌝ }
+    requires { ⌜ (n + rows ≤ 1024) × (c + sum length (referencesFrom rows (partIn (now bytes) a)) ≤ 4096) ⌝ }
+    ensures { λ r. ⌜ citesOf r (now (offsets .exit)) (now (kinds .exit)) (now (spaces .exit)) (now (targets .exit))
+        ≡ citesWith (citesOf c (now (offsets .entry)) (now (kinds .entry)) (now (spaces .entry)) (now (targets .entry))) n
+        (referencesFrom rows (partIn (now (bytes .entry)) a)) ⌝ }
+{
+    let at = a.at;
+    let end = a.end;
+    put_rows(offsets, kinds, spaces, targets, c, n, &bytes[at..end], rows)
+}
+
 // Those of a file.
 fn add_cites(
     offsets: &mut [u64; 1025],
@@ -172,10 +196,7 @@ fn add_cites(
     if !t.cited {
         return put_rows(offsets, kinds, spaces, targets, c, n, &bytes[..0], rows);
     }
-    let x = t.cites;
-    let at = x.at;
-    let end = x.end;
-    put_rows(offsets, kinds, spaces, targets, c, n, &bytes[at..end], rows)
+    put_record(offsets, kinds, spaces, targets, c, n, bytes, t.cites, rows)
 }
 
 // The references that are held, with those of the files of an archive more, in lent columns. `h` is what the contract speaks of: no column of it

@@ -111,7 +111,11 @@ module _ (rows i : ℕ) (b : List ℕ) (p : ℕ) where
     pub row-on : {t : Cites} (q : Cites) (n : ℕ) {s : Cites} → t ≡ citesWith q (n + i) (referencesFrom (rows - i) (drop p b))
         → s ≡ citesRow q (n + i) (several 10 referenceAt m (drop (p + 4) b)) → t ≡ citesWith s (n + (i + 1)) (referencesFrom (rows - (i + 1)) (drop (p + 4 + m * 10) b))
     unfolding citesWith
-    row-on q n e g = let y : n + i + 1 ≡ n + (i + 1) = omega arith in rw (e, this-row, y, g)
+    row-on q n e g =
+        let rs = several 10 referenceAt m (drop (p + 4) b) in
+        let rest = referencesFrom (rows - (i + 1)) (drop (p + 4 + m * 10) b) in
+        let y : n + i + 1 ≡ n + (i + 1) = omega arith in
+        e ∙ ap (citesWith q (n + i)) this-row ∙ ap (λ k. citesWith (citesRow q (n + i) rs) k rest) y ∙ ap (λ x. citesWith x (n + (i + 1)) rest) (sym g)
 
 -- ── a file ───────────────────────────────────────────────────────────────────────────────────
 

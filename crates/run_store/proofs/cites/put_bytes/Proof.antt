@@ -21,7 +21,12 @@ loop-holds : tie.Need-loop-holds Inv-loop μ-loop
 loop-holds c = (search needs, search needs, search put-starts)
 
 loop-again : tie.Need-loop-again Inv-loop μ-loop
-loop-again c = (search needs, search needs, search byte-more)
+loop-again c = (
+  search needs,
+  search needs,
+  byte-more _ _ _ (c .before .before .before .before .args .b .now) (c .before .before .loop .p) _ (c .before .loop-test .taken) _
+      (c .before .before .loop .inv .2) (c .byte-at .ensures),
+)
 
 returns : tie.Need-returns Inv-loop μ-loop
 returns c = search all-put
