@@ -1,9 +1,8 @@
 -- The references of an archive's files: one turn of each loop that stores them, and what a file adds.
 use mathlib.Core.Path.{_≡_, refl, sym, ap, _∙_}
-use mathlib.Core.Bool.{Bool, true, false, not, cond}
+use mathlib.Core.Bool.{true, false, not}
 use mathlib.Core.List.{List, [], _∷_, map}
-use mathlib.Core.Option.{some, none}
-use Prim.Native.Nat.{ℕ, zero, suc, _≤_, _<_, _+_, _-_, _*_}
+use Prim.Native.Nat.{ℕ, suc, _≤_, _<_, _+_, _-_, _*_}
 use native.Mathlib.Nat.{add-zero, sub-zero}
 use native.Mathlib.Omega.{arith}
 use lib.ListN.{length, getD, set, take, drop, List·getD-eq-default}
@@ -15,13 +14,12 @@ use Rattle.lists.specs.Lists.{sum}
 use Rattle.columns.specs.Limits.{kinds}
 use Rattle.archive_bytes.specs.Bytes.{be, several}
 use Rattle.archive_bytes.proofs.Cells.{four}
-use Rattle.archive_bytes.proofs.Several.{be-drop, be-front, several-cons, map-several}
+use Rattle.archive_bytes.proofs.Several.{be-drop, be-front, map-several}
 use Rattle.archive.specs.File.{Row, Reference}
 use Rattle.archive.specs.Parse.{file, rowAt, referenceAt, referencesOf}
 use Rattle.archive.proofs.Back.{length-several}
 use Rattle.archive_read.specs.bodies.View.{referencesFrom}
-use Rattle.archive_read.specs.Layout.{partIn, middleIn, tailIn, fileFrom, fileIn, fileOf, Holds, HoldsCites, HoldsTail, AfterFile}
-use Rattle.archive_read.specs.declared.records.TailAt.{TailAt}
+use Rattle.archive_read.specs.Layout.{partIn, middleIn, tailIn, fileFrom, fileIn, fileOf, HoldsCites, HoldsTail, AfterFile}
 use Rattle.archive_read.specs.declared.records.FileAt.{FileAt}
 use Rattle.archive_read.specs.declared.records.FileRead.{FileRead}
 use Rattle.archive_read.specs.declared.records.FileRead.the-variants.{FileIs, NoFile}
@@ -32,7 +30,7 @@ use Rattle.run_store.specs.parts.Grown.{citesRow, citesWith}
 use Rattle.run_store.specs.joined.Joined.{heldMore}
 use Rattle.run_store.specs.file.Fits.{HeldRoom}
 use Rattle.run_store.specs.file.Steps.{heldNext}
-use Rattle.run_store.specs.turns.Parts.{partsOf, stored, Accepted}
+use Rattle.run_store.specs.turns.Parts.{stored, Accepted}
 use Rattle.run_store.specs.cites.Columns.{citesOf, RowMore}
 use Rattle.run_store.proofs.grow.Turns.{one-put}
 use Rattle.run_store.proofs.turns.Turns.{Walk, walk-start, part-done, walk-room, walk-on, no-file, rows-next, two-are}

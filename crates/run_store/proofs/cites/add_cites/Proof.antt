@@ -1,6 +1,5 @@
 -- `run_store::cites::add_cites` meets its contract.
 use Rattle.run_store.proofs.cites.CiteTurns.{record-starts, record-ends, few-none, few-some, cites-none, cites-some}
-use Rattle.lists.proofs.Slices.{prefix-count}
 use borrow.Author.Needs.{needs}
 use Rattle.run_store.proofs.cites.add_cites.Statement.{statement}
 use Rattle.run_store.proofs.cites.add_cites.Tie as tie
@@ -18,6 +17,4 @@ returns-2 : tie.Need-returns-2
 returns-2 c = search cites-some
 
 pub add-cites-spec : {M : Type 1} → statement M
-add-cites-spec =
-    tie.close
-    (tie.spec (λ c. search needs) (λ c. search needs) put-rows-requires returns put-record-requires returns-2)
+add-cites-spec = tie.close (tie.spec (λ c. search needs) (λ c. search needs) put-rows-requires returns put-record-requires returns-2)

@@ -8,6 +8,4 @@ returns : tie.Need-returns
 returns c = search past-end
 
 pub byte-at-spec : {M : Type 1} → statement M
-byte-at-spec =
-    tie.close
-    (tie.spec returns (λ c. search needs) (λ c. search needs))
+byte-at-spec = tie.close (tie.spec returns (λ c. search needs) (λ c. search needs))

@@ -43,4 +43,5 @@ returns-2 c = search cites-end
 pub grow-cites-spec : {M : Type 1} → statement M
 grow-cites-spec =
     tie.close
-    (tie.spec Inv-loop μ-loop loop-holds (λ c κs. search needs) (λ c. search needs) (λ c. search needs) add-cites-requires (λ c. search needs) add-n next-requires loop-less loop-again returns returns-2)
+    (tie.spec Inv-loop μ-loop loop-holds (λ c κs. search needs) (λ c. search needs) (λ c. search needs) add-cites-requires
+    (λ c. search needs) add-n next-requires loop-less loop-again returns returns-2)

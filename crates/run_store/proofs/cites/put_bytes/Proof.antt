@@ -3,7 +3,7 @@ use mathlib.Core.Path.{_≡_}
 use Prim.Native.Nat.{_≤_, _+_, _-_, _*_}
 use lib.Seq.{sets}
 use lib.ListN.{getD, drop}
-use Rattle.archive_bytes.specs.Bytes.{be, several}
+use Rattle.archive_bytes.specs.Bytes.{several}
 use Rattle.run_store.proofs.grow.Turns.{put-starts, all-put}
 use Rattle.run_store.proofs.cites.CiteTurns.{byte-more}
 use borrow.Author.Needs.{needs}
@@ -34,4 +34,5 @@ returns c = search all-put
 pub put-bytes-spec : {M : Type 1} → statement M
 put-bytes-spec =
     tie.close
-    (tie.spec Inv-loop μ-loop loop-holds (λ c. search needs) (λ c κs. search needs) (λ c. search needs) (λ c. search needs) (λ c. search needs) (λ c. search needs) (λ c. search needs) loop-again returns)
+    (tie.spec Inv-loop μ-loop loop-holds (λ c. search needs) (λ c κs. search needs) (λ c. search needs) (λ c. search needs)
+    (λ c. search needs) (λ c. search needs) (λ c. search needs) loop-again returns)

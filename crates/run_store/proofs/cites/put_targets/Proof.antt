@@ -2,7 +2,7 @@
 use mathlib.Core.Path.{_≡_}
 use Prim.Native.Nat.{_≤_, _+_, _-_, _*_}
 use lib.Seq.{sets}
-use lib.ListN.{getD, drop}
+use lib.ListN.{drop}
 use Rattle.archive_bytes.specs.Bytes.{be, several}
 use Rattle.run_store.proofs.grow.Turns.{put-starts, all-put}
 use Rattle.run_store.proofs.cites.CiteTurns.{target-more}
@@ -29,4 +29,5 @@ returns c = search all-put
 pub put-targets-spec : {M : Type 1} → statement M
 put-targets-spec =
     tie.close
-    (tie.spec Inv-loop μ-loop loop-holds (λ c. search needs) (λ c κs. search needs) (λ c. search needs) (λ c. search needs) (λ c. search needs) (λ c. search needs) (λ c. search needs) (λ c. search needs) loop-again returns)
+    (tie.spec Inv-loop μ-loop loop-holds (λ c. search needs) (λ c κs. search needs) (λ c. search needs) (λ c. search needs)
+    (λ c. search needs) (λ c. search needs) (λ c. search needs) (λ c. search needs) loop-again returns)
