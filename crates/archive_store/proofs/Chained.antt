@@ -12,9 +12,9 @@ use Rattle.lists.specs.Lists.{flat}
 use Rattle.lists.proofs.Slices.{sets-append}
 use Rattle.archive_bytes.specs.Bytes.{bytesOf, unsignedOf}
 use Rattle.archive_bytes.proofs.Numbers.{length-bytesOf}
-use Rattle.archive.specs.Encode.{recordBytes, columnBytes, depthBytes, setBytes, setsBytes, flagOf, rowBytes, unresolvedBytes, rootBytes, rangeBytes, linksBytes, countedBytes}
+use Rattle.archive.specs.Encode.{recordBytes, columnBytes, depthBytes, setBytes, setsBytes, flagOf, rowBytes, unresolvedBytes, rootBytes, rangeBytes, linksBytes, countedBytes, referenceBytes}
 use Rattle.archive.proofs.Lengths.{length-column, length-set}
-use Rattle.archive_store.specs.Lent.{startBytes, depthFrom, headFrom, setFrom, setSize, rowFrom, unresolvedFrom, rootFrom, rangeFrom, linksFrom}
+use Rattle.archive_store.specs.Lent.{startBytes, depthFrom, headFrom, setFrom, setSize, rowFrom, unresolvedFrom, rootFrom, rangeFrom, linksFrom, referenceFrom}
 use Rattle.archive_store.specs.declared.heads.HeadOut.{HeadOut}
 
 -- two stores, the second where the first ends
@@ -134,3 +134,12 @@ module _ (l : List ℕ) (at : ℕ) where
       let last = then i (at + 4) ab cd f g z in
       then l at (bytesOf 4 (length a)) (ab ++ cd) e last (omega (arith, length-bytesOf 4 (length a)))
       ∙ ap (λ x. sets l at (bytesOf 4 (length a) ++ x)) (append-assoc (columnBytes 4 a) (columnBytes 4 b) cd)
+
+  -- ── 7 references ───────────────────────────────────────────────────────────────────────────
+
+  pub reference-stored : {i j k : List ℕ} (kind space target : ℕ) → i ≡ sets l at (kind ∷ []) → j ≡ sets i (at + 1) (space ∷ []) → k ≡ sets j (at + 2) (bytesOf 8 target)
+      → k ≡ sets l at (referenceBytes (referenceFrom kind space target))
+  unfolding referenceBytes referenceFrom
+  reference-stored {i} kind space target c d e =
+      let last = then i (at + 1) (space ∷ []) (bytesOf 8 target) d e (omega arith) in
+      then l at (kind ∷ []) ((space ∷ []) ++ bytesOf 8 target) c last (omega arith)

@@ -12,7 +12,7 @@ use Rattle.columns.specs.EdgeSet.{EdgeSet}
 use Rattle.archive.specs.File.{Row, Unresolved, Root, CoverColumns, File}
 use Rattle.archive.specs.Reader.{got}
 use Rattle.archive.specs.Parse.{parse}
-use Rattle.archive.specs.Encode.{recordBytes, headBytes, setsBytes, edgesBytes, rowBytes, unresolvedBytes, rootBytes, countedBytes, coverRecord, fileBytes, encode}
+use Rattle.archive.specs.Encode.{recordBytes, headBytes, setsBytes, edgesBytes, rowBytes, unresolvedBytes, rootBytes, countedBytes, coverRecord, referencesRecord, fileBytes, encode}
 use Rattle.archive.specs.Fits.{FileFits}
 use Rattle.archive.proofs.Round.{parse-encode}
 use Rattle.archive.proofs.Faithful.{encode-parse}
@@ -23,23 +23,24 @@ use Rattle.archive_store.specs.LentFile.{lentFile}
 
 -- ── a file's records ─────────────────────────────────────────────────────────────────────────
 
--- six calls, each where the one before it ended, write the file; without a cover the sixth writes nothing
-module _ (f : File) (l : List ℕ) (at : ℕ) {p q r s t : ℕ}
+-- seven calls, each where the one before it ended, write the file; without a cover the sixth writes nothing, without references the seventh
+module _ (f : File) (l : List ℕ) (at : ℕ) {p q r s t u : ℕ}
     (p-is : p ≡ at + length (recordBytes 1 (headBytes f))) (q-is : q ≡ p + length (recordBytes 2 (edgesBytes f)))
     (r-is : r ≡ q + length (recordBytes 3 (flat rowBytes (f .rows)))) (s-is : s ≡ r + length (recordBytes 4 (countedBytes unresolvedBytes (f .unresolved))))
-    (t-is : t ≡ s + length (recordBytes 5 (countedBytes rootBytes (f .roots)))) where
-  pub file-written : {i j k m n o : List ℕ} → i ≡ sets l at (recordBytes 1 (headBytes f)) → j ≡ sets i p (recordBytes 2 (edgesBytes f)) → k ≡ sets j q (recordBytes 3 (flat rowBytes (f .rows)))
+    (t-is : t ≡ s + length (recordBytes 5 (countedBytes rootBytes (f .roots)))) (u-is : u ≡ t + length (coverRecord (f .cover))) where
+  pub file-written : {i j k m n o v : List ℕ} → i ≡ sets l at (recordBytes 1 (headBytes f)) → j ≡ sets i p (recordBytes 2 (edgesBytes f)) → k ≡ sets j q (recordBytes 3 (flat rowBytes (f .rows)))
       → m ≡ sets k r (recordBytes 4 (countedBytes unresolvedBytes (f .unresolved))) → n ≡ sets m s (recordBytes 5 (countedBytes rootBytes (f .roots)))
-      → o ≡ sets n t (coverRecord (f .cover)) → o ≡ sets l at (fileBytes f)
+      → o ≡ sets n t (coverRecord (f .cover)) → v ≡ sets o u (referencesRecord (f .references)) → v ≡ sets l at (fileBytes f)
   unfolding fileBytes
-  file-written {i} {j} {k} {m} a b c d e g =
-      let x = then m s (recordBytes 5 (countedBytes rootBytes (f .roots))) (coverRecord (f .cover)) e g t-is in
+  file-written {i} {j} {k} {m} {n} a b c d e g h =
+      let v = then n t (coverRecord (f .cover)) (referencesRecord (f .references)) g h u-is in
+      let x = then m s (recordBytes 5 (countedBytes rootBytes (f .roots))) _ e v t-is in
       let y = then k r (recordBytes 4 (countedBytes unresolvedBytes (f .unresolved))) _ d x s-is in
       let z = then j q (recordBytes 3 (flat rowBytes (f .rows))) _ c y r-is in
       let w = then i p (recordBytes 2 (edgesBytes f)) _ b z q-is in
       then l at (recordBytes 1 (headBytes f)) _ a w p-is
 
-  pub file-ends : t + length (coverRecord (f .cover)) ≡ at + length (fileBytes f)
+  pub file-ends : u + length (referencesRecord (f .references)) ≡ at + length (fileBytes f)
   unfolding fileBytes
   file-ends = simp length-append (omega arith)
 

@@ -1,7 +1,7 @@
 -- Columns side by side: one turn of each loop that stores a table, and its end.
 use mathlib.Core.Path.{_≡_, refl, sym, _∙_, ap}
 use mathlib.Core.List.{List, [], _∷_, _++_, map, append-assoc}
-use Prim.Native.Nat.{ℕ, _≤_, _<_, _+_, _*_}
+use Prim.Native.Nat.{ℕ, zero, suc, _≤_, _<_, _+_, _*_}
 use native.Mathlib.Numerals.{add-one}
 use native.Mathlib.Omega.{arith}
 use lib.ListN.{length, getD, drop, drop-of-length-le, length-append}
@@ -27,6 +27,16 @@ length-zip3 f [] ys zs h k = refl
 length-zip3 f (x ∷ xs) [] zs h k = absurd (omega arith)
 length-zip3 f (x ∷ xs) (y ∷ ys) [] h k = absurd (omega arith)
 length-zip3 f (x ∷ xs) (y ∷ ys) (z ∷ zs) h k = rw (length-zip3 f xs ys zs (omega arith) (omega arith))
+
+-- what stands at a place is made of what stands there in each column
+pub getD-zip3 : {A : Type 0} (f : ℕ → ℕ → ℕ → A) (xs ys zs : List ℕ) → length ys ≡ length xs → length zs ≡ length xs → (i : ℕ) (d : A) → i < length xs
+    → getD (zip3 f xs ys zs) i d ≡ f (getD xs i 0) (getD ys i 0) (getD zs i 0)
+unfolding zip3
+getD-zip3 f [] ys zs h k i d m = absurd (omega arith)
+getD-zip3 f (x ∷ xs) [] zs h k i d m = absurd (omega arith)
+getD-zip3 f (x ∷ xs) (y ∷ ys) [] h k i d m = absurd (omega arith)
+getD-zip3 f (x ∷ xs) (y ∷ ys) (z ∷ zs) h k zero d m = refl
+getD-zip3 f (x ∷ xs) (y ∷ ys) (z ∷ zs) h k (suc i) d m = getD-zip3 f xs ys zs (omega arith) (omega arith) i d (omega arith)
 
 -- what holds of each number of the columns holds of what is made of them
 pub each-zip2 : {A : Type 0} (f : ℕ → ℕ → A) (P Q : ℕ → Type 0) (R : A → Type 0) → ((x y : ℕ) → P x → Q y → R (f x y)) → (xs ys : List ℕ) → Each P xs → Each Q ys → Each R (zip2 f xs ys)

@@ -1,16 +1,17 @@
--- Document 01, "Archive records": what lent columns and numbers say of a file's records.
-use mathlib.Core.Bool.{Bool, cond, not}
+-- Document 01, "Archive records", and document 02, L1: what lent columns and numbers say of a file's records.
+use mathlib.Core.Path.{_≡_}
+use mathlib.Core.Bool.{Bool, true, cond, not}
 use mathlib.Core.List.{List, [], _∷_, _++_}
 use mathlib.Core.Option.{Option, none, some}
 use Prim.Native.Nat.{ℕ, _+_, _*_}
 use lib.Dec.{eqb}
 use lib.IntN.{ℤ}
 use lib.ListN.{length}
-use Rattle.columns.specs.EdgeSet.{EdgeSet}
+use Rattle.columns.specs.EdgeSet.{EdgeSet, fromTo, cut}
 use Rattle.columns.specs.Building.{Depth}
 use Rattle.cover.specs.Chains.{Range}
 use Rattle.archive.specs.Bytes.{bytesOf}
-use Rattle.archive.specs.File.{Row, Unresolved, Root, CoverColumns}
+use Rattle.archive.specs.File.{Row, Unresolved, Root, CoverColumns, Reference}
 use Rattle.archive.specs.Encode.{headFields}
 use Rattle.cover.specs.Cover.{LinkColumns}
 use Rattle.archive_store.specs.declared.heads.HeadOut.{HeadOut}
@@ -77,3 +78,16 @@ linksSize a b c d = 4 + (4 * a + (4 * b + (4 * c + 4 * d)))
 
 abbrev pub coverSize : ℕ → ℕ → ℕ → ℕ → ℕ
 coverSize chains seqs ranges links = 4 * chains + (4 * seqs + (4 + (12 * ranges + links)))
+
+-- 7: references in three columns, which offsets cut into rows: from each offset up to the next are a row's
+unfoldable pub referenceFrom : ℕ → ℕ → ℕ → Reference
+referenceFrom kind space target = record { kind = kind; space = space; target = target }
+
+unfoldable pub citedFrom : List ℕ → List ℕ → List ℕ → List ℕ → List (List Reference)
+citedFrom offsets kinds spaces targets = cut offsets (zip3 referenceFrom kinds spaces targets)
+
+-- columns of one length, and an offset for each row and one more, rising or level from 0 to that length
+pub record Cited (offsets kinds spaces targets : List ℕ) : Type 0 where
+  pub spaceCount : length spaces ≡ length kinds
+  pub targetCount : length targets ≡ length kinds
+  pub climbs : fromTo 0 (length kinds) offsets ≡ true

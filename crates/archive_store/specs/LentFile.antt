@@ -1,9 +1,9 @@
--- Document 01, "Archive records": the file that six records of lent columns are.
+-- Document 01, "Archive records": the file that six records of lent columns are. Its rows have no references.
 use mathlib.Core.List.{List}
 use mathlib.Core.Option.{Option}
 use Prim.Native.Nat.{ℕ}
 use Rattle.columns.specs.EdgeSet.{EdgeSet}
-use Rattle.archive.specs.File.{Row, Unresolved, Root, CoverColumns, File}
+use Rattle.archive.specs.File.{Row, Unresolved, Root, CoverColumns, noReferences, File}
 use Rattle.archive_store.specs.Lent.{depthFrom}
 use Rattle.archive_store.specs.declared.heads.HeadOut.{HeadOut}
 
@@ -20,4 +20,5 @@ lentFile h s forward reverse inbound rows unresolved roots cover = record {
   unresolved = unresolved;
   roots = roots;
   cover = cover;
+  references = noReferences rows;
 }

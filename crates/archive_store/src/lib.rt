@@ -5,6 +5,7 @@ pub mod edges;
 pub mod heads;
 pub mod order;
 pub mod records;
+pub mod references;
 pub mod sections;
 pub mod sizes;
 pub mod strided;

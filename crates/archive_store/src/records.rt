@@ -1,4 +1,4 @@
-// Each of a file's six records stored whole in lent bytes, from a place on, and the place after it. Whoever calls has seen that there is
+// Each of a file's first six records stored whole in lent bytes, from a place on, and the place after it. Whoever calls has seen that there is
 // room and that the columns of a record are equal in number.
 use crate::covers::store_cover;
 use crate::edges::store_edges;

@@ -1,4 +1,4 @@
-// How many bytes a file's six records have, by its counts: known before a byte is written.
+// How many bytes a file's first six records have, by its counts: known before a byte is written.
 use crate::records::cover_body;
 use crate::records::sets_size;
 ghost use mathlib.Core.Path.{_≡_};

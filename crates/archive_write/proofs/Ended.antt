@@ -2,7 +2,7 @@
 use mathlib.Core.Path.{_≡_}
 use mathlib.Core.List.{List, [], _∷_}
 use mathlib.Core.Option.{Option}
-use Prim.Native.Nat.{ℕ, _<_, _+_, _*_, _^_}
+use Prim.Native.Nat.{ℕ, _<_, _+_, _-_, _*_, _^_}
 use native.Mathlib.Omega.{arith}
 use lib.IntN.{ℤ}
 use lib.ListN.{length}
@@ -14,15 +14,17 @@ use Rattle.columns.specs.declared.refusal.Ruling.{Ruling}
 use Rattle.columns.specs.declared.refusal.Ruling.the-variants.{Kept, Broken}
 use Rattle.columns.proofs.Told.{told, told-kept}
 use Rattle.archive_bytes.specs.After.{left}
-use Rattle.archive.specs.Encode.{recordBytes, setsBytes, rowBytes, unresolvedBytes, rootBytes, coverBytes, countedBytes}
+use Rattle.archive.specs.Encode.{recordBytes, setsBytes, rowBytes, unresolvedBytes, rootBytes, coverBytes, countedBytes, referencesBytes}
 use Rattle.archive.proofs.Lengths.{length-record}
-use Rattle.archive_store.specs.Lent.{zip2, zip3, headFrom, setFrom, rowFrom, unresolvedFrom, rootFrom, rangeFrom, linksFrom, coverFrom}
+use Rattle.archive_store.specs.Lent.{zip2, zip3, headFrom, setFrom, rowFrom, unresolvedFrom, rootFrom, rangeFrom, linksFrom, coverFrom, citedFrom, Cited}
 use Rattle.archive_store.specs.declared.heads.HeadOut.{HeadOut}
-use Rattle.archive_store.specs.records.Sizes.{headSize, setsSize, rowsSize, unresolvedSize, rootsSize, coverBody}
+use Rattle.archive_store.specs.records.Sizes.{headSize, setsSize, rowsSize, unresolvedSize, rootsSize, coverBody, referencesBody, referencesSize}
 use Rattle.archive_store.proofs.records.Whole.{head-size, sets-size, rows-size, unresolved-size, roots-size, cover-size}
-use Rattle.archive_write.specs.Writes.{headRules, edgesRules, rowsRules, unresolvedRules, rootsRules, coverRules, wrote}
+use Rattle.archive_store.proofs.references.Rows.{references-size}
+use Rattle.archive_write.specs.Writes.{headRules, edgesRules, rowsRules, unresolvedRules, rootsRules, coverRules, referencesRules, wrote}
 use Rattle.archive_write.specs.declared.writer.Wrote.the-variants.{Ends, Refused}
 use Rattle.archive_write.proofs.Judged.{three-same, cover-even, subject-small, few-first-of, sets-fit, cover-fits, unresolved-whole, roots-whole, fine-ok, fine-records, fine-numbers}
+use Rattle.archive_write.proofs.references.Asked.{references-whole, references-few}
 
 -- ── answers ──────────────────────────────────────────────────────────────────────────────────
 
@@ -138,3 +140,18 @@ module _ {v : Ruling} (chains seqs ids minima maxima a b c f : List ℕ) (len at
         length-record 6 (coverBytes (coverFrom chains seqs (zip3 rangeFrom ids minima maxima) (linksFrom a b c f))),
         cover-size chains seqs ids minima maxima a b c f minima-even maxima-even,
       ))
+
+-- ── 7 references ─────────────────────────────────────────────────────────────────────────────
+
+module _ {v : Ruling} (os ks ss ts : List ℕ) (len at : ℕ) (d : v ≡ ruling (referencesRules os ks ss ts len at)) (e : v ≡ Kept) where
+  pub references-cited : Cited os ks ss ts
+  references-cited = references-whole os ks ss ts (fine-ok _ _ _ _ _ _ _ v d e)
+
+  pub references-short : 2 + referencesBody (length os - 1) (length ks) < 2 ^ 32
+  references-short = references-few (length os) _ _ _ (fine-records _ _ _ _ _ _ _ v d e) (fine-numbers _ _ _ _ _ _ _ v d e)
+
+  pub references-end : {r : ℕ} → r ≡ at + referencesSize (length os - 1) (length ks)
+      → Ends r ≡ wrote (referencesRules os ks ss ts len at) (at + length (recordBytes 7 (referencesBytes (citedFrom os ks ss ts))))
+  references-end {r} f =
+      ended (referencesRules os ks ss ts len at) v d e r _
+      (omega (arith, length-record 7 (referencesBytes (citedFrom os ks ss ts)), references-size os ks ss ts references-cited))

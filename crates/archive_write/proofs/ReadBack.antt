@@ -6,29 +6,36 @@ use mathlib.Core.Option.{none}
 use Prim.Native.Nat.{ℕ, _≤_, _<_, _+_, _*_, _^_}
 use native.Mathlib.Omega.{arith}
 use lib.IntN.{ℤ}
-use lib.ListN.{length, take, drop}
+use lib.ListN.{length, take, drop, length-append}
 use lib.Seq.{sets, sets-eq, length-take-le}
 use mir.Syntax.{w64}
 use mir.Val.{SFits}
 use borrow.Author.Tests.{eqb-true}
 use Rattle.columns.specs.Limits.{kinds}
-use Rattle.lists.specs.Lists.{Each, flat}
+use Rattle.lists.specs.Lists.{Each, flat, joined}
+use Rattle.lists.proofs.Each.{each-imp, each-both}
+use Rattle.lists.proofs.Filters.{each-left, each-right}
+use Rattle.lists.proofs.Tests.{all-each}
+use Rattle.columns.proofs.Offsets.{joined-cut}
 use Rattle.archive_bytes.specs.Bytes.{Wide}
 use Rattle.archive.specs.Reader.{Reader, got, recordOf}
 use Rattle.archive.specs.Parse
-use Rattle.archive.specs.Parse.{Head}
-use Rattle.archive.specs.Encode.{recordBytes, setsBytes, rowBytes, unresolvedBytes, rootBytes, coverBytes, countedBytes}
-use Rattle.archive.specs.Fits.{DepthFits, SetFits, UnresolvedFits, RootFits, RangeFits, Short}
+use Rattle.archive.specs.Parse.{Head, referencesOk}
+use Rattle.archive.specs.Encode.{recordBytes, setsBytes, rowBytes, unresolvedBytes, rootBytes, coverBytes, countedBytes, referencesBytes}
+use Rattle.archive.specs.Fits.{DepthFits, SetFits, UnresolvedFits, RootFits, RangeFits, RowReferencesFit, Short}
 use Rattle.archive.proofs.Forward.{Reads, record-reads}
 use Rattle.archive.proofs.Lengths.{length-record}
 use Rattle.archive.proofs.Round.{head-reads, sets-read, rows-read, unresolved-read, roots-read, cover-reads}
-use Rattle.archive_store.specs.Lent.{zip2, zip3, depthFrom, headFrom, setFrom, rowFrom, unresolvedFrom, rootFrom, rangeFrom, linksFrom, coverFrom}
+use Rattle.archive.proofs.References.{references-read}
+use Rattle.archive_store.specs.Lent.{zip2, zip3, depthFrom, headFrom, setFrom, rowFrom, unresolvedFrom, rootFrom, rangeFrom, linksFrom, coverFrom, referenceFrom, citedFrom, Cited}
 use Rattle.archive_store.specs.declared.heads.HeadOut.{HeadOut}
 use Rattle.archive_store.proofs.Zipped.{length-zip2, length-zip3, each-zip2, each-zip3, rows-again, children-again}
 use Rattle.archive_store.proofs.records.Whole.{head-size, sets-size, rows-size, unresolved-size, roots-size, cover-size}
-use Rattle.archive_write.specs.Writes.{rowsOf, headRules, edgesRules, rowsRules, unresolvedRules, rootsRules, coverRules}
+use Rattle.archive_store.proofs.references.Rows.{rows-many, cited-many, references-size}
+use Rattle.archive_write.specs.Writes.{rowsOf, citingRows, headRules, edgesRules, rowsRules, unresolvedRules, rootsRules, coverRules, referencesRules}
 use Rattle.archive_write.proofs.Judged.{subject-small, three-same, sets-whole, unresolved-whole, roots-whole, cover-even, few-first-of, sets-fit, cover-fits}
 use Rattle.archive_write.proofs.Judged.{has-room, is-ok, few-records, few-numbers}
+use Rattle.archive_write.proofs.references.Asked.{references-whole, references-ok, references-few}
 
 -- a record that is read wherever it stands is read from the place that it was written at
 module _ {A : Type 0} (k : ℕ) (r : Reader A) {b : List ℕ} {x : A} (s : Short b) (d : Reads [] r b x) where
@@ -176,3 +183,47 @@ module _ (out : List ℕ) (at : ℕ) (chains seqs ids minima maxima a b c d : Li
         links = record { count = omega arith; second = w .second; third = w .third; fourth = w .fourth; fromChains = k; fromSeqs = l; toChains = m; toSeqs = n };
         short = s;
       })) out at (omega arith)
+
+-- ── 7 references ─────────────────────────────────────────────────────────────────────────────
+
+-- what holds of all references holds of each row's
+each-row : {A : Type 0} (P : A → Type 0) (ls : List (List A)) → Each P (joined ls) → Each (λ l. Each P l) ls
+unfolding joined
+each-row P [] h = tt
+each-row P (l ∷ ls) h = (each-left P l (joined ls) h, each-row P ls (each-right P l (joined ls) h))
+
+each-few : {A : Type 0} (n : ℕ) (ls : List (List A)) → length (joined ls) ≤ n → Each (λ l. length l ≤ n) ls
+unfolding joined
+each-few n [] h = tt
+each-few n (l ∷ ls) h = let k = length-append l (joined ls) in (omega arith, each-few n ls (omega arith))
+
+reference-fits : (kind space target : ℕ) → Unit {0} → Unit {0} → target < 256 ^ 8 → referenceFrom kind space target .target < 256 ^ 8
+unfolding referenceFrom
+reference-fits kind space target h k m = m
+
+module _ (os ks ss ts : List ℕ) (f : Cited os ks ss ts) where
+  targets-fit : Wide 8 ts → Each (λ rs. Each (λ r. r .target < 256 ^ 8) rs) (citedFrom os ks ss ts)
+  unfolding citedFrom
+  targets-fit h =
+      let xs = zip3 referenceFrom ks ss ts in
+      let n = length-zip3 referenceFrom ks ss ts (f .spaceCount) (f .targetCount) in
+      let e = each-zip3 referenceFrom (λ x. Unit {0}) (λ y. Unit {0}) (λ z. z < 256 ^ 8) (λ r. r .target < 256 ^ 8) reference-fits ks ss ts (each-any ks) (each-any ss) h in
+      each-row (λ r. r .target < 256 ^ 8) (citedFrom os ks ss ts) (rw (joined-cut xs os (rw n (f .climbs))) e)
+
+pub references-back : (out : List ℕ) (at : ℕ) (os ks ss ts : List ℕ) → referencesRules os ks ss ts (length out) at ≡ none → Wide 8 ts
+    → recordOf 7 (Parse.references (citingRows (length os))) (sets out at (recordBytes 7 (referencesBytes (citedFrom os ks ss ts)))) at
+    ≡ got (citedFrom os ks ss ts) (at + length (recordBytes 7 (referencesBytes (citedFrom os ks ss ts))))
+references-back out at os ks ss ts e h =
+    let rss = citedFrom os ks ss ts in
+    let w = references-whole os ks ss ts (is-ok _ _ _ _ _ _ _ e) in
+    let g = references-ok os ks ss ts (is-ok _ _ _ _ _ _ _ e) in
+    let i = references-few (length os) _ _ _ (few-records _ _ _ _ _ _ _ e) (few-numbers _ _ _ _ _ _ _ e) in
+    let m = references-size os ks ss ts w in
+    let c = cited-many os ks ss ts w in
+    let n = has-room _ _ _ _ _ _ _ e in
+    let s : Short (referencesBytes rss) = omega arith in
+    let a = each-both (λ rs. length rs ≤ length ks) (λ rs. Each (λ r. r .target < 256 ^ 8) rs) rss (each-few (length ks) rss (omega arith)) (targets-fit os ks ss ts w h) in
+    let b = each-both _ (λ rs. referencesOk rs ≡ true) rss a (all-each referencesOk rss (g .1)) in
+    let each : Each RowReferencesFit rss = each-imp _ RowReferencesFit rss (λ rs k. record { count = omega arith; targets = k .0 .1; known = k .1 }) b in
+    there 7 (Parse.references (citingRows (length os))) s
+    (references-read (citingRows (length os)) rss (record { rowCount = rows-many os ks ss ts; each = each; short = λ x. s }) (g .0)) out at (omega arith)

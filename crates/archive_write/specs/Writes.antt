@@ -1,16 +1,21 @@
--- Document 01, "Refused for the state", "Order" and "Archive records": what a call that writes one record answers, and what the lent bytes hold after it.
+-- Document 01, "Refused for the state", "Order" and "Archive records", and document 02, L1: what a call that writes one record answers, and what the lent bytes hold after it.
 use mathlib.Core.Bool.{Bool, not, _&&_}
 use mathlib.Core.List.{List, [], _∷_}
 use mathlib.Core.Option.{Option, none, some}
-use Prim.Native.Nat.{ℕ, _+_, _/_}
+use Prim.Native.Nat.{ℕ, _+_, _-_, _/_}
 use lib.Dec.{eqb, ltb, leb}
 use lib.ListN.{length}
+use Rattle.lists.specs.Lists.{all}
 use Rattle.lists.specs.Order.{rising, notFalling}
 use Rattle.columns.specs.Limits.{kinds, maxSubject}
+use Rattle.columns.specs.EdgeSet.{fromTo}
 use Rattle.columns.specs.Refusal.{refuse, firstOf, limits}
 use Rattle.columns.specs.declared.refusal.Refusal.{Refusal}
 use Rattle.columns.specs.declared.refusal.Refusal.the-variants.{SubjectLength, CoverForm, RecordBroken, SliceShort}
-use Rattle.archive_store.specs.records.Sizes.{headSize, setsSize, rowsSize, unresolvedSize, rootsSize, coverBody}
+use Rattle.archive.specs.File.{Reference, anyReference}
+use Rattle.archive.specs.Parse.{referencesOk}
+use Rattle.archive_store.specs.Lent.{citedFrom}
+use Rattle.archive_store.specs.records.Sizes.{headSize, setsSize, rowsSize, unresolvedSize, rootsSize, coverBody, referencesSize}
 use Rattle.archive_store.specs.sizes.FileSize.{offsetsOf}
 use Rattle.archive_write.specs.declared.writer.Wrote.{Wrote}
 use Rattle.archive_write.specs.declared.writer.Wrote.the-variants.{Ends, Refused}
@@ -73,6 +78,24 @@ abbrev pub coverRules : ℕ → ℕ → ℕ → ℕ → ℕ → ℕ → ℕ → 
 coverRules chains seqs ids minima maxima a b c d len at =
     writeRules (chains ∷ seqs ∷ ids ∷ minima ∷ maxima ∷ a ∷ b ∷ c ∷ d ∷ []) [] CoverForm (evenCover chains seqs ids minima maxima a b c d) len at
     (6 + coverBody chains seqs ids a b c d)
+
+-- 7: the rows that so many offsets are of; there is an offset more than rows
+abbrev pub citingRows : ℕ → ℕ
+citingRows offsets = offsets - 1
+
+-- what is refused in reading is not written: a record of none, and a row that breaks a rule
+unfoldable pub citedOk : List (List Reference) → Bool
+citedOk rss = anyReference rss && all referencesOk rss
+
+-- offsets rise or stay level from 0 to the number of references
+unfoldable pub wholeReferences : List ℕ → List ℕ → List ℕ → List ℕ → Bool
+wholeReferences offsets kinds spaces targets =
+    even3 (length kinds) (length spaces) (length targets) && (fromTo 0 (length kinds) offsets && citedOk (citedFrom offsets kinds spaces targets))
+
+abbrev pub referencesRules : List ℕ → List ℕ → List ℕ → List ℕ → ℕ → ℕ → Option Refusal
+referencesRules offsets kinds spaces targets len at =
+    writeRules (citingRows (length offsets) ∷ []) (length kinds ∷ length spaces ∷ length targets ∷ []) RecordBroken
+    (wholeReferences offsets kinds spaces targets) len at (referencesSize (citingRows (length offsets)) (length kinds))
 
 -- ── answers ──────────────────────────────────────────────────────────────────────────────────
 

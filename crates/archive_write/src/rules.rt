@@ -19,7 +19,7 @@ ghost use Rattle.archive_store.specs.records.Sizes.{headSize, setsSize, rowsSiz
 ghost use Rattle.archive_write.specs.Writes.{even3, evenCover, subjectFits, wholeSets, wholeUnresolved, wholeRoots, headRules, edgesRules, rowsRules, unresolvedRules, rootsRules, coverRules};
 
 // Whether fewer than n bytes are left from `at` on.
-fn low(len: usize, at: usize, n: usize) -> bool
+pub fn low(len: usize, at: usize, n: usize) -> bool
     ensures { λ r. ⌜ r ≡ ltb len (at + n) ⌝ }
 {
     if len < at {
@@ -66,7 +66,7 @@ fn nine_over(
 }
 
 // Whether one of three columns has too many numbers.
-fn three_many(a: usize, b: usize, c: usize) -> bool
+pub fn three_many(a: usize, b: usize, c: usize) -> bool
     ensures { λ r. ⌜ r ≡ any (ltb maxNumbers) (a ∷ b ∷ c ∷ []) ⌝ }
 {
     if 4096 < a {
@@ -102,7 +102,7 @@ fn subject_fits(n: usize) -> bool
     n <= 255
 }
 
-fn same_three(a: usize, b: usize, c: usize) -> bool
+pub fn same_three(a: usize, b: usize, c: usize) -> bool
     ensures { λ r. ⌜ r ≡ even3 a b c ⌝ }
 {
     if b != a {

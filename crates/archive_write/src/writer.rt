@@ -1,4 +1,5 @@
-// Each of a file's six records, written into lent bytes at a place: the place after it, or a refusal that leaves the bytes as they were.
+// Each of a file's seven records, written into lent bytes at a place: the place after it, or a refusal that leaves the bytes as they were.
+use crate::references::references_rules;
 use crate::rules::cover_rules;
 use crate::rules::edges_rules;
 use crate::rules::head_rules;
@@ -12,6 +13,7 @@ use archive_store::records::record_head;
 use archive_store::records::record_roots;
 use archive_store::records::record_rows;
 use archive_store::records::record_unresolved;
+use archive_store::references::record_references;
 use columns::refusal::Refusal;
 use columns::refusal::Ruling;
 ghost use mathlib.Core.Path.{_≡_};
@@ -20,9 +22,9 @@ ghost use lib.ListN.{length};
 ghost use lib.Seq.{sets};
 ghost use Rattle.lists.specs.Lists.{flat};
 ghost use Rattle.archive_bytes.specs.After.{left};
-ghost use Rattle.archive.specs.Encode.{recordBytes, setsBytes, rowBytes, unresolvedBytes, rootBytes, coverBytes, countedBytes};
-ghost use Rattle.archive_store.specs.Lent.{zip2, zip3, headFrom, setFrom, rowFrom, unresolvedFrom, rootFrom, rangeFrom, linksFrom, coverFrom};
-ghost use Rattle.archive_write.specs.Writes.{headRules, edgesRules, rowsRules, unresolvedRules, rootsRules, coverRules, wrote};
+ghost use Rattle.archive.specs.Encode.{recordBytes, setsBytes, rowBytes, unresolvedBytes, rootBytes, coverBytes, countedBytes, referencesBytes};
+ghost use Rattle.archive_store.specs.Lent.{zip2, zip3, headFrom, setFrom, rowFrom, unresolvedFrom, rootFrom, rangeFrom, linksFrom, coverFrom, citedFrom};
+ghost use Rattle.archive_write.specs.Writes.{headRules, edgesRules, rowsRules, unresolvedRules, rootsRules, coverRules, referencesRules, wrote};
 
 pub enum Wrote {
     Ends(usize),
@@ -180,5 +182,27 @@ pub fn write_cover(
             c,
             d,
         )),
+    }
+}
+
+// 7: references, each of a kind, a space and a target. Row r has those from place offsets[r] up to offsets[r + 1].
+pub fn write_references(
+    out: &mut [u8],
+    at: usize,
+    offsets: &[u64],
+    kinds: &[u8],
+    spaces: &[u8],
+    targets: &[u64],
+) -> Wrote
+    ensures { λ r. ⌜ r ≡ wrote (referencesRules (now (offsets .entry)) (now (kinds .entry)) (now (spaces .entry)) (now (targets .entry)) (length (now (out .entry))) at)
+        (at + length (recordBytes 7 (referencesBytes (citedFrom (now (offsets .entry)) (now (kinds .entry)) (now (spaces .entry)) (now (targets .entry)))))) ⌝ }
+    ensures { λ _. ⌜ now (out .exit) ≡ left (referencesRules (now (offsets .entry)) (now (kinds .entry)) (now (spaces .entry)) (now (targets .entry))
+        (length (now (out .entry))) at) (now (out .entry)) (sets (now (out .entry)) at
+        (recordBytes 7 (referencesBytes (citedFrom (now (offsets .entry)) (now (kinds .entry)) (now (spaces .entry)) (now (targets .entry)))))) ⌝ }
+{
+    let v = references_rules(offsets, kinds, spaces, targets, out.len(), at);
+    match v {
+        Ruling::Broken(x) => Wrote::Refused(x),
+        Ruling::Kept => Wrote::Ends(record_references(out, at, offsets, kinds, spaces, targets)),
     }
 }

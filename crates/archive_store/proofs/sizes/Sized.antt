@@ -1,7 +1,7 @@
 -- The records of a file are as long as its counts say.
-use mathlib.Core.Path.{_≡_, refl}
+use mathlib.Core.Path.{_≡_, refl, ap}
 use mathlib.Core.Bool.{Bool, true, false}
-use mathlib.Core.List.{List}
+use mathlib.Core.List.{List, []}
 use mathlib.Core.Option.{Option, none, some}
 use Prim.Native.Nat.{ℕ, _+_}
 use native.Mathlib.Omega.{arith}
@@ -10,7 +10,7 @@ use Rattle.lists.specs.Lists.{flat}
 use Rattle.lists.proofs.Cut.{length-blocks}
 use Rattle.columns.specs.EdgeSet.{EdgeSet}
 use Rattle.archive.specs.File.{Row, Unresolved, Root, CoverColumns, File}
-use Rattle.archive.specs.Encode.{recordBytes, headBytes, edgesBytes, rowBytes, unresolvedBytes, rootBytes, coverBytes, countedBytes, coverRecord, fileBytes}
+use Rattle.archive.specs.Encode.{recordBytes, headBytes, edgesBytes, rowBytes, unresolvedBytes, rootBytes, coverBytes, countedBytes, coverRecord, referencesRecord, fileBytes}
 use Rattle.archive.proofs.Lengths.{length-record, length-head, length-set, length-sets, length-counted, length-links, length-cover, wide-row, wide-unresolved, wide-root}
 use Rattle.archive_store.specs.records.Sizes.{headSize, rowsSize, unresolvedSize, rootsSize, coverBody}
 use Rattle.archive_store.specs.sizes.FileSize.{offsetsOf, edgesSize, coverRecordSize, fileSize}
@@ -83,12 +83,13 @@ module _ (f : File) where
         length-set (f .inbound),
       )
 
-  -- the six records together
+  -- the six records together, of a file that has no seventh
   pub length-file : {rows forward reverse inbound ranges links : ℕ} {there : Bool} → length (f .rows) ≡ rows
       → SetHas rows forward (f .forward) → SetHas rows reverse (f .reverse) → SetHas rows inbound (f .inbound) → CoverHas there rows ranges links (f .cover)
+      → referencesRecord (f .references) ≡ []
       → length (fileBytes f) ≡ fileSize (length (f .subject)) rows forward reverse inbound (length (f .unresolved)) (length (f .roots)) there ranges links
   unfolding fileBytes
-  length-file n a b c d =
+  length-file n a b c d e =
       simp length-append
       (omega (
         arith,
@@ -98,4 +99,5 @@ module _ (f : File) where
         length-unresolved (f .unresolved),
         length-roots (f .roots),
         length-coverRecord d,
+        ap length e,
       ))

@@ -1,4 +1,4 @@
--- Document 01, "Archive records": how many bytes a file's six records have, by its counts.
+-- Document 01, "Archive records": how many bytes a file's first six records have, by its counts.
 use mathlib.Core.Bool.{Bool, true, false}
 use Prim.Native.Nat.{ℕ, _+_, _*_}
 use Rattle.columns.specs.Limits.{kinds}
@@ -28,3 +28,7 @@ maxCoverSize = 36878
 
 abbrev pub maxFileSize : ℕ
 maxFileSize = 223606
+
+-- the size of a record of references at both limits
+abbrev pub maxReferencesSize : ℕ
+maxReferencesSize = 45062
