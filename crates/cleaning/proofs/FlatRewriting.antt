@@ -32,6 +32,10 @@ use Rattle.cleaning.proofs.Neat.{Neat, neat-valid}
 
 -- ── definitions ──────────────────────────────────────────────────────────────────────────────
 
+-- a reference that names an event at or past the start
+unfoldable pub namesFrom : ℕ → Reference → Bool
+namesFrom start r = namesEvent r && not (ltb (r .target) start)
+
 -- a flag for each row, 0 where it survives; the new number of each row; the new lists of all rows, slot by slot
 module _ (K start : ℕ) (flags numbers : List ℕ) (lists : List (List ℕ)) where
   -- the new numbers that a number comes to: its own where its row survives, its new list of a kind where it is erased
@@ -40,7 +44,7 @@ module _ (K start : ℕ) (flags numbers : List ℕ) (lists : List (List ℕ)) wh
 
   -- what becomes of a reference
   unfoldable pub followFlat : Reference → List Reference
-  followFlat r = cond (namesEvent r && not (ltb (r .target) start)) (retargeted r (comesFlat (r .kind) (r .target))) (r ∷ [])
+  followFlat r = cond (namesFrom start r) (retargeted r (comesFlat (r .kind) (r .target))) (r ∷ [])
 
   -- a row's references, rewritten
   unfoldable pub rewrittenFlat : List Reference → List Reference
@@ -97,7 +101,7 @@ module _ (K : ℕ) (served : Served K) (h : Held) (n : Neat K h) (flags : List �
   follow-flat : (m : ℕ) → m ≤ h .sheet .start + length (h .erased) → (r : Reference) → citesBefore m r ≡ true
       → followIn (archiveHeld K h) (tables K (archiveHeld K h)) r
       ≡ followFlat K (h .sheet .start) flags (numbersFrom (h .sheet .start) flags) (flatLists K h flags) r
-  unfolding followIn followFlat isFollowed namesEvent citesBefore archiveHeld
+  unfolding followIn followFlat isFollowed namesFrom namesEvent citesBefore archiveHeld
   follow-flat m l r before = elim (tested (namesEvent r && not (ltb (r .target) (h .sheet .start)))) [
     | inl q ↦ rw q (ap (retargeted r) (about (both (namesEvent r) (not (ltb (r .target) (h .sheet .start))) q)))
     | inr q ↦ rw q
