@@ -1,0 +1,4 @@
+pub mod Columns
+pub mod Looking
+pub mod Growing
+pub mod Following
