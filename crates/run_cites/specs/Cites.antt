@@ -15,7 +15,7 @@ use Rattle.run_renumber.specs.declared.Grown.{Grown}
 use Rattle.run_renumber.specs.declared.Grown.the-variants.{Upto, Full}
 use Rattle.cleaning.specs.Survivors.{keep}
 use Rattle.cleaning.proofs.Slots.{flagged}
-use Rattle.cleaning.proofs.FlatRewriting.{followFlat}
+use Rattle.cleaning.proofs.FlatRewriting.{followFlat, rewrittenFlat}
 
 -- the references of columns of kinds, spaces and targets
 abbrev pub cites : List ℕ → List ℕ → List ℕ → List Reference
@@ -59,9 +59,9 @@ Result Full offsets references n lists = maxNumbers < length (joined lists)
 abbrev pub Gathered : Grown → List ℕ → List Reference → List (List Reference) → Type 0
 Gathered r offsets references lists = Result r offsets references (length lists) lists
 
--- what f makes of the rows that survive, by flags that are 0 where a row does
-abbrev pub surviving : (List Reference → List Reference) → List ℕ → List (List Reference) → List (List Reference)
-surviving f flags rows = keep (map flagged flags) (map f rows)
+-- the references of rows, rewritten, but of those that are erased: `own` are the rows' flags, 0 where a row survives
+unfoldable pub keptRows : (K start : ℕ) → List ℕ → List ℕ → List (List ℕ) → List ℕ → List (List Reference) → List (List Reference)
+keptRows K start flags numbers lists own rows = keep (map flagged own) (map (rewrittenFlat K start flags numbers lists) rows)
 
 -- all rows, and how many references they have; 43 exactly where those are over the limit
 abbrev pub Counts : Counted → List ℕ → List Reference → List (List Reference) → Type 0

@@ -20,7 +20,7 @@ ghost use Rattle.run_renumber.specs.Numbers.{numbersFrom};
 ghost use Rattle.cleaning.specs.References as references;
 ghost use Rattle.cleaning.specs.References.{sameReference};
 ghost use Rattle.cleaning.proofs.FlatRewriting.{namesFrom, comesFlat, followFlat, rewrittenFlat, flatCites};
-ghost use Rattle.run_cites.specs.Cites.{cites, Room, Exact, Built, Result, Gathered, surviving, Counts};
+ghost use Rattle.run_cites.specs.Cites.{cites, Room, Exact, Built, Result, Gathered, keptRows, Counts};
 
 // A row that is rewritten: which it is, how many rows stand before it in the output, and where their references end.
 struct Place {
@@ -388,7 +388,7 @@ fn add_rows(
     requires { ⌜ Cited (now oldoffsets) (now oldkinds) (now oldspaces) (now oldtargets) × (length (now oldoffsets) ≡ length (now flags) + 1) ⌝ }
     requires { ⌜ (length (now flags) < length (now offsets)) × Built (now offsets) (cites (now kinds) (now spaces) (now targets)) 0 0 [] ⌝ }
     ensures { λ r. ⌜ Gathered r (now (offsets .exit)) (cites (now (kinds .exit)) (now (spaces .exit)) (now (targets .exit)))
-        (surviving (rewrittenFlat limits.kinds start (now (flags .entry)) (now (numbers .entry)) (cut (now (offs .entry)) (now (all .entry)))) (now (flags .entry))
+        (keptRows limits.kinds start (now (flags .entry)) (now (numbers .entry)) (cut (now (offs .entry)) (now (all .entry))) (now (flags .entry))
         (citedFrom (now (oldoffsets .entry)) (now (oldkinds .entry)) (now (oldspaces .entry)) (now (oldtargets .entry)))) ⌝ }
     ensures { λ _. ⌜ Room (now (kinds .exit)) (now (spaces .exit)) (now (targets .exit)) ⌝ }
 {
