@@ -2,12 +2,14 @@
 use mathlib.Core.Path.{_≡_, refl, sym, _∙_, ap}
 use mathlib.Core.Bool.{true, false, not}
 use mathlib.Core.List.{List, [], _∷_, _++_, map, append-nil, append-assoc}
-use Prim.Native.Nat.{ℕ, suc, _≤_, _<_, _+_, _-_, _*_}
+use Prim.Native.Nat.{ℕ, suc, _≤_, _<_, _+_, _*_, _^_}
 use native.Mathlib.Nat.{le-trans, add-zero}
 use native.Mathlib.Numerals.{add-one}
 use native.Mathlib.Omega.{arith}
 use lib.ListN.{length, getD, take, drop, set, length-set, length-append, take-append-drop, drop-of-length-le}
 use lib.Seq.{slice, length-take-le, length-slice, take-take, take-suc-set, drop-cons}
+use mir.Syntax.{w64}
+use mir.Val.{Fits}
 use borrow.Author.Tests.{eq-eqb, ne-eqb}
 use Rattle.lists.specs.Lists.{joined, starts}
 use Rattle.lists.proofs.Flat.{joined-append}
@@ -26,6 +28,10 @@ use Rattle.cleaning.proofs.FlatRewriting.{rewrittenFlat}
 use Rattle.run_cites.specs.Cites.{cites, Room, Grew, Exact, Built, Result, Gathered, keptRows}
 use Rattle.run_cites.proofs.Columns.{cites-many}
 use Rattle.run_cites.proofs.Growing.{grew, too-long}
+
+-- a place in a table of offsets, in bytes
+pub place-bytes : (offs : List ℕ) (k : ℕ) → k < length offs → length offs * 8 < 2 ^ 63 → Fits w64 (k * 8)
+place-bytes offs k h m = record { fits = omega arith }
 
 -- ── one list more ────────────────────────────────────────────────────────────────────────────
 

@@ -429,3 +429,50 @@ fn add_rows(
     }
     Grown::Upto(end)
 }
+
+// The references of the rows that survive, rewritten: where each row's start and where the last row's end into offsets, they into kinds, spaces and
+// targets. New lists come slot by slot out of offs and all, the references of all rows out of four columns. Answers how many there are, or 43.
+pub fn put_cites(
+    kinds: &mut [u8],
+    spaces: &mut [u8],
+    targets: &mut [u64],
+    offsets: &mut [u64],
+    start: u64,
+    flags: &[u8],
+    numbers: &[u64],
+    offs: &[u64],
+    all: &[u64],
+    oldoffsets: &[u64],
+    oldkinds: &[u8],
+    oldspaces: &[u8],
+    oldtargets: &[u64],
+) -> Counted
+    requires { ⌜ Room (now kinds) (now spaces) (now targets) × (offsetsForm limits.kinds (length (now flags)) (length (now all)) (now offs) ≡ true) ⌝ }
+    requires { ⌜ Cited (now oldoffsets) (now oldkinds) (now oldspaces) (now oldtargets) × (length (now oldoffsets) ≡ length (now flags) + 1) ⌝ }
+    requires { ⌜ (length (now flags) < length (now offsets)) × (now numbers ≡ numbersFrom start (now flags)) ⌝ }
+    ensures { λ r. ⌜ Counts r (now (offsets .exit)) (cites (now (kinds .exit)) (now (spaces .exit)) (now (targets .exit)))
+        (flatCites limits.kinds start (now (flags .entry)) (cut (now (offs .entry)) (now (all .entry)))
+        (citedFrom (now (oldoffsets .entry)) (now (oldkinds .entry)) (now (oldspaces .entry)) (now (oldtargets .entry)))) ⌝ }
+    ensures { λ _. ⌜ Room (now (kinds .exit)) (now (spaces .exit)) (now (targets .exit)) ⌝ }
+{
+    offsets[0] = 0;
+    let g = add_rows(
+        kinds,
+        spaces,
+        targets,
+        offsets,
+        start,
+        flags,
+        numbers,
+        offs,
+        all,
+        oldoffsets,
+        oldkinds,
+        oldspaces,
+        oldtargets,
+    );
+    match g {
+        Grown::Upto(m) => Counted::Entries(m),
+        Grown::Full => Counted::Refused(Refusal::OverNumbers),
+    }
+}

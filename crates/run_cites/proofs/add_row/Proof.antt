@@ -1,5 +1,5 @@
 -- `run_cites::add_row` meets its contract. The references are the row's, and what they become is one row more of the table.
-use Rattle.run_cites.proofs.Rows.{built-filled, row-put, row-none}
+use Rattle.run_cites.proofs.Rows.{place-bytes, built-filled, row-put, row-none}
 use Rattle.archive_store.proofs.references.Rows.{row-ordered, row-inside}
 use borrow.Author.Needs.{needs}
 use Rattle.run_cites.proofs.add_row.Statement.{statement}
@@ -13,7 +13,7 @@ rewrite-requires c κs =
     (row-ordered _ _ _ _ f _ (pre .1 .0 .1) _ _ (c .before .before .before .before .before .index .ensures) (c .before .before .before .index2 .ensures), row-inside _ _ _ _ f _ (pre .1 .0 .1) _ _ (c .before .before .before .before .before .index .ensures) (c .before .before .before .index2 .ensures))))))
 
 mul-offsets : tie.Need-mul-offsets
-mul-offsets c = let h = c .before .before .before .before .before .before .before .before .before .before .before .before .before .before .before .before .before .before .before .before .before .before .before .before .before .before .before .before .before .before .pre .1 .1 .0 in search needs
+mul-offsets c = let h = c .before .before .before .before .before .before .before .before .before .before .before .before .before .before .before .before .before .before .before .before .before .before .before .before .before .before .before .before .before .before .pre .1 .1 .0 in let g = c .before .before .before .before .before .before .before .before .before .before .before .before .before .before .before .before .before .before .before .before .before .before .before .before .before .before .before .before .before .before .good in search place-bytes
 
 slice-write-offsets : tie.Need-slice-write-offsets
 slice-write-offsets c = let h = c .before .before .before .before .before .before .before .before .before .before .before .before .before .before .before .before .before .before .before .before .before .before .before .before .before .before .before .before .before .before .pre .1 .1 .0 in search needs
