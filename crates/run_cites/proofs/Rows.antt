@@ -11,8 +11,8 @@ use lib.Seq.{slice, length-take-le, length-slice, take-take, take-suc-set, drop-
 use mir.Syntax.{w64}
 use mir.Val.{Fits}
 use borrow.Author.Tests.{eq-eqb, ne-eqb}
-use Rattle.lists.specs.Lists.{joined, starts}
-use Rattle.lists.proofs.Flat.{joined-append}
+use Rattle.lists.specs.Lists.{joined, starts, sum}
+use Rattle.lists.proofs.Flat.{joined-append, length-joined}
 use Rattle.columns.specs.Limits.{maxNumbers}
 use Rattle.columns.specs.EdgeSet.{cut}
 use Rattle.columns.proofs.ReadBack.{cut-joined}
@@ -21,10 +21,11 @@ use Rattle.archive.specs.File.{Reference}
 use Rattle.archive_store.specs.Lent.{citedFrom, Cited}
 use Rattle.archive_store.proofs.references.Rows.{rows-many}
 use Rattle.archive_store.proofs.references.Rows as old
+use Rattle.run_renumber.specs.Numbers.{numbersFrom}
 use Rattle.run_renumber.specs.declared.Grown.{Grown}
 use Rattle.run_renumber.specs.declared.Grown.the-variants.{Upto, Full}
 use Rattle.cleaning.specs.Survivors.{keep}
-use Rattle.cleaning.proofs.FlatRewriting.{rewrittenFlat}
+use Rattle.cleaning.proofs.FlatRewriting.{rewrittenFlat, flatCites}
 use Rattle.run_cites.specs.Cites.{cites, Room, Grew, Exact, Built, Result, Gathered, keptRows}
 use Rattle.run_cites.proofs.Columns.{cites-many}
 use Rattle.run_cites.proofs.Growing.{grew, too-long}
@@ -155,3 +156,28 @@ module _ (K start : ℕ) (flags numbers : List ℕ) (news : List (List ℕ)) whe
 
           pub row-kept : t ≡ cut (take (k + 1 + 1) offs′) (take m refs′) ++ keptRows K start flags numbers news (drop (i + 1) own) (drop (i + 1) (citedFrom os oks oss ots))
           row-kept = rw (built-cut offs′ refs′ (k + 1) m more now-built) turned
+
+-- ── all rows ─────────────────────────────────────────────────────────────────────────────────
+
+pub begins : (offs : List ℕ) (refs : List Reference) (n : ℕ) → n < length offs → Built (set offs 0 0) refs 0 0 []
+unfolding starts joined
+begins [] refs n h = absurd (omega arith)
+begins (x ∷ xs) refs n h = record { count = refl; room = omega arith; filled = omega arith; begins = refl; entries = refl }
+
+module _ (K start : ℕ) (flags numbers : List ℕ) (news : List (List ℕ)) (rows : List (List Reference)) (e : numbers ≡ numbersFrom start flags) (offs : List ℕ) (refs : List Reference)
+    (r : Grown) (x : Gathered r offs refs (keptRows K start flags numbers news flags rows)) where
+  named : keptRows K start flags numbers news flags rows ≡ flatCites K start flags news rows
+  unfolding keptRows flatCites
+  named = rw e
+
+  pub counts-built : (m : ℕ) → r ≡ Upto m → Built offs refs (length (flatCites K start flags news rows)) m (flatCites K start flags news rows)
+  counts-built m f = rw (f, named) at x
+
+  pub counts-many : length refs ≡ maxNumbers → (m : ℕ) → r ≡ Upto m → m ≡ sum length (flatCites K start flags news rows)
+  counts-many many m f =
+      ends offs refs (length (flatCites K start flags news rows)) m (flatCites K start flags news rows) (counts-built m f) many ∙ length-joined (flatCites K start flags news rows)
+
+  pub counts-over : r ≡ Full → maxNumbers < sum length (flatCites K start flags news rows)
+  counts-over f =
+      let y : maxNumbers < length (joined (flatCites K start flags news rows)) = rw (f, named) at x in
+      rw (← length-joined (flatCites K start flags news rows)) y

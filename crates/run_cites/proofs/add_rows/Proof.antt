@@ -30,6 +30,36 @@ loop-holds c = (search needs, search needs, search needs, search needs, search b
 add-row-requires : tie.Need-add-row-requires Inv-loop μ-loop
 add-row-requires c κs = ((search needs, search needs), ((search needs, search needs), (search needs, search needs)))
 
+add-k : tie.Need-add-k Inv-loop μ-loop
+add-k c = 
+    let call = c .before .before .before .before .before .before .before .before .before .before .before in
+    let top = call .before .before .before .before .before .before .before .before in
+    let i = top .loop .inv .0 in
+    let k = top .loop .inv .1 in
+    let t = call .before .before .before .before .before .before .before .loop-test .taken in
+    let g = top .before .before .before .before .before .before .before .before .before .before .before .before .before .good in
+    search needs
+
+add-i : tie.Need-add-i Inv-loop μ-loop
+add-i c = 
+    let call = c .before .before .before .before .before .before .before .before .before .before .before in
+    let top = call .before .before .before .before .before .before .before .before in
+    let i = top .loop .inv .0 in
+    let k = top .loop .inv .1 in
+    let t = call .before .before .before .before .before .before .before .loop-test .taken in
+    let g = top .before .before .before .before .before .before .before .before .before .before .before .before .before .good in
+    search needs
+
+loop-less : tie.Need-loop-less Inv-loop μ-loop
+loop-less c = 
+    let call = c .before .before .before .before .before .before .before .before .before .before .before in
+    let top = call .before .before .before .before .before .before .before .before in
+    let i = top .loop .inv .0 in
+    let k = top .loop .inv .1 in
+    let t = call .before .before .before .before .before .before .before .loop-test .taken in
+    let g = top .before .before .before .before .before .before .before .before .before .before .before .before .before .good in
+    search needs
+
 loop-again : tie.Need-loop-again Inv-loop μ-loop
 loop-again c = 
     let call = c .before .before .before .before .before .before .before .before .before .before .before in
@@ -39,6 +69,30 @@ loop-again c =
     (call .before .before .before .before .before .before .before .loop-test .taken) (call .before .before .before .before .before .if1 .taken) _ _ _ (call .add-row .ensures .0) _ (c .before .g .given .1),
     row-kept _ _ _ _ _ _ _ _ _ _ (pre .1 .0 .1) _ _ (top .loop .k) (top .loop .end) (top .loop .i) (top .loop .inv .5)
     (call .before .before .before .before .before .before .before .loop-test .taken) (call .before .before .before .before .before .if1 .taken) _ _ _ (call .add-row .ensures .0) _ (c .before .g .given .1))
+
+same-length : tie.Need-same-length Inv-loop μ-loop
+same-length c = 
+    let call = c .before .before .before .before .before .before .before .before .before .before in
+    let after = call .add-row .ensures .1 in
+    let first = call .before .before .before .before .before .before .before .before .before .before .before .before .before .before .before .before .before .before .before .before .before .pre .0 .0 in
+    search needs
+
+same-length-2 : tie.Need-same-length-2 Inv-loop μ-loop
+same-length-2 c = 
+    let call = c .before .before .before .before .before .before .before .before .before .before in
+    let after = call .add-row .ensures .1 in
+    let first = call .before .before .before .before .before .before .before .before .before .before .before .before .before .before .before .before .before .before .before .before .before .pre .0 .0 in
+    search needs
+
+same-length-3 : tie.Need-same-length-3 Inv-loop μ-loop
+same-length-3 c = 
+    let call = c .before .before .before .before .before .before .before .before .before .before in
+    let after = call .add-row .ensures .1 in
+    let first = call .before .before .before .before .before .before .before .before .before .before .before .before .before .before .before .before .before .before .before .before .before .pre .0 .0 in
+    search needs
+
+same-length-4 : tie.Need-same-length-4 Inv-loop μ-loop
+same-length-4 c = let l = c .before .before .before .before .before .before .before .before .before .before .before .before .before .before .before .before .before .before .loop .inv .2 in search needs
 
 returns : tie.Need-returns Inv-loop μ-loop
 returns c = 
@@ -57,7 +111,6 @@ returns-2 c = (search rows-done, search needs)
 pub add-rows-spec : {M : Type 1} → statement M
 add-rows-spec =
     tie.close
-    (tie.spec Inv-loop μ-loop loop-holds (λ c. search needs) add-row-requires (λ c. search needs) (λ c. search needs)
-    (λ c. search needs) (λ c. search needs) loop-again (λ c. search needs) (λ c. search needs) (λ c. search needs) (λ c. search needs)
-    (λ c. search needs) returns (λ c. search needs) (λ c. search needs) loop-again-2 (λ c. search needs) (λ c. search needs)
-    (λ c. search needs) (λ c. search needs) returns-2)
+    (tie.spec Inv-loop μ-loop loop-holds (λ c. search needs) add-row-requires (λ c. search needs) add-k add-i loop-less loop-again
+    (λ c. search needs) same-length same-length-2 same-length-3 same-length-4 returns (λ c. search needs) (λ c. search needs)
+    loop-again-2 (λ c. search needs) (λ c. search needs) (λ c. search needs) (λ c. search needs) returns-2)
