@@ -205,7 +205,16 @@ fn add_followed(
 {
     let q = index(target - start);
     if flag_at(flags, q) == 0 {
-        return cite(kinds, spaces, targets, base, end, kind, space, number_at(numbers, q));
+        return cite(
+            kinds,
+            spaces,
+            targets,
+            base,
+            end,
+            kind,
+            space,
+            number_at(numbers, q),
+        );
     }
     let t = KINDS * q + wide(kind);
     let a = index(offs[t]);
@@ -402,7 +411,11 @@ fn add_rows(
                 spaces,
                 targets,
                 offsets,
-                Place { row: i, kept: k, end: end },
+                Place {
+                    row: i,
+                    kept: k,
+                    end: end,
+                },
                 start,
                 flags,
                 numbers,

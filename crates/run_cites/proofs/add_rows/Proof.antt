@@ -31,7 +31,7 @@ add-row-requires : tie.Need-add-row-requires Inv-loop μ-loop
 add-row-requires c κs = ((search needs, search needs), ((search needs, search needs), (search needs, search needs)))
 
 add-k : tie.Need-add-k Inv-loop μ-loop
-add-k c = 
+add-k c =
     let call = c .before .before .before .before .before .before .before .before .before .before .before in
     let top = call .before .before .before .before .before .before .before .before in
     let i = top .loop .inv .0 in
@@ -41,7 +41,7 @@ add-k c =
     search needs
 
 add-i : tie.Need-add-i Inv-loop μ-loop
-add-i c = 
+add-i c =
     let call = c .before .before .before .before .before .before .before .before .before .before .before in
     let top = call .before .before .before .before .before .before .before .before in
     let i = top .loop .inv .0 in
@@ -51,7 +51,7 @@ add-i c =
     search needs
 
 loop-less : tie.Need-loop-less Inv-loop μ-loop
-loop-less c = 
+loop-less c =
     let call = c .before .before .before .before .before .before .before .before .before .before .before in
     let top = call .before .before .before .before .before .before .before .before in
     let i = top .loop .inv .0 in
@@ -61,31 +61,36 @@ loop-less c =
     search needs
 
 loop-again : tie.Need-loop-again Inv-loop μ-loop
-loop-again c = 
+loop-again c =
     let call = c .before .before .before .before .before .before .before .before .before .before .before in
     let top = call .before .before .before .before .before .before .before .before in
-    let pre = top .before .before .before .before .before .before .before .before .before .before .before .before .before .pre in
-    (search needs, search needs, search needs, call .add-row .ensures .1, row-built _ _ _ _ _ _ _ _ _ _ (pre .1 .0 .1) _ _ (top .loop .k) (top .loop .end) (top .loop .i) (top .loop .inv .5)
-    (call .before .before .before .before .before .before .before .loop-test .taken) (call .before .before .before .before .before .if1 .taken) _ _ _ (call .add-row .ensures .0) _ (c .before .g .given .1),
-    row-kept _ _ _ _ _ _ _ _ _ _ (pre .1 .0 .1) _ _ (top .loop .k) (top .loop .end) (top .loop .i) (top .loop .inv .5)
-    (call .before .before .before .before .before .before .before .loop-test .taken) (call .before .before .before .before .before .if1 .taken) _ _ _ (call .add-row .ensures .0) _ (c .before .g .given .1))
+    let pre = top .before .before .before .before .before .before .before .before .before .before .before .before .before .pre in (
+      search needs,
+      search needs,
+      search needs,
+      call .add-row .ensures .1,
+      row-built _ _ _ _ _ _ _ _ _ _ (pre .1 .0 .1) _ _ (top .loop .k) (top .loop .end) (top .loop .i) (top .loop .inv .5)
+          (call .before .before .before .before .before .before .before .loop-test .taken) (call .before .before .before .before .before .if1 .taken) _ _ _ (call .add-row .ensures .0) _ (c .before .g .given .1),
+      row-kept _ _ _ _ _ _ _ _ _ _ (pre .1 .0 .1) _ _ (top .loop .k) (top .loop .end) (top .loop .i) (top .loop .inv .5)
+          (call .before .before .before .before .before .before .before .loop-test .taken) (call .before .before .before .before .before .if1 .taken) _ _ _ (call .add-row .ensures .0) _ (c .before .g .given .1),
+    )
 
 same-length : tie.Need-same-length Inv-loop μ-loop
-same-length c = 
+same-length c =
     let call = c .before .before .before .before .before .before .before .before .before .before in
     let after = call .add-row .ensures .1 in
     let first = call .before .before .before .before .before .before .before .before .before .before .before .before .before .before .before .before .before .before .before .before .before .pre .0 .0 in
     search needs
 
 same-length-2 : tie.Need-same-length-2 Inv-loop μ-loop
-same-length-2 c = 
+same-length-2 c =
     let call = c .before .before .before .before .before .before .before .before .before .before in
     let after = call .add-row .ensures .1 in
     let first = call .before .before .before .before .before .before .before .before .before .before .before .before .before .before .before .before .before .before .before .before .before .pre .0 .0 in
     search needs
 
 same-length-3 : tie.Need-same-length-3 Inv-loop μ-loop
-same-length-3 c = 
+same-length-3 c =
     let call = c .before .before .before .before .before .before .before .before .before .before in
     let after = call .add-row .ensures .1 in
     let first = call .before .before .before .before .before .before .before .before .before .before .before .before .before .before .before .before .before .before .before .before .before .pre .0 .0 in
@@ -95,12 +100,14 @@ same-length-4 : tie.Need-same-length-4 Inv-loop μ-loop
 same-length-4 c = let l = c .before .before .before .before .before .before .before .before .before .before .before .before .before .before .before .before .before .before .loop .inv .2 in search needs
 
 returns : tie.Need-returns Inv-loop μ-loop
-returns c = 
+returns c =
     let call = c .before .before .before .before .before .before .before .before .before .before in
     let top = call .before .before .before .before .before .before .before .before in
-    let pre = top .before .before .before .before .before .before .before .before .before .before .before .before .before .pre in
-    (rows-full _ _ _ _ _ _ _ _ _ _ (pre .1 .0 .1) _ _ (top .loop .k) (top .loop .end) (top .loop .i) (top .loop .inv .5)
-    (call .before .before .before .before .before .before .before .loop-test .taken) (call .before .before .before .before .before .if1 .taken) _ _ _ (call .add-row .ensures .0) (c .enum-told .given .1), call .add-row .ensures .1)
+    let pre = top .before .before .before .before .before .before .before .before .before .before .before .before .before .pre in (
+      rows-full _ _ _ _ _ _ _ _ _ _ (pre .1 .0 .1) _ _ (top .loop .k) (top .loop .end) (top .loop .i) (top .loop .inv .5)
+          (call .before .before .before .before .before .before .before .loop-test .taken) (call .before .before .before .before .before .if1 .taken) _ _ _ (call .add-row .ensures .0) (c .enum-told .given .1),
+      call .add-row .ensures .1,
+    )
 
 loop-again-2 : tie.Need-loop-again-2 Inv-loop μ-loop
 loop-again-2 c = (search needs, search needs, search needs, search needs, search needs, search row-gone)

@@ -15,7 +15,7 @@ same-length-4 : tie.Need-same-length-4
 same-length-4 c = let q = c .before .before .before .before .offsets .given in let p = c .before .before .before .slice-known8 .given in search (needs, same-after)
 
 returns : tie.Need-returns
-returns c = 
+returns c =
     let call = c .before .before .before .before .before .before .before .before .before .before .before in
     let pre = call .before .before .before .before .before .before .before .before .before .before .before .before .before .before .before .before .before .pre in
     ((counts-many _ _ _ _ _ _ (pre .1 .1 .1) _ _ _ (call .add-rows .ensures .0) (cites-many _ _ _ (call .add-rows .ensures .1)) _ (c .before .g .given .1), counts-built _ _ _ _ _ _ (pre .1 .1 .1) _ _ _ (call .add-rows .ensures .0) _ (c .before .g .given .1)), call .add-rows .ensures .1)
@@ -24,7 +24,7 @@ same-length-8 : tie.Need-same-length-8
 same-length-8 c = let q = c .before .before .before .offsets .given in let p = c .before .before .slice-known8 .given in search (needs, same-after)
 
 returns-2 : tie.Need-returns-2
-returns-2 c = 
+returns-2 c =
     let call = c .before .before .before .before .before .before .before .before .before .before in
     let pre = call .before .before .before .before .before .before .before .before .before .before .before .before .before .before .before .before .before .pre in
     ((refl, counts-over _ _ _ _ _ _ (pre .1 .1 .1) _ _ _ (call .add-rows .ensures .0) (c .enum-told .given .1)), call .add-rows .ensures .1)

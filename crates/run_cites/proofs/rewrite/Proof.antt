@@ -29,44 +29,51 @@ loop-holds : tie.Need-loop-holds Inv-loop μ-loop
 loop-holds c = (search needs, search needs, search needs, search needs, search needs, search row-begins)
 
 loop-again : tie.Need-loop-again Inv-loop μ-loop
-loop-again c = 
+loop-again c =
     let call = c .before .before .before .before .before .before .before .before .before in
     let turn = call .before .before .before .before .before .before .before in
     let top = turn .before in
-    let first = top .before .before .before .before .before .before .before .before .before .before .before in
-    (search needs, search above-now, search room-now, search needs, search kept-now,
-    columns-on _ _ _ _ _ (first .args .base) (top .loop .n) _ (top .loop .i) (first .args .b) _ _ _ (top .loop .inv .5)
-    (turn .loop-test .taken) (first .pre .1 .1 .0) (first .pre .1 .1 .1 .0) (first .pre .1 .1 .1 .1 .1) _ _ (call .add-reference .ensures .0) _ (c .before .g .given .1))
+    let first = top .before .before .before .before .before .before .before .before .before .before .before in (
+      search needs,
+      search above-now,
+      search room-now,
+      search needs,
+      search kept-now,
+      columns-on _ _ _ _ _ (first .args .base) (top .loop .n) _ (top .loop .i) (first .args .b) _ _ _ (top .loop .inv .5)
+          (turn .loop-test .taken) (first .pre .1 .1 .0) (first .pre .1 .1 .1 .0) (first .pre .1 .1 .1 .1 .1) _ _ (call .add-reference .ensures .0) _ (c .before .g .given .1),
+    )
 
 same-length : tie.Need-same-length Inv-loop μ-loop
-same-length c = 
+same-length c =
     let call = c .before .before .before .before .before .before .before .before in
     let after = call .add-reference .ensures .1 in
     let first = call .before .before .before .before .before .before .before .before .before .before .before .before .before .before .before .before .before .before .before .pre .0 .0 in
     search needs
 
 same-length-2 : tie.Need-same-length-2 Inv-loop μ-loop
-same-length-2 c = 
+same-length-2 c =
     let call = c .before .before .before .before .before .before .before .before in
     let after = call .add-reference .ensures .1 in
     let first = call .before .before .before .before .before .before .before .before .before .before .before .before .before .before .before .before .before .before .before .pre .0 .0 in
     search needs
 
 same-length-3 : tie.Need-same-length-3 Inv-loop μ-loop
-same-length-3 c = 
+same-length-3 c =
     let call = c .before .before .before .before .before .before .before .before in
     let after = call .add-reference .ensures .1 in
     let first = call .before .before .before .before .before .before .before .before .before .before .before .before .before .before .before .before .before .before .before .pre .0 .0 in
     search needs
 
 returns : tie.Need-returns Inv-loop μ-loop
-returns c = 
+returns c =
     let call = c .before .before .before .before .before .before .before .before in
     let turn = call .before .before .before .before .before .before .before in
     let top = turn .before in
-    let first = top .before .before .before .before .before .before .before .before .before .before .before in
-    (columns-full _ _ _ _ _ (first .args .base) (top .loop .n) _ (top .loop .i) (first .args .b) _ _ _ (top .loop .inv .5)
-    (turn .loop-test .taken) (first .pre .1 .1 .0) (first .pre .1 .1 .1 .0) (first .pre .1 .1 .1 .1 .1) _ _ (call .add-reference .ensures .0) (c .enum-told .given .1), search needs)
+    let first = top .before .before .before .before .before .before .before .before .before .before .before in (
+      columns-full _ _ _ _ _ (first .args .base) (top .loop .n) _ (top .loop .i) (first .args .b) _ _ _ (top .loop .inv .5)
+          (turn .loop-test .taken) (first .pre .1 .1 .0) (first .pre .1 .1 .1 .0) (first .pre .1 .1 .1 .1 .1) _ _ (call .add-reference .ensures .0) (c .enum-told .given .1),
+      search needs,
+    )
 
 returns-2 : tie.Need-returns-2 Inv-loop μ-loop
 returns-2 c = (search columns-done, search needs)
