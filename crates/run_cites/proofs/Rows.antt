@@ -27,7 +27,7 @@ use Rattle.run_renumber.specs.declared.Grown.the-variants.{Upto, Full}
 use Rattle.cleaning.specs.Survivors.{keep}
 use Rattle.cleaning.proofs.FlatRewriting.{rewrittenFlat, flatCites}
 use Rattle.run_cites.specs.Cites.{cites, Room, Grew, Exact, Built, Result, Gathered, keptRows}
-use Rattle.run_cites.proofs.Columns.{cites-many}
+use Rattle.run_cites.proofs.Columns.{cites-many, cites-take}
 use Rattle.run_cites.proofs.Growing.{grew, too-long}
 
 -- a place in a table of offsets, in bytes
@@ -181,3 +181,9 @@ module _ (K start : ℕ) (flags numbers : List ℕ) (news : List (List ℕ)) (ro
   counts-over f =
       let y : maxNumbers < length (joined (flatCites K start flags news rows)) = rw (f, named) at x in
       rw (← length-joined (flatCites K start flags news rows)) y
+
+-- what a caller reads back: the columns up to the end, which the first offsets cut into rows
+pub built-cited : (offs ks ss ts : List ℕ) (n end : ℕ) (lists : List (List Reference)) → Built offs (cites ks ss ts) n end lists
+    → citedFrom (take (n + 1) offs) (take end ks) (take end ss) (take end ts) ≡ lists
+unfolding citedFrom
+built-cited offs ks ss ts n end lists b = ap (cut (take (n + 1) offs)) (sym (cites-take ks ss ts end)) ∙ built-cut offs (cites ks ss ts) n end lists b
