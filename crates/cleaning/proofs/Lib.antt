@@ -83,4 +83,5 @@ pub mod Orderly
 pub mod TidyHeld
 pub mod Neat
 pub mod FlatResolving
+pub mod FlatRewriting
 pub mod ArchiveSize
