@@ -4,9 +4,9 @@
     tools/prove.py [CRATE..]      these crates, those they stand on and their own edits; without a name all, as the gate does
 
 `rt ci` asks the same of the same prover. It starts crates in lots and waits for the slowest of each, and it checks a crate whole for each
-of its edits. Here a crate starts once those it names are proved, and an edit is checked over what a check of its own crate has left (the
-prover's incremental folder), so that only what the edit touches is checked again: the gate takes less than half of the time. What is
-proved is told by `rt` alone: each crate by `rt check`, into target/ as ever, and all of them once more by the gate's own `rt check`."""
+of its edits. Here a crate starts once those it names are proved, and an edit is checked over the checked modules that the proof of its crate
+has left in its library, laid into an incremental folder, so that only what the edit touches is checked again. What is proved is told by
+`rt` alone: each crate by `rt check`, into target/ as ever, and all of them once more by the gate's own `rt check`."""
 import concurrent.futures
 import os
 import pathlib
@@ -22,7 +22,6 @@ CRATES = ROOT / "crates"
 TARGET = ROOT / "target"
 PLACE = TARGET / "gate"  # what this script makes and removes
 JOBS = int(os.environ.get("RT_JOBS") or (os.cpu_count() or 1) + 1)
-SHARED = 2  # from this number of edits on a check of the crate itself, kept for them, pays
 
 
 def listed():
@@ -61,13 +60,12 @@ def prove(name):
 
 
 def check(name, crates, folder, kept):
-    """What the prover says of the crate in a folder, over what an earlier check has left, if it left something."""
+    """What the prover says of the crate in a folder, over the incremental folder `kept`."""
     kit = [dep for dep in crates[name] if dep not in crates]
     words = ["rt", "check", str(folder), *(["--deps", ",".join(kit)] if kit else []), "-L", f"dependency={TARGET / 'rlib'}"]
     for dep in crates[name]:
         words += ["--extern", f"{dep}={TARGET / 'rlib' / dep}.rlib"] if dep in crates else []
-    words += ["--incremental", str(kept)] if kept else []
-    done = subprocess.run(words, cwd=ROOT, capture_output=True, text=True)
+    done = subprocess.run([*words, "--incremental", str(kept)], cwd=ROOT, capture_output=True, text=True)
     return done.returncode, done.stdout + done.stderr
 
 
@@ -95,28 +93,29 @@ def edited(edit, folder):
     return None if pairs else "it changes nothing"
 
 
-def keep(name, crates):
-    """Check a crate as it stands and keep what the check leaves, for its edits."""
-    folder = PLACE / "kept" / name / name
-    copied(name, folder)
-    kept = folder.parent / "left"
-    kept.mkdir()
-    status, said = check(name, crates, folder, kept)
-    return status == 0, said
+def folder_name():
+    """What this prover calls the folder of checked modules within an incremental folder, by a check of a crate without a line."""
+    room = PLACE / "empty"
+    (room / "empty" / "src").mkdir(parents=True)
+    (room / "empty" / "src" / "lib.rt").touch()
+    (room / "left").mkdir()
+    check("empty", {"empty": []}, room / "empty", room / "left")
+    return next((place.name for place in room.glob("left/*")), None)
 
 
-def refused(name, edit, crates, shared):
-    """Whether the prover refuses an edit, and where it stumbles first."""
+def refused(name, edit, crates, called):
+    """Whether the prover refuses an edit, and where it stumbles first. Were the checked modules not found, all would be checked again."""
     room = PLACE / "edits" / name / edit.stem
     folder = room / name
     copied(name, folder)
     wrong = edited(edit, folder)
     if wrong:
         return False, wrong
-    kept = room / "left" if shared else None
-    if shared:
-        shutil.copytree(PLACE / "kept" / name / "left", kept)
-    status, said = check(name, crates, folder, kept)
+    (room / "left").mkdir()
+    checked = TARGET / "rlib" / f"{name}.rlib" / "toolchain" / "checked"
+    if called and checked.is_dir():
+        shutil.copytree(checked, room / "left" / called)
+    status, said = check(name, crates, folder, room / "left")
     shutil.rmtree(room)
     first = re.search(r"^(\S*): error", said, re.M) or re.search(r"^note: (\S*:\d+:\d+):", said, re.M)
     if status == 1 and re.search(r"^logic=not-proved", said, re.M):
@@ -167,16 +166,12 @@ class Work:
                 self.lock.notify_all()
 
 
-def add_edits(work, name, crates):
+def add_edits(work, name, crates, called):
     """A crate's edits, once it and those that it names are proved; how many they are."""
     found = sorted((CRATES / name / "must-fail").glob("*.edit"))
     before = [("prove", dep) for dep in [name, *crates[name]] if dep in crates and not is_program(dep)]
-    shared = len(found) >= SHARED
-    if shared:
-        work.add(("keep", name), before, lambda: keep(name, crates))
-        before = [("keep", name)]
     for edit in found:
-        work.add(("edit", name, edit.stem), before, lambda edit=edit: refused(name, edit, crates, shared))
+        work.add(("edit", name, edit.stem), before, lambda edit=edit: refused(name, edit, crates, called))
     return len(found)
 
 
@@ -189,7 +184,8 @@ def main(names):
     work = Work()
     for name in (name for name in crates if name in chosen and not is_program(name)):
         work.add(("prove", name), [("prove", dep) for dep in crates[name] if dep in crates], lambda name=name: prove(name))
-    edits = sum(add_edits(work, name, crates) for name in crates if name in (names or chosen))
+    called = folder_name()
+    edits = sum(add_edits(work, name, crates, called) for name in crates if name in (names or chosen))
     with concurrent.futures.ThreadPoolExecutor(JOBS) as pool:
         for ended in [pool.submit(work.serve) for _ in range(JOBS)]:
             ended.result()
