@@ -10,7 +10,8 @@ pub mod Tabled
 pub mod Worked
 pub mod Sides
 pub mod Taken
-pub mod Carried
+pub mod Rewriting
+pub mod GoodCites
 pub mod Events
 pub mod Invariant
 pub mod Writes
@@ -82,4 +83,5 @@ pub mod Orderly
 pub mod TidyHeld
 pub mod Neat
 pub mod FlatResolving
+pub mod FlatRewriting
 pub mod ArchiveSize

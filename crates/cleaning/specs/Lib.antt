@@ -1,8 +1,10 @@
+pub mod References
 pub mod Source
 pub mod Taking
 pub mod Archive
 pub mod Routes
 pub mod Cleaning
+pub mod Rewriting
 pub mod Memo
 pub mod Summary
 pub mod Resolving

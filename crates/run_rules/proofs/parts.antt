@@ -3,3 +3,4 @@ pub mod HeadTests
 pub mod RecordTurns
 pub mod SetOrder
 pub mod CoverTurns
+pub mod CiteTurns

@@ -1,4 +1,5 @@
 // The rules of the parts of a file at taking, over the bytes of its records.
+pub mod cites;
 pub mod covers;
 pub mod heads;
 pub mod sets;

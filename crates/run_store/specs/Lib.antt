@@ -1,3 +1,4 @@
+pub mod cites
 pub mod file
 pub mod fits
 pub mod grow
