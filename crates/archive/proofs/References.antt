@@ -8,8 +8,8 @@ use native.Mathlib.Nat.{add-zero, zero-add}
 use native.Mathlib.Omega.{arith}
 use lib.Dec.{leb, ltb, eqb}
 use borrow.Author.Tests.{lt-ltb}
-use lib.ListN.{length, getD, take, length-append}
-use Rattle.lists.specs.Lists.{Each, flat, all, sum, joined}
+use lib.ListN.{length, getD, take}
+use Rattle.lists.specs.Lists.{Each, flat, all, sum}
 use Rattle.lists.proofs.Each.{each-imp}
 use Rattle.lists.proofs.Tests.{not-both}
 use Rattle.archive.specs.Bytes.{bytesOf}
@@ -22,7 +22,6 @@ use Rattle.archive_bytes.proofs.Numbers.{AllBytes, be-at, be-small, bytesOf-be}
 use Rattle.archive.proofs.Forward.{Reads, then-reads, end-reads, Item, counted-read, record-kind, found-reads, none-reads}
 use Rattle.archive.proofs.Back.{Back, Said, then-back, end-back, weaker-back}
 use Rattle.archive.proofs.Framed.{record-back, optionally-back}
-use Rattle.archive.proofs.Lengths.{length-counted}
 use Rattle.archive.proofs.Bodies.{counted-back}
 
 -- ── the record as it is found ────────────────────────────────────────────────────────────────
@@ -74,19 +73,6 @@ wide-reference r = refl
 reference-item : (r : Reference) → r .target < 256 ^ 8 → Item referenceBytes referenceAt (λ r. r) r
 unfolding referenceBytes referenceAt
 reference-item r h post = rw (be-at 8 (r .target) (r .kind ∷ r .space ∷ []) post h)
-
--- 4 bytes for each row and 10 for each reference
-pub length-references : (rss : List (List Reference)) → length (referencesBytes rss) ≡ 4 * length rss + 10 * length (joined rss)
-unfolding referencesBytes joined
-length-references [] = refl
-length-references (rs ∷ rss) =
-    omega (
-      arith,
-      length-append (countedBytes referenceBytes rs) (flat (countedBytes referenceBytes) rss),
-      length-counted referenceBytes 10 wide-reference rs,
-      length-append rs (joined rss),
-      length-references rss,
-    )
 
 module _ {post : List ℕ} where
   row-reads : (rs : List Reference) → RowReferencesFit rs → Reads post rowReferences (countedBytes referenceBytes rs) rs
@@ -166,7 +152,7 @@ unfolding referencesOk all ofKind
 empty-fits [] = tt
 empty-fits (r ∷ rs) = (record { count = omega arith; targets = tt; known = refl }, empty-fits rs)
 
-pub length-none : {A : Type 0} (rs : List A) → length (noReferences rs) ≡ length rs
+length-none : {A : Type 0} (rs : List A) → length (noReferences rs) ≡ length rs
 length-none [] = refl
 length-none (r ∷ rs) = ap suc (length-none rs)
 

@@ -1,7 +1,7 @@
 -- A cleaned archive is no longer than its room. Room for the groups before one is a figure that grows from group to group by no less than the
 -- bytes of the group's file, so that all files together are no longer than room for all groups.
 use mathlib.Core.Path.{_≡_, refl, ap, sym, _∙_}
-use mathlib.Core.Bool.{Bool, true, false, cond}
+use mathlib.Core.Bool.{Bool, true, false}
 use mathlib.Core.Logic.{inl, inr}
 use mathlib.Core.List.{List, [], _∷_, map}
 use mathlib.Core.Option.{none}
@@ -22,14 +22,14 @@ use Rattle.columns.specs.Reading.{Label}
 use Rattle.columns.specs.Building.{Built, slotRules, within}
 use Rattle.cover.specs.Chains.{Link, rangesOf}
 use Rattle.cover.specs.Cover.{differences, columnsOf}
-use Rattle.archive.specs.File.{CoverColumns, Reference, anyReference, File}
-use Rattle.archive.specs.Encode.{headBytes, edgesBytes, rowBytes, unresolvedBytes, rootBytes, coverBytes, countedBytes, coverRecord, recordBytes, referencesBytes, referencesRecord, fileBytes, encode}
+use Rattle.archive.specs.File.{CoverColumns, File}
+use Rattle.archive.specs.Encode.{headBytes, edgesBytes, rowBytes, unresolvedBytes, rootBytes, coverBytes, countedBytes, coverRecord, referencesRecord, fileBytes, encode}
 use Rattle.archive.proofs.Lengths.{length-record, length-head, length-set, length-sets, length-counted, length-links, length-cover, wide-row, wide-unresolved, wide-root}
-use Rattle.archive.proofs.References.{length-references}
+use Rattle.archive.proofs.References.{no-record}
 use Rattle.cleaning.specs.Sheet.{Sheet, rowCount}
 use Rattle.cleaning.specs.Writing.{labelColumns}
 use Rattle.cleaning.specs.Sections.{Tidy, factsOf, place, between, sectionStart, sectionRows, sectionFirst, sectionEnd, sheetEnd, sectionTags, sectionLists}
-use Rattle.cleaning.specs.Sections.{sectionLabels, sectionRoots, sectionLinks, childLists, sectionChildren, coverWhere, unerasedRow, sectionReferences, sectionFileOf, sectionFile}
+use Rattle.cleaning.specs.Sections.{sectionLabels, sectionRoots, sectionLinks, childLists, sectionChildren, coverWhere, unerasedRow, sectionFileOf, sectionFile}
 use Rattle.cleaning.specs.Sections.{sectionBytes, rowSize, roomFor, maxArchiveSize}
 use Rattle.cleaning.proofs.OutputFigures.{ranges-few, length-deltas}
 use Rattle.cleaning.proofs.Places.{place-within, place-rises}
@@ -39,7 +39,7 @@ use Rattle.cleaning.proofs.Within.{length-within}
 use Rattle.cleaning.proofs.SectionSets.{lists-within, lists-length, children-length, children-counted, children-few, section-built}
 
 -- the room in bytes, for a run's own number of kinds
-pub archive-room : maxArchiveSize kinds ≡ 241600
+pub archive-room : maxArchiveSize kinds ≡ 196448
 archive-room = refl
 
 -- ── figures that grow ────────────────────────────────────────────────────────────────────────
@@ -63,10 +63,10 @@ module _ {A : Type 0} (f : A → ℕ) (xs : List A) where
   place-few n = omega (arith, place-within n (map f xs), length-map xs f)
 
 -- how many entries the lists before the i-th have
-abbrev entriesTo : {A : Type 0} → List (List A) → ℕ → ℕ
+abbrev entriesTo : List (List ℕ) → ℕ → ℕ
 entriesTo ls i = length (joined (take i ls))
 
-module _ {A : Type 0} (ls : List (List A)) where
+module _ (ls : List (List ℕ)) where
   entries-step : (i n : ℕ) → entriesTo ls i + length (joined (part i n ls)) ≡ entriesTo ls (i + n)
   unfolding part
   entries-step i n = sym (rw (take-add i n ls, joined-append (take i ls) (take n (drop i ls))) (length-append (joined (take i ls)) (joined (take n (drop i ls)))))
@@ -141,26 +141,18 @@ module _ (K : ℕ) (served : Served K) (first : ℕ) (lists : List (List ℕ)) w
   set-deltas : length (setOf K first lists .deltas) ≡ length (joined lists)
   set-deltas = length-deltas K served first lists ∙ sym (length-joined lists)
 
-record-few : (rss : List (List Reference)) → length (referencesRecord rss) ≤ 6 + (4 * length rss + 10 * length (joined rss))
-record-few rss = go (anyReference rss)
-  where
-    go : (b : Bool) → length (cond b (recordBytes 7 (referencesBytes rss)) []) ≤ 6 + (4 * length rss + 10 * length (joined rss))
-    go true = omega (arith, length-record 7 (referencesBytes rss), length-references rss)
-    go false = omega arith
-
 -- what rows add, out of the slots that they have
-rows-room : (K n : ℕ) → n * rowSize K ≡ 24 * (K * n) + 21 * n
+rows-room : (K n : ℕ) → n * rowSize K ≡ 24 * (K * n) + 17 * n
 rows-room K n = omega arith
 
 -- ── room for groups ──────────────────────────────────────────────────────────────────────────
 
 -- room for the groups before group g
-roomTo : (K : ℕ) → Sheet → List (List Reference) → ℕ → ℕ
-roomTo K s cites g =
+roomTo : (K : ℕ) → Sheet → ℕ → ℕ
+roomTo K s g =
     let rows = sectionStart s g in
     roomFor K g rows (place (sectionFirst s g) (map (λ u. u .child) (s .unresolved))) (place rows (map (λ r. r .row) (s .roots))) rows
     (place g (map (λ l. l .group) (s .links))) (entriesTo (s .lists) (K * rows) + entriesTo (childLists K s) (K * rows))
-    (entriesTo cites rows)
 
 module _ (K : ℕ) (served : Served K) (s : Sheet) (t : Tidy K s) where
   module _ (g : ℕ) where
@@ -187,18 +179,9 @@ module _ (K : ℕ) (served : Served K) (s : Sheet) (t : Tidy K s) where
         entries-step ls (K * sectionStart s g) (K * sectionRows s g)
         ∙ ap (entriesTo ls) {x = K * sectionStart s g + K * sectionRows s g} {y = K * sectionStart s (suc g)} (omega (arith, ap (λ x. K * x) (section-end K served s t g)))
 
-  module _ (cites : List (List Reference)) (e : slotRules K (s .start) 0 (s .lists) ≡ none) (r : s .start + rowCount s < end64)
-      (subject : length (s .subject) ≤ maxSubject) where
-    references-few : (g : ℕ) → length (sectionReferences s cites g) ≤ sectionRows s g
-    unfolding part
-    references-few g = omega (arith, length-take (sectionRows s g) (drop (sectionStart s g) cites))
-
-    references-step : (g : ℕ) → entriesTo cites (sectionStart s g) + length (joined (sectionReferences s cites g)) ≡ entriesTo cites (sectionStart s (suc g))
-    references-step g =
-        entries-step cites (sectionStart s g) (sectionRows s g) ∙ ap (entriesTo cites) {x = sectionStart s g + sectionRows s g} {y = sectionStart s (suc g)} (section-end K served s t g)
-
+  module _ (e : slotRules K (s .start) 0 (s .lists) ≡ none) (r : s .start + rowCount s < end64) (subject : length (s .subject) ≤ maxSubject) where
     -- a group's file is no longer than what its group adds
-    file-step : (g : ℕ) → roomTo K s cites g + length (fileBytes (sectionFile K s cites g)) ≤ roomTo K s cites (suc g)
+    file-step : (g : ℕ) → roomTo K s g + length (fileBytes (sectionFile K s g)) ≤ roomTo K s (suc g)
     unfolding roomTo sectionFile
     file-step g =
         let first = sectionFirst s g in
@@ -209,10 +192,8 @@ module _ (K : ℕ) (served : Served K) (s : Sheet) (t : Tidy K s) where
         rw (section-built K served s t g e r)
         (omega (
           arith,
-          length-file (sectionFileOf s cites g built),
-          record-few (sectionReferences s cites g),
-          references-few g,
-          references-step g,
+          length-file (sectionFileOf s g built),
+          ap length (no-record (sectionTags s g)),
           set-offsets K served first forward,
           set-offsets K served first reverse,
           set-offsets K served first inbound,
@@ -240,16 +221,16 @@ module _ (K : ℕ) (served : Served K) (s : Sheet) (t : Tidy K s) where
         ))
 
     -- the files of all groups are no longer than room for all
-    files-few : (n : ℕ) → length (encode (map (sectionFile K s cites) (upFrom 0 n))) ≤ roomTo K s cites n
+    files-few : (n : ℕ) → length (encode (map (sectionFile K s) (upFrom 0 n))) ≤ roomTo K s n
     unfolding encode
     files-few n =
-        let bytes : ℕ → ℕ = λ g. length (fileBytes (sectionFile K s cites g)) in
+        let bytes : ℕ → ℕ = λ g. length (fileBytes (sectionFile K s g)) in
         omega (
           arith,
-          length-flat fileBytes (map (sectionFile K s cites) (upFrom 0 n)),
-          sum-map (λ f. length (fileBytes f)) (sectionFile K s cites) (upFrom 0 n),
-          steps-sum (roomTo K s cites) bytes file-step 0 n,
-          ap (roomTo K s cites) (zero-add n),
+          length-flat fileBytes (map (sectionFile K s) (upFrom 0 n)),
+          sum-map (λ f. length (fileBytes f)) (sectionFile K s) (upFrom 0 n),
+          steps-sum (roomTo K s) bytes file-step 0 n,
+          ap (roomTo K s) (zero-add n),
         )
 
     before-few : (n : ℕ) → sectionStart s n ≤ rowCount s
@@ -258,10 +239,9 @@ module _ (K : ℕ) (served : Served K) (s : Sheet) (t : Tidy K s) where
 
     -- within the limits no archive is longer than its room
     pub archive-few : length (s .groups) ≤ maxGroups → rowCount s ≤ maxRecords → length (joined (s .lists)) ≤ maxNumbers → length (s .unresolved) ≤ maxRecords
-        → length (s .roots) ≤ maxRecords → length (s .links) ≤ maxRecords → length (joined cites) ≤ maxNumbers
-        → length (sectionBytes K s cites) ≤ maxArchiveSize K
+        → length (s .roots) ≤ maxRecords → length (s .links) ≤ maxRecords → length (sectionBytes K s) ≤ maxArchiveSize K
     unfolding sectionBytes roomTo sectionStart
-    archive-few groups rows entries unresolved roots links references =
+    archive-few groups rows entries unresolved roots links =
         let n = length (s .groups) in
         let before = sectionStart s n in
         omega (
@@ -275,6 +255,5 @@ module _ (K : ℕ) (served : Served K) (s : Sheet) (t : Tidy K s) where
           place-few (λ l. l .group) (s .links) n,
           entries-few (s .lists) (K * before),
           entries-few (childLists K s) (K * before),
-          entries-few cites before,
           children-few K served s t,
         )

@@ -18,9 +18,9 @@ use Rattle.lists.proofs.Pairs.{each-upFrom}
 use Rattle.lists.proofs.Flat.{flat-ext, length-flat, sum-append, upFrom-append, upFrom-snoc}
 use Rattle.cleaning.specs.Summary.{Kept, Summary}
 use Rattle.cleaning.specs.Writing.{Numbered, numberedFrom, numbered, groupIs, rowsIn, firstNumber}
-use Rattle.cleaning.proofs.Good.{GoodLists, GoodCites, GoodBody, Good}
+use Rattle.cleaning.proofs.Good.{GoodLists, GoodBody, Good}
 use Rattle.lists.proofs.Filters.{each-filter, filter-passes, filter-none, filter-all}
-use Rattle.cleaning.proofs.Numbers.{Counted, numbered-counted, each-numbered, lists-numbered, from-numbered, length-numbered, counted-append, counted-within, first-counted}
+use Rattle.cleaning.proofs.Numbers.{Counted, numbered-counted, each-numbered, lists-numbered, length-numbered, counted-append, counted-within, first-counted}
 
 -- ── one block ────────────────────────────────────────────────────────────────────────────────
 
@@ -123,28 +123,20 @@ pub record GoodRow (K : ℕ) (S : Summary) (g : ℕ) (r : Numbered) : Type 0 whe
   pub group : r .row .body .group ≡ g
   pub lists : GoodLists K (r .number) (r .row .parents)
   pub body : GoodBody (S .groups) (r .row .body)
-  pub cites : GoodCites (r .number) (r .row .references)
-
--- what holds of a row under its number
-abbrev GoodNumbered : (K : ℕ) → Summary → Numbered → Type 0
-GoodNumbered K S r = GoodLists K (r .number) (r .row .parents) × (GoodBody (S .groups) (r .row .body) × GoodCites (r .number) (r .row .references))
 
 module _ (K : ℕ) (served : Served K) (S : Summary) (good : Good K S) where
-  good-rows : Each (GoodNumbered K S) (numbered S)
+  good-rows : Each (λ r. GoodLists K (r .number) (r .row .parents) × GoodBody (S .groups) (r .row .body)) (numbered S)
   unfolding numbered
   good-rows =
-      each-both (λ r. GoodLists K (r .number) (r .row .parents)) (λ r. GoodBody (S .groups) (r .row .body) × GoodCites (r .number) (r .row .references)) (numbered S)
-      (lists-numbered K served (S .start) (S .rows) (good .lists))
-      (each-both (λ r. GoodBody (S .groups) (r .row .body)) (λ r. GoodCites (r .number) (r .row .references)) (numbered S)
-      (each-numbered (λ r. GoodBody (S .groups) (r .body)) (S .start) (S .rows) (good .bodies))
-      (from-numbered (λ n r. GoodCites n (r .references)) (S .start) (S .rows) (good .cites)))
+      each-both (λ r. GoodLists K (r .number) (r .row .parents)) (λ r. GoodBody (S .groups) (r .row .body)) (numbered S)
+      (lists-numbered K served (S .start) (S .rows) (good .lists)) (each-numbered (λ r. GoodBody (S .groups) (r .body)) (S .start) (S .rows) (good .bodies))
 
   pub all-rows : flat (rowsIn S) (upFrom 0 (length (S .groups))) ≡ numbered S
   unfolding rowsIn numbered notFalling
   all-rows =
       blocks-all (length (S .groups)) 0 (numbered S) (level-numbered 0 (S .start) (S .rows) (good .order))
-      (each-imp (GoodNumbered K S) (λ r. groupOf r < 0 + length (S .groups)) (numbered S)
-      (λ r h. omega (arith, h .1 .0 .group)) good-rows)
+      (each-imp (λ r. GoodLists K (r .number) (r .row .parents) × GoodBody (S .groups) (r .row .body)) (λ r. groupOf r < 0 + length (S .groups)) (numbered S)
+      (λ r h. omega (arith, h .1 .group)) good-rows)
 
   pub rows-counted : (g : ℕ) → g < length (S .groups) → Counted (S .start + rowsBefore S g) (rowsIn S g)
   unfolding numbered
@@ -181,9 +173,9 @@ module _ (K : ℕ) (served : Served K) (S : Summary) (good : Good K S) where
   pub rows-good : (g : ℕ) → Each (GoodRow K S g) (rowsIn S g)
   unfolding rowsIn
   rows-good g =
-      each-imp (λ r. (groupIs g r ≡ true) × GoodNumbered K S r) (GoodRow K S g) (rowsIn S g)
-      (λ r h. record { group = eqb-true (groupOf r) g (h .0); lists = h .1 .0; body = h .1 .1 .0; cites = h .1 .1 .1 })
-      (each-both (λ r. groupIs g r ≡ true) (GoodNumbered K S) (rowsIn S g)
+      each-imp (λ r. (groupIs g r ≡ true) × (GoodLists K (r .number) (r .row .parents) × GoodBody (S .groups) (r .row .body))) (GoodRow K S g) (rowsIn S g)
+      (λ r h. record { group = eqb-true (groupOf r) g (h .0); lists = h .1 .0; body = h .1 .1 })
+      (each-both (λ r. groupIs g r ≡ true) (λ r. GoodLists K (r .number) (r .row .parents) × GoodBody (S .groups) (r .row .body)) (rowsIn S g)
       (filter-passes (groupIs g) (numbered S)) (each-filter (groupIs g) _ (numbered S) good-rows))
 
   -- with its number in the group's block

@@ -18,10 +18,10 @@ use Rattle.columns.specs.Reading.{Label}
 use Rattle.cover.specs.Chains.{Link, sortLinks}
 use Rattle.archive.specs.File.{Row, Unresolved, Root}
 use Rattle.cleaning.specs.Source.{SourceCover, Source, isThere}
-use Rattle.cleaning.specs.Archive.{Taken, Unanswered, Group, labelIn, rootIn, referencesIn, bodyOf, eventsFrom}
+use Rattle.cleaning.specs.Archive.{Taken, Reference, Group, labelIn, rootIn, referencesIn, bodyOf, eventsFrom}
 use Rattle.cleaning.specs.Summary.{sorted, groupSummary}
 use Rattle.cleaning.specs.Writing.{noGroup}
-use Rattle.cleaning.proofs.Good.{GoodLabel, GoodRoot, GoodBody, WellCited, blank-cited}
+use Rattle.cleaning.proofs.Good.{GoodLabel, GoodRoot, GoodBody}
 use Rattle.lists.proofs.Filters.{each-filter}
 use Rattle.cleaning.proofs.Taken.{RecordIn, Sound}
 use Rattle.cleaning.proofs.Events.{eventsIn}
@@ -47,7 +47,7 @@ unfolding rootIn
 good-root [] i h = tt
 good-root (r ∷ rs) i h = elim (tested (eqb (r .row) i)) [ inl e ↦ rw e (h .0) | inr e ↦ rw e (good-root rs i (h .1)) ]
 
-abbrev GoodReference : Unanswered → Type 0
+abbrev GoodReference : Reference → Type 0
 GoodReference u = (u .kind < referenceKinds) × (u .handle < 2 ^ 32)
 
 good-references : (us : List Unresolved) (n : ℕ) → Each (λ u. (u .kind < referenceKinds) × (u .handle < 2 ^ 32)) us → Each GoodReference (referencesIn us n)
@@ -87,20 +87,3 @@ good-bodies K served t gs ss h =
     each-flat (λ e. GoodBody (map groupSummary gs) (e .body)) (eventsIn K t) ss
     (each-imp (λ s. Covered gs s × (Sound K s × Fitting s)) (λ s. Each (λ e. GoodBody (map groupSummary gs) (e .body)) (eventsIn K t s)) ss
     (λ s b. bodies-in K served t gs s (b .0) (b .1 .0) (b .1 .1)) h)
-
--- ── references ───────────────────────────────────────────────────────────────────────────────
-
-cited-from : (K : ℕ) (t : Taken) (s : Source) → Fitting s → (i : ℕ) (rows : List Row) → Each (λ e. WellCited (e .references)) (eventsFrom K t s i rows)
-unfolding eventsFrom
-cited-from K t s f i [] = tt
-cited-from K t s f i (row ∷ rows) = (each-at WellCited [] blank-cited (s .references) (f .cites) i, cited-from K t s f (suc i) rows)
-  where
-    each-at : {A : Type 0} (P : A → Type 0) (d : A) → P d → (xs : List A) → Each P xs → (i : ℕ) → P (getD xs i d)
-    each-at P d h [] g i = h
-    each-at P d h (x ∷ xs) g zero = g .0
-    each-at P d h (x ∷ xs) g (suc i) = each-at P d h xs (g .1) i
-
-pub well-cited : (K : ℕ) (served : Served K) (t : Taken) (ss : List Source) → Each Fitting ss → Each (λ e. WellCited (e .references)) (flat (eventsIn K t) ss)
-well-cited K served t ss h =
-    each-flat (λ e. WellCited (e .references)) (eventsIn K t) ss
-    (each-imp Fitting (λ s. Each (λ e. WellCited (e .references)) (eventsIn K t s)) ss (λ s f. cited-from K t s f 0 (s .rows)) h)

@@ -23,7 +23,7 @@ use Rattle.cleaning.specs.History.{Did, did, history, took, bytesWritten
 use Rattle.cleaning.specs.Alike.{Alike}
 use Rattle.cleaning.specs.Claim.{Cleans, Claimed, Claim}
 use Rattle.cleaning.specs.Trace.{Trace, ended, called, ClaimOfTraces}
-use Rattle.cleaning.proofs.Events.{valid-sources, cites-sources}
+use Rattle.cleaning.proofs.Events.{valid-sources}
 use Rattle.cleaning.proofs.Tabled.{tabled-summary}
 use Rattle.cleaning.proofs.SameSummary.{summary-alike}
 use Rattle.cleaning.proofs.Invariant.{Inv, step-after}
@@ -48,7 +48,7 @@ bytes-of K served room S = go (writeRules K S)
 resolved-cleaned : (K : ℕ) (served : Served K) (t : Taken) (ts : List (List (List ℕ))) (ss : List Source) → Inv K (resolved t ts) ss
     → bytesOf K (tabled (archiveOf K t) ts) ≡ cleaned K (archiveFrom K ss)
 unfolding Inv cleaned
-resolved-cleaned K served t ts ss i = rw (i .2, i .0) (ap (bytesOf K) (tabled-summary K served (archiveFrom K ss) (valid-sources K served ss (i .1)) (cites-sources K served ss (i .1))))
+resolved-cleaned K served t ts ss i = rw (i .2, i .0) (ap (bytesOf K) (tabled-summary K served (archiveFrom K ss) (valid-sources K served ss (i .1))))
 
 -- ── every write of a list ────────────────────────────────────────────────────────────────────
 

@@ -81,7 +81,7 @@ parents-stop A k v f h p l =
     (λ q b. each-imp (Stop A (suc q)) (Stop A p) (f q) (λ x s. (s .0, omega arith)) (h q))
     (v k p l))
 
-pub through-stop : (A : Archive) (k : ℕ) → Valid A → (n q : ℕ) → Each (Stop A (suc q)) (through A k n q)
+through-stop : (A : Archive) (k : ℕ) → Valid A → (n q : ℕ) → Each (Stop A (suc q)) (through A k n q)
 unfolding through
 through-stop A k v zero q = tt
 through-stop A k v (suc n) q = go (passes A q) refl (λ r. through-stop A k v n r)

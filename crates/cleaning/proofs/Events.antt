@@ -1,6 +1,5 @@
 -- The events of sources that follow one another: their numbers are consecutive, and the parents of each are below it.
 use mathlib.Core.Path.{_≡_, refl, subst}
-use mathlib.Core.Bool.{true}
 use mathlib.Core.List.{List, [], _∷_}
 use mathlib.Core.Logic.{inl, inr}
 use mathlib.Core.Option.{Option, none, some}
@@ -11,7 +10,7 @@ use lib.Dec.{ltb}
 use lib.ListN.{length, getD, take, drop, length-take, List·getD-eq-default}
 use lib.Seq.{getD-take, getD-drop}
 use borrow.Author.Tests.{ltb-true, ltb-false}
-use Rattle.lists.specs.Lists.{flat, part, all, Each}
+use Rattle.lists.specs.Lists.{flat, part, Each}
 use Rattle.lists.proofs.Slots.{slot-row}
 use Rattle.lists.proofs.Tests.{tested}
 use Rattle.columns.specs.Limits.{Served}
@@ -20,8 +19,6 @@ use Rattle.archive.specs.File.{Row}
 use Rattle.cleaning.specs.Source.{Source, endOf}
 use Rattle.cleaning.specs.Archive.{Taken, Event, eventsFrom, startOf, archiveOf, blank, at, parentsOf}
 use Rattle.cleaning.specs.Routes.{AllBelow, Valid}
-use Rattle.cleaning.specs.References.{citesBefore}
-use Rattle.cleaning.specs.Rewriting.{CitesEarlier}
 use Rattle.lists.proofs.From.{EachFrom, from-eq, from-append, from-getD}
 use Rattle.cleaning.proofs.Sides.{SlotBelow}
 use Rattle.cleaning.proofs.Taken.{Sound, Followed}
@@ -97,42 +94,6 @@ valid-sources K served ss f k p l = elim (tested (ltb i (length es))) [
   | inl e ↦ subst (λ n. AllBelow n (parentsOf k (getD es i blank))) {x = startOf ss + i} {y = p} (omega arith)
       (from-getD ParentsBelow (startOf ss) es i blank (from-sources K served t ParentsBelow ss f (each-below K served t none ss f)) (ltb-true i (length es) e) k)
   | inr e ↦ rw (List·getD-eq-default es blank {n = i} (ltb-false i (length es) e)) tt
-]
-  where
-    t : Taken
-    t = record { sources = ss }
-
-    es : List Event
-    es = flat (eventsIn K t) ss
-
-    i : ℕ
-    i = p - startOf ss
-
--- ── references ───────────────────────────────────────────────────────────────────────────────
-
--- prev and auth references by sequence number name events before n
-abbrev CitesBelow : ℕ → Event → Type 0
-CitesBelow n e = all (citesBefore n) (e .references) ≡ true
-
-events-cite : (K : ℕ) (served : Served K) (t : Taken) (s : Source) → Sound K s → (i : ℕ) (rows : List Row) → EachFrom CitesBelow (s .first + i) (eventsFrom K t s i rows)
-unfolding eventsFrom
-events-cite K served t s h i [] = tt
-events-cite K served t s h i (row ∷ rows) = (
-  h .earlier i,
-  from-eq CitesBelow (s .first + suc i) (suc (s .first + i)) (eventsFrom K t s (suc i) rows) (omega arith) (events-cite K served t s h (suc i) rows),
-)
-
-each-cite : (K : ℕ) (served : Served K) (t : Taken) (before : Option Source) (ss : List Source) → Followed K before ss → Each (λ s. EachFrom CitesBelow (s .first) (eventsIn K t s)) ss
-each-cite K served t before [] f = tt
-each-cite K served t before (s ∷ ss) f =
-    (from-eq CitesBelow (s .first + 0) (s .first) (eventsIn K t s) (omega arith) (events-cite K served t s (f .0) 0 (s .rows)), each-cite K served t (some s) ss (f .2))
-
-pub cites-sources : (K : ℕ) (served : Served K) (ss : List Source) → Followed K none ss → CitesEarlier (archiveOf K (record { sources = ss }))
-unfolding CitesEarlier archiveOf at all
-cites-sources K served ss f p l = elim (tested (ltb i (length es))) [
-  | inl e ↦ subst (λ n. CitesBelow n (getD es i blank)) {x = startOf ss + i} {y = p} (omega arith)
-      (from-getD CitesBelow (startOf ss) es i blank (from-sources K served t CitesBelow ss f (each-cite K served t none ss f)) (ltb-true i (length es) e))
-  | inr e ↦ rw (List·getD-eq-default es blank {n = i} (ltb-false i (length es) e))
 ]
   where
     t : Taken

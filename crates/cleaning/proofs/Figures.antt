@@ -17,7 +17,7 @@ use Rattle.lists.proofs.Flat.{length-flat}
 use Rattle.columns.specs.Limits.{Served, end64}
 use Rattle.archive.specs.File.{Row, Unresolved}
 use Rattle.cleaning.specs.Source.{Source, endOf}
-use Rattle.cleaning.specs.Archive.{Taken, Event, Unanswered, referencesIn, bodyOf, eventsFrom, startOf}
+use Rattle.cleaning.specs.Archive.{Taken, Event, Reference, referencesIn, bodyOf, eventsFrom, startOf}
 use Rattle.lists.proofs.Sums.{sum-ext, sum-le, sum-both, sum-flat}
 use Rattle.lists.proofs.Rising.{level-lower}
 use Rattle.cleaning.proofs.Taken.{FollowsLast, Followed}
@@ -112,7 +112,7 @@ few-records (u ∷ us) ns h =
 
 length-references : (us : List Unresolved) (n : ℕ) → length (referencesIn us n) ≡ recordsOf us n
 unfolding referencesIn
-length-references us n = length-map {B = Unanswered} (filter (λ u. eqb (u .child) n) us) (λ u. record { kind = u .kind; handle = u .handle })
+length-references us n = length-map {B = Reference} (filter (λ u. eqb (u .child) n) us) (λ u. record { kind = u .kind; handle = u .handle })
 
 references-from : (K : ℕ) (served : Served K) (t : Taken) (s : Source) (i : ℕ) (rows : List Row)
     → sum (λ e. length (e .body .unresolved)) (eventsFrom K t s i rows) ≡ sum (recordsOf (s .unresolved)) (upFrom (s .first + i) (length rows))

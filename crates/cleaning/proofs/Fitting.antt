@@ -3,14 +3,14 @@ use mathlib.Core.Path.{_≡_, refl, sym, _∙_}
 use mathlib.Core.Bool.{true, false, _&&_, _||_}
 use mathlib.Core.List.{List, [], _∷_, _++_, map, map-map, map-append}
 use mathlib.Core.Option.{Option, none, some}
-use Prim.Native.Nat.{ℕ, zero, suc, _+_, _≤_, _<_, _^_}
+use Prim.Native.Nat.{ℕ, _+_, _≤_, _<_, _^_}
 use native.Mathlib.Omega.{arith}
 use lib.Dec.{ltb}
-use lib.ListN.{length, getD}
+use lib.ListN.{length}
 use borrow.Author.Tests.{ltb-true, ltb-false}
-use Rattle.lists.specs.Lists.{all, sum, once, last, upFrom, Each}
+use Rattle.lists.specs.Lists.{all, sum, once, last, Each}
 use Rattle.lists.proofs.Tests.{both, all-each}
-use Rattle.lists.proofs.Each.{each-imp, each-map, each-all}
+use Rattle.lists.proofs.Each.{each-imp}
 use Rattle.lists.proofs.Once.{or-is-false}
 use Rattle.columns.specs.Limits.{Served, maxRecords, maxGroups, end32}
 use Rattle.columns.specs.Reading.{Label, labelsOf}
@@ -18,11 +18,11 @@ use Rattle.cover.specs.Chains.{linksRise}
 use Rattle.cover.specs.Cover.{LinkColumns, linksOf, evenColumns, sums, sumsFit, storedLinks, linksOk, rangeRules, linkRules}
 use Rattle.cover.proofs.Stored.{length-sums}
 use Rattle.columns.specs.declared.refusal.Refusal.the-variants.{CoverForm}
-use Rattle.archive.specs.File.{CoverColumns, Reference, File}
-use Rattle.archive.specs.Fits.{Wide, DepthFits, UnresolvedFits, RootFits, LinksFit, CoverFitsIn, RowReferencesFit, FileFits}
+use Rattle.archive.specs.File.{CoverColumns, File}
+use Rattle.archive.specs.Fits.{Wide, DepthFits, UnresolvedFits, RootFits, LinksFit, CoverFitsIn, FileFits}
 use Rattle.cleaning.specs.Source.{SourceCover, Source, coverRead, sourceOf, rangeCount, linkCount}
 use Rattle.cleaning.specs.Taking.{total, groupCount, storedRanges, storedLinkCount, overRecords, coverRules, fileRules, filesRules}
-use Rattle.cleaning.proofs.Good.{LinkFits, WellCited, blank-cited}
+use Rattle.cleaning.proofs.Good.{LinkFits}
 use Rattle.columns.proofs.FirstBroken.{each-none, passed}
 use Rattle.cleaning.proofs.Taken.{cover-rules}
 use Rattle.lists.proofs.Flat.{sum-append}
@@ -42,7 +42,6 @@ pub record Fitting (s : Source) : Type 0 where
   pub handles : Each (λ r. r .handle < 2 ^ 64) (s .roots)
   pub references : Each (λ u. u .handle < 2 ^ 32) (s .unresolved)
   pub cover : CoverFitting (length (s .rows)) (s .cover)
-  pub cites : Each WellCited (s .references)
 
 -- ── covers ───────────────────────────────────────────────────────────────────────────────────
 
@@ -93,11 +92,6 @@ same-links rows (some c) e f = stored-read (c .links) (links-ok c e) (f .links) 
 
 -- ── files ────────────────────────────────────────────────────────────────────────────────────
 
-well-at : (rss : List (List Reference)) → Each RowReferencesFit rss → (i : ℕ) → WellCited (getD rss i [])
-well-at [] h i = blank-cited
-well-at (rs ∷ rss) h zero = record { known = h .0 .known; targets = h .0 .targets }
-well-at (rs ∷ rss) h (suc i) = well-at rss (h .1) i
-
 fitting-source : (K : ℕ) (served : Served K) (before : Option Source) (f : File) → fileRules K before f ≡ none → FileFits K f → Fitting (sourceOf K f)
 unfolding sourceOf
 fitting-source K served before f e h = record {
@@ -107,8 +101,6 @@ fitting-source K served before f e h = record {
   handles = each-imp RootFits (λ r. r .handle < 2 ^ 64) (f .roots) (λ r x. x .1) (h .roots);
   references = each-imp UnresolvedFits (λ u. u .handle < 2 ^ 32) (f .unresolved) (λ u x. x .2) (h .unresolved);
   cover = cover-fitting (length (f .rows)) (f .cover) (cover-rules K served before f e) (h .cover);
-  cites = each-map WellCited (λ i. getD (f .references) i []) (upFrom 0 (length (f .rows)))
-      (each-all (λ i. WellCited (getD (f .references) i [])) (well-at (f .references) (h .references .each)) (upFrom 0 (length (f .rows))));
 }
 
 pub fitting-taken : (K : ℕ) (served : Served K) (before : Option Source) (fs : List File) → filesRules K before fs ≡ none → Each (FileFits K) fs → Each Fitting (map (sourceOf K) fs)

@@ -14,8 +14,7 @@ use Rattle.columns.specs.declared.refusal.Refusal.the-variants.{GroupOrder, Ove
 use Rattle.run_renumber.specs.NewLists.{newLists}
 use Rattle.cleaning.specs.Memo.{tables}
 use Rattle.cleaning.specs.Held.{Held, archiveHeld}
-use Rattle.cleaning.specs.Rewriting.{citations}
-use Rattle.cleaning.specs.Survivors.{keep, survivorSheet, survivorReferences}
+use Rattle.cleaning.specs.Survivors.{keep, survivorSheet}
 use Rattle.cleaning.specs.Runs.{heldRules, resolveInto, resolveHeld}
 use Rattle.cleaning.specs.Sections.{reaches, Tidy, Filled}
 use Rattle.cleaning.proofs.Slots.{flagged}
@@ -27,12 +26,11 @@ use Rattle.cleaning.proofs.Neat.{Neat, neat-valid, neat-resolved}
 abbrev pub flatLists : (K : ℕ) → Held → List ℕ → List (List ℕ)
 flatLists K h flags = newLists K (h .sheet .start) flags (h .sheet .lists)
 
--- 24, 43 of the new lists and of the survivors' references, 27
+-- 24, 43, 27
 abbrev pub flatRules : (K : ℕ) → Held → List ℕ → Option Refusal
 flatRules K h flags =
     firstOf (refuse GroupOrder (isEmpty (h .sheet .groups))
     ∷ refuse OverNumbers (ltb maxNumbers (length (joined (flatLists K h flags))))
-    ∷ refuse OverNumbers (ltb maxNumbers (citations (archiveHeld K h) (tables K (archiveHeld K h))))
     ∷ refuse NoSurvivor (not (reaches (length (h .sheet .groups)) 0 (keep (h .erased) (h .sheet .rowGroups))))
     ∷ [])
 
@@ -41,7 +39,7 @@ module _ (K : ℕ) (served : Served K) (h : Held) (n : Neat K h) (flags : List �
   unfolding heldRules
   rules-flat = rw (← held-entries K served h (n .rows) flags e (neat-valid K served h n), held-survive K served h (n .rows) (n .tidy))
 
-  pub resolve-flat : resolveHeld K h ≡ resolveInto h (survivorSheet K h (flatLists K h flags)) (survivorReferences (archiveHeld K h) (tables K (archiveHeld K h))) (flatRules K h flags)
+  pub resolve-flat : resolveHeld K h ≡ resolveInto h (survivorSheet K h (flatLists K h flags)) (flatRules K h flags)
   unfolding resolveHeld
   resolve-flat = rw (← held-lists K served h (n .rows) flags e (neat-valid K served h n), rules-flat)
 

@@ -17,7 +17,7 @@ use Rattle.columns.specs.Limits.{Served}
 use Rattle.columns.specs.Reading.{Label, labelsOf}
 use Rattle.cover.specs.Chains.{Link}
 use Rattle.archive.specs.File.{Unresolved, Root}
-use Rattle.cleaning.specs.Archive.{Unanswered, rootIn, referencesIn}
+use Rattle.cleaning.specs.Archive.{Reference, rootIn, referencesIn}
 use Rattle.cleaning.specs.Writing.{Numbered, unresolvedOf, rootOf, rootsFrom, labelList, labelsIn, labelColumns, slotsOfRows}
 use Rattle.cleaning.proofs.Good.{GoodLabel}
 use Rattle.lists.proofs.Filters.{filter-none, filter-append}
@@ -76,7 +76,7 @@ references-own : (r : Numbered) → referencesIn (unresolvedOf r) (r .number) �
 unfolding referencesIn unresolvedOf filter
 references-own r = go (r .row .body .unresolved)
   where
-    go : (us : List Unanswered) → referencesIn (map (λ u. record { child = r .number; kind = u .kind; handle = u .handle }) us) (r .number) ≡ us
+    go : (us : List Reference) → referencesIn (map (λ u. record { child = r .number; kind = u .kind; handle = u .handle }) us) (r .number) ≡ us
     go [] = refl
     go (u ∷ us) = rw (eq-eqb (r .number) (r .number) refl) (ap (λ vs. u ∷ vs) (go us))
 

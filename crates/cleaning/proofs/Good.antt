@@ -2,20 +2,16 @@
 use mathlib.Core.Bool.{true}
 use mathlib.Core.List.{List, [], _∷_, map, List·Memᴰ}
 use mathlib.Core.Option.{Option, none, some}
-use mathlib.Core.Path.{_≡_, refl}
+use mathlib.Core.Path.{_≡_}
 use Prim.Native.Nat.{ℕ, suc, _+_, _≤_, _<_, _^_}
 use lib.ListN.{length, getD}
-use Rattle.lists.specs.Lists.{Each, all, sum, distinct}
-use Rattle.lists.proofs.From.{EachFrom}
+use Rattle.lists.specs.Lists.{Each, sum, distinct}
 use Rattle.lists.specs.Order.{notFalling}
 use Rattle.columns.specs.Limits.{maxRecords, maxNumbers, maxGroups, referenceKinds}
 use Rattle.columns.specs.Reading.{Label}
 use Rattle.columns.specs.Building.{subjectOk, depthOk}
 use Rattle.cover.specs.Chains.{Link, linksRise}
-use Rattle.archive.specs.File.{Reference}
-use Rattle.archive.specs.Parse.{ofKind, referencesOk}
 use Rattle.archive.specs.Fits.{DepthFits}
-use Rattle.cleaning.specs.References.{citesBefore, citeOnce}
 use Rattle.cleaning.specs.Archive.{Body, Group}
 use Rattle.cleaning.specs.Summary.{Kept, Summary}
 use Rattle.cleaning.specs.Writing.{noGroup}
@@ -32,22 +28,6 @@ RowsFrom K n (r ∷ rs) = GoodLists K n (r .parents) × RowsFrom K (suc n) rs
 
 abbrev pub LinkFits : Link → Type 0
 LinkFits l = (l .fromChain < 2 ^ 32) × (l .fromSeq < 2 ^ 32) × (l .toChain < 2 ^ 32) × (l .toSeq < 2 ^ 32)
-
--- a row's references as they are read
-pub record WellCited (rs : List Reference) : Type 0 where
-  pub known : referencesOk rs ≡ true
-  pub targets : Each (λ r. r .target < 2 ^ 64) rs
-
-pub blank-cited : WellCited []
-unfolding referencesOk all ofKind
-blank-cited = record { known = refl; targets = tt }
-
--- a row's references: of kinds and spaces that there are, in 64 bits, each once, and to events before number n where they name one
-pub record GoodCites (n : ℕ) (rs : List Reference) : Type 0 where
-  pub known : referencesOk rs ≡ true
-  pub targets : Each (λ r. r .target < 2 ^ 64) rs
-  pub once : citeOnce rs ≡ rs
-  pub earlier : all (citesBefore n) rs ≡ true
 
 -- links rise strictly, in 32 bits
 abbrev pub GoodLinks : Option (List Link) → Type 0
@@ -88,8 +68,6 @@ pub record Good (K : ℕ) (S : Summary) : Type 0 where
   pub numbers : S .start + length (S .rows) < 2 ^ 64
   pub lists : RowsFrom K (S .start) (S .rows)
   pub entries : sum (λ r. sum length (r .parents)) (S .rows) ≤ maxNumbers
-  pub cites : EachFrom (λ n r. GoodCites n (r .references)) (S .start) (S .rows)
-  pub citations : sum (λ r. length (r .references)) (S .rows) ≤ maxNumbers
   pub bodies : Each (λ r. GoodBody (S .groups) (r .body)) (S .rows)
   pub order : notFalling (map (λ r. r .body .group) (S .rows)) ≡ true
   pub every : (g : ℕ) → g < length (S .groups) → List·Memᴰ g (map (λ r. r .body .group) (S .rows))

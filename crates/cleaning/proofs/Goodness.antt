@@ -1,38 +1,33 @@
 -- The cleaned form of files that are taken and resolved is good.
-use mathlib.Core.Path.{_≡_, refl, sym, ap, _∙_}
-use mathlib.Core.Bool.{true, false, false≢true}
+use mathlib.Core.Path.{_≡_, refl, sym}
+use mathlib.Core.Bool.{Bool, true, false, cond, false≢true}
 use mathlib.Core.List.{List, [], _∷_, map}
 use mathlib.Core.Option.{Option, none, some}
 use Prim.Native.Nat.{ℕ, suc, _≤_, _<_}
 use native.Mathlib.Omega.{arith}
 use lib.ListN.{length, length-map}
-use Rattle.lists.specs.Lists.{isEmpty, sum, Each}
-use Rattle.lists.proofs.Each.{each-both, each-imp}
-use Rattle.lists.proofs.Sums.{sum-map, sum-ext}
+use Rattle.lists.specs.Lists.{isEmpty, Each}
+use Rattle.lists.proofs.Each.{each-both}
 use Rattle.columns.specs.Limits.{Served, maxNumbers}
 use Rattle.columns.specs.Building.{subjectOk}
 use Rattle.archive.specs.File.{File}
 use Rattle.cleaning.specs.Source.{Source, sourceOf}
 use Rattle.cleaning.specs.Archive.{Taken, Event, Group, Archive, groupsOf, subjectOf, archiveOf}
-use Rattle.cleaning.specs.Cleaning.{survivors}
-use Rattle.cleaning.specs.Routes.{Valid}
-use Rattle.cleaning.specs.Rewriting.{rewritten, rewrittenIn, citations, CitesEarlier}
+use Rattle.cleaning.specs.Cleaning.{count, survivors}
 use Rattle.cleaning.specs.Memo.{tables}
 use Rattle.cleaning.specs.Summary.{keptBy, groupSummary, summary}
 use Rattle.cleaning.specs.Resolving.{entries, groupsSurvive}
 use Rattle.cleaning.specs.History.{archiveOfFiles}
 use Rattle.cleaning.specs.Accepted.{Cleanable}
 use Rattle.cleaning.proofs.Good.{GoodBody, Good}
-use Rattle.cleaning.proofs.Survivors.{Within, within, length-survivors, count-le}
+use Rattle.cleaning.proofs.Survivors.{length-survivors}
 use Rattle.cleaning.proofs.Taken.{Sound, Followed, taken-followed}
-use Rattle.cleaning.proofs.Events.{valid-sources, cites-sources}
+use Rattle.cleaning.proofs.Events.{valid-sources}
 use Rattle.cleaning.proofs.Fitting.{Fitting, Limited, fitting-taken, limited-taken}
 use Rattle.cleaning.proofs.Groups.{Covered, each-covered, groups-once}
 use Rattle.cleaning.proofs.GoodGroups.{good-groups, few-links}
 use Rattle.cleaning.proofs.Kept.{each-row, sum-rows, rows-level, group-has-row}
-use Rattle.cleaning.proofs.GoodCites.{cites-good}
-use Rattle.cleaning.proofs.Rewriting.{rewritten-same}
-use Rattle.cleaning.proofs.Bodies.{good-bodies, well-cited}
+use Rattle.cleaning.proofs.Bodies.{good-bodies}
 use Rattle.cleaning.proofs.Figures.{length-events, ends-before, groups-level, few-references}
 use Rattle.cleaning.proofs.NewLists.{lists-good, entries-within}
 
@@ -50,32 +45,31 @@ unfolding isEmpty
 some-group [] gs e h = absurd (false≢true (sym e))
 some-group (s ∷ ss) gs e h = omega (arith, h .0 .0)
 
+-- a survivor for each row
+count-le : (es : List Event) → count es ≤ length es
+unfolding count
+count-le [] = omega arith
+count-le (e ∷ es) = go (e .erased) (count-le es)
+  where
+    go : (b : Bool) → count es ≤ length es → cond b (count es) (suc (count es)) ≤ suc (length es)
+    go true h = omega arith
+    go false h = omega arith
+
 row-count : (K : ℕ) (served : Served K) (A : Archive) → length ((summary K A) .rows) ≤ length (A .events)
 unfolding summary
 row-count K served A = omega (arith, length-map (survivors A) (keptBy K A), length-survivors A, count-le (A .events))
-
--- the references of the rows are those that resolving counts
-pub same-citations : (K : ℕ) (served : Served K) (A : Archive) → Valid A → CitesEarlier A → sum (λ r. length (r .references)) ((summary K A) .rows) ≡ citations A (tables K A)
-unfolding summary keptBy citations
-same-citations K served A v c =
-    sum-map (λ r. length (r .references)) (keptBy K A) (survivors A)
-    ∙ sum-ext (λ p. length (rewritten A p)) (λ p. length (rewrittenIn A (tables K A) p)) (survivors A)
-    (each-imp (Within (A .start) (A .events)) (λ p. length (rewritten A p) ≡ length (rewrittenIn A (tables K A) p)) (survivors A)
-    (λ p w. ap length (sym (rewritten-same K served A v c p (w .1) (w .0)))) (within A))
 
 abbrev archiveFrom : (K : ℕ) → List Source → Archive
 archiveFrom K ss = archiveOf K (record { sources = ss })
 
 pub good-sources : (K : ℕ) (served : Served K) (ss : List Source) → isEmpty ss ≡ false → Followed K none ss → Each Fitting ss → Limited ss
-    → entries (tables K (archiveFrom K ss)) ≤ maxNumbers → citations (archiveFrom K ss) (tables K (archiveFrom K ss)) ≤ maxNumbers
-    → groupsSurvive (archiveFrom K ss) ≡ true → Good K (summary K (archiveFrom K ss))
+    → entries (tables K (archiveFrom K ss)) ≤ maxNumbers → groupsSurvive (archiveFrom K ss) ≡ true → Good K (summary K (archiveFrom K ss))
 unfolding summary archiveOf
-good-sources K served ss e f h l n x g =
+good-sources K served ss e f h l n g =
     let t : Taken = record { sources = ss } in
     let A : Archive = archiveOf K t in
     let gs : List Group = groupsOf ss in
     let v = valid-sources K served ss f in
-    let cited = cites-sources K served ss f in
     let c = each-covered K served ss f in
     let b : Each (λ s. Sound K s × Fitting s) ss = each-both (Sound K) Fitting ss (each-sound K served none ss f) h in
     record {
@@ -87,8 +81,6 @@ good-sources K served ss e f h l n x g =
       numbers = omega (arith, row-count K served A, ends-before K served t ss f);
       lists = lists-good K served A v;
       entries = omega (arith, entries-within K served A v);
-      cites = cites-good K served A v cited (well-cited K served t ss h) (ends-before K served t ss f);
-      citations = omega (arith, same-citations K served A v cited);
       bodies = each-row K served A (GoodBody (map groupSummary gs)) (good-bodies K served t gs ss (each-both (Covered gs) (λ s. Sound K s × Fitting s) ss c b));
       order = rows-level K served A (groups-level K served t ss f);
       every = λ i o. group-has-row K served A g i (omega (arith, length-map gs groupSummary));
@@ -105,4 +97,4 @@ not-empty K served (f ∷ fs) e = refl
 pub good : (K : ℕ) (served : Served K) (fs : List File) → Cleanable K fs → Good K (summary K (archiveOfFiles K fs))
 good K served fs c =
     good-sources K served (map (sourceOf K) fs) (not-empty K served fs (c .files)) (taken-followed K served none fs (c .rules)) (fitting-taken K served none fs (c .rules) (c .fits))
-    (limited-taken K served fs (c .rules) (c .fits) (c .records)) (c .newLists) (c .references) (c .survivors)
+    (limited-taken K served fs (c .rules) (c .fits) (c .records)) (c .newLists) (c .survivors)

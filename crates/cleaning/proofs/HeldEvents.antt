@@ -83,7 +83,7 @@ abbrev noRow : Row
 noRow = record { erased = false; tag = 0 }
 
 eventIn : (K : ℕ) → Source → ℕ → Row → Event
-eventIn K s i row = record { erased = row .erased; body = bodyOf s i row; parents = part (K * i) K (s .forward); references = getD (s .references) i [] }
+eventIn K s i row = record { erased = row .erased; body = bodyOf s i row; parents = part (K * i) K (s .forward) }
 
 getD-events : (K : ℕ) (t : Taken) (s : Source) (i : ℕ) (rows : List Row) (j : ℕ) → j < length rows → getD (eventsFrom K t s i rows) j blank ≡ eventIn K s (i + j) (getD rows j noRow)
 unfolding eventsFrom isErased eventIn
@@ -130,7 +130,6 @@ module _ (K : ℕ) (served : Served K) (h : Held) (s : Source) (q : Ready K h s)
       root = root-stays i l j;
       unresolved = references-stay i l j;
     };
-    references = List·getD-append (h .references) (s .references) [] i (omega (arith, q .rows .references)) j;
     parents = part-left (h .sheet .lists) (s .forward) (K * i) K (omega (arith, q .rows .lists, mul-le-mul-left K l)) j;
   }
 
@@ -173,7 +172,6 @@ module _ (K : ℕ) (served : Served K) (h : Held) (s : Source) (q : Ready K h s)
       root = root-new i j;
       unresolved = references-new i j;
     };
-    references = getD-right (h .references) (s .references) n i [] (q .rows .references) j;
     parents = part-right (h .sheet .lists) (s .forward) (K * (n + i)) (K * i) K (omega (arith, q .rows .lists, mul-le-mul-left K l)) j;
   }
 

@@ -79,10 +79,6 @@ inbound-figure : (ss : List Source) → sum length ((heldOf ss) .inbound) ≡ su
 unfolding nothing heldWith sum
 inbound-figure = figure (λ h. sum length (h .inbound)) (λ s. sum length (s .inbound)) (λ h s. sum-append length (h .inbound) (s .inbound)) refl
 
-references-figure : (ss : List Source) → sum length ((heldOf ss) .references) ≡ sum (λ s. sum length (s .references)) ss
-unfolding nothing heldWith sum
-references-figure = figure (λ h. sum length (h .references)) (λ s. sum length (s .references)) (λ h s. sum-append length (h .references) (s .references)) refl
-
 -- ── group numbers ────────────────────────────────────────────────────────────────────────────
 
 -- a number more, the last one or one past it
@@ -126,7 +122,7 @@ module _ (K : ℕ) (served : Served K) (ss : List Source) (f : Followed K none s
 
   pub numbers-over : (fs : List File) → numbersOver (heldOf ss) fs ≡ overNumbers ss fs
   unfolding numbersOver overNumbers total
-  numbers-over fs = rw (forward-figure ss, reverse-figure ss, inbound-figure ss, references-figure ss)
+  numbers-over fs = rw (forward-figure ss, reverse-figure ss, inbound-figure ss)
 
 -- ── looking back ─────────────────────────────────────────────────────────────────────────────
 

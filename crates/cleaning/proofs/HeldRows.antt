@@ -63,7 +63,7 @@ subject-stays h s l = rw (not-empty (h .sheet .groups) l)
 
 rows-nothing : (K : ℕ) (served : Served K) → Rows K nothing
 unfolding nothing
-rows-nothing K served = record { groups = refl; tags = refl; labels = refl; lists = sym (mul-zero K); references = refl; roots = tt; unresolved = tt }
+rows-nothing K served = record { groups = refl; tags = refl; labels = refl; lists = sym (mul-zero K); roots = tt; unresolved = tt }
 
 pub ready : (K : ℕ) (served : Served K) (before : Option Source) (h : Held) (s : Source) → HeldTo K before h → FollowsLast before s → Ready K h s
 unfolding nothing sheetWith isEmpty
@@ -129,7 +129,6 @@ module _ (K : ℕ) (served : Served K) (h : Held) (s : Source) where
             q .rows .labels,
           );
           lists = omega (arith, ap (λ x. K * x) e, length-append (h .sheet .lists) (s .forward), q .rows .lists, d .slots);
-          references = omega (arith, e, length-append (h .references) (s .references), q .rows .references, d .cited);
           roots = each-append (λ r. r .row < m) (h .sheet .roots) (map (λ r. record { row = length (h .sheet .tags) + r .row; handle = r .handle }) (s .roots))
               (each-imp (λ r. r .row < n) (λ r. r .row < m) (h .sheet .roots) (λ r l. omega (arith, e)) (q .rows .roots))
               (each-map (λ r. r .row < m) (λ r. record { row = length (h .sheet .tags) + r .row; handle = r .handle }) (s .roots)

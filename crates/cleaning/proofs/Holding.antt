@@ -26,8 +26,7 @@ use Rattle.cleaning.specs.Step.{Call, takes, resolves, writes, maps, cou
 use Rattle.cleaning.specs.Step.{resolveBy, writeInto, listInto, resolve, step}
 use Rattle.cleaning.specs.Sheet.{Sheet, summaryOf}
 use Rattle.cleaning.specs.Held.{Held, nothing, heldWith, heldOf, archiveHeld, holdMore}
-use Rattle.archive.specs.File.{Reference}
-use Rattle.cleaning.specs.Survivors.{survivorSheet, survivorReferences}
+use Rattle.cleaning.specs.Survivors.{survivorSheet}
 use Rattle.cleaning.specs.Runs.{RunState, RunOutcome, runOutcome, slotted, heldRules, resolveInto, resolveHeld, takeInto, runStep}
 use Rattle.cleaning.proofs.Taken.{Followed}
 use Rattle.cleaning.proofs.Invariant.{Inv}
@@ -41,14 +40,10 @@ use Rattle.cleaning.proofs.SurvivorSheet.{summary-held}
 abbrev surviving : (K : ℕ) → Taken → List (List (List ℕ)) → Sheet
 surviving K t ts = survivorSheet K (heldOf (t .sources)) (slotted (length ((archiveOf K t) .events)) ts)
 
--- and their references
-abbrev citing : (K : ℕ) → Taken → List (List (List ℕ)) → List (List Reference)
-citing K t ts = survivorReferences (archiveOf K t) ts
-
 -- what a run holds in a state
 unfoldable pub hold : (K : ℕ) → State → RunState
 hold K (taking t) = RunState.taking (heldOf (t .sources))
-hold K (resolved t ts) = RunState.resolved (heldOf (t .sources)) (surviving K t ts) (citing K t ts)
+hold K (resolved t ts) = RunState.resolved (heldOf (t .sources)) (surviving K t ts)
 hold K spoiled = RunState.spoiled
 
 abbrev pub holdOutcome : (K : ℕ) → Outcome → RunOutcome
@@ -89,17 +84,16 @@ module _ (K : ℕ) (served : Served K) (t : Taken) (f : Followed K none (t .sour
   unfolding resolveHeld resolve hold
   resolve-held = rw (archive-held K served (t .sources) f, rules-held (archiveOf K t) (tables K (archiveOf K t))) (go (resolveRules t (archiveOf K t) (tables K (archiveOf K t))))
     where
-      go : (r : Option Refusal) → resolveInto (heldOf (t .sources)) (surviving K t (tables K (archiveOf K t))) (citing K t (tables K (archiveOf K t))) r
-          ≡ holdOutcome K (resolveBy t (tables K (archiveOf K t)) r)
+      go : (r : Option Refusal) → resolveInto (heldOf (t .sources)) (surviving K t (tables K (archiveOf K t))) r ≡ holdOutcome K (resolveBy t (tables K (archiveOf K t)) r)
       go none = refl
       go (some r) = refl
 
   -- ── writing ──────────────────────────────────────────────────────────────────────────────────
 
-  surviving-tabled : summaryOf K (surviving K t (tables K (archiveOf K t))) (citing K t (tables K (archiveOf K t))) ≡ tabled (archiveOf K t) (tables K (archiveOf K t))
+  surviving-tabled : summaryOf K (surviving K t (tables K (archiveOf K t))) ≡ tabled (archiveOf K t) (tables K (archiveOf K t))
   surviving-tabled =
       let h = heldOf (t .sources) in
-      subst (λ A. summaryOf K (survivorSheet K h (slotted (length (A .events)) (tables K A))) (survivorReferences A (tables K A)) ≡ tabled A (tables K A)) (archive-held K served (t .sources) f)
+      subst (λ A. summaryOf K (survivorSheet K h (slotted (length (A .events)) (tables K A))) ≡ tabled A (tables K A)) (archive-held K served (t .sources) f)
       (summary-held K served h (tables K (archiveHeld K h)) (rows-held K served (t .sources) f) (tables-length K served (archiveHeld K h)))
 
 -- ── every call ───────────────────────────────────────────────────────────────────────────────
@@ -108,8 +102,8 @@ followed-of : (K : ℕ) (served : Served K) (t : Taken) (ss : List Source) → t
 followed-of K served t ss e f = subst (Followed K none) (sym e) f
 
 surviving-sheet : (K : ℕ) (served : Served K) (t : Taken) (ts : List (List (List ℕ))) (ss : List Source) → t .sources ≡ ss → Followed K none ss → ts ≡ tables K (archiveOf K t)
-    → summaryOf K (surviving K t ts) (citing K t ts) ≡ tabled (archiveOf K t) ts
-surviving-sheet K served t ts ss e f k = ap (λ us. summaryOf K (surviving K t us) (citing K t us)) k ∙ surviving-tabled K served t (followed-of K served t ss e f) ∙ ap (tabled (archiveOf K t)) (sym k)
+    → summaryOf K (surviving K t ts) ≡ tabled (archiveOf K t) ts
+surviving-sheet K served t ts ss e f k = ap (λ us. summaryOf K (surviving K t us)) k ∙ surviving-tabled K served t (followed-of K served t ss e f) ∙ ap (tabled (archiveOf K t)) (sym k)
 
 pub run-step : (K : ℕ) (served : Served K) (s : State) (c : Call) (ss : List Source) → Inv K s ss → runStep K (hold K s) c ≡ holdOutcome K (step K s c)
 unfolding runStep step hold Inv
@@ -122,13 +116,12 @@ run-step K served (taking t) (lists room) ss i = refl
 run-step K served (resolved t ts) (takes b) ss i = refl
 run-step K served (resolved t ts) resolves ss i = refl
 run-step K served (resolved t ts) (writes room) ss i =
-    ap (λ S. runOutcome (RunState.resolved (heldOf (t .sources)) (surviving K t ts) (citing K t ts)) (writeInto room (written K S))) (surviving-sheet K served t ts ss (i .0) (i .1) (i .2))
+    ap (λ S. runOutcome (RunState.resolved (heldOf (t .sources)) (surviving K t ts)) (writeInto room (written K S))) (surviving-sheet K served t ts ss (i .0) (i .1) (i .2))
 run-step K served (resolved t ts) (maps p) ss i =
-    ap (λ A. runOutcome (RunState.resolved (heldOf (t .sources)) (surviving K t ts) (citing K t ts)) (told (mapped A p))) (archive-held K served (t .sources) (followed-of K served t ss (i .0) (i .1)))
+    ap (λ A. runOutcome (RunState.resolved (heldOf (t .sources)) (surviving K t ts)) (told (mapped A p))) (archive-held K served (t .sources) (followed-of K served t ss (i .0) (i .1)))
 run-step K served (resolved t ts) counts ss i =
-    ap (λ A. runOutcome (RunState.resolved (heldOf (t .sources)) (surviving K t ts) (citing K t ts)) (counted (reparented A)))
-    (archive-held K served (t .sources) (followed-of K served t ss (i .0) (i .1)))
+    ap (λ A. runOutcome (RunState.resolved (heldOf (t .sources)) (surviving K t ts)) (counted (reparented A))) (archive-held K served (t .sources) (followed-of K served t ss (i .0) (i .1)))
 run-step K served (resolved t ts) (lists room) ss i =
-    ap₂ (λ A S. runOutcome (RunState.resolved (heldOf (t .sources)) (surviving K t ts) (citing K t ts)) (listInto (listed K room A S)))
+    ap₂ (λ A S. runOutcome (RunState.resolved (heldOf (t .sources)) (surviving K t ts)) (listInto (listed K room A S)))
     (archive-held K served (t .sources) (followed-of K served t ss (i .0) (i .1))) (surviving-sheet K served t ts ss (i .0) (i .1) (i .2))
 run-step K served spoiled c ss i = refl

@@ -38,7 +38,7 @@ quiet K served s ss i = rw (append-nil ss) i
 
 rules-of-files : (K : ℕ) (served : Served K) (ss : List Source) (fs : List File) → takeRules K ss fs ≡ none → filesRules K (last ss) fs ≡ none
 unfolding takeRules
-rules-of-files K served ss fs e = each-none _ e .1 .1 .0
+rules-of-files K served ss fs e = each-none _ e .1 .1 .1 .0
 
 take-after : (K : ℕ) (served : Served K) (t : Taken) (b : List ℕ) (x : Parsed (List File)) → parse K b ≡ x → (ss : List Source) → Inv K (taking t) ss
     → After K (takes b) (takeMore t (takenFrom K (t .sources) x)) ss

@@ -10,8 +10,7 @@ pub mod Tabled
 pub mod Worked
 pub mod Sides
 pub mod Taken
-pub mod Rewriting
-pub mod GoodCites
+pub mod Carried
 pub mod Events
 pub mod Invariant
 pub mod Writes
@@ -83,5 +82,4 @@ pub mod Orderly
 pub mod TidyHeld
 pub mod Neat
 pub mod FlatResolving
-pub mod FlatRewriting
 pub mod ArchiveSize

@@ -14,9 +14,10 @@ use Rattle.lists.specs.Lists.{all, isEmpty, Each}
 use Rattle.lists.specs.Order.{rising, levelAbove, notFalling}
 use Rattle.lists.proofs.Tests.{tested, all-each}
 use Rattle.lists.proofs.Each.{each-imp}
-use Rattle.columns.specs.Limits.{Served}
+use Rattle.columns.specs.Limits.{Served, maxNumbers}
+use Rattle.columns.specs.Refusal.{refuse}
 use Rattle.columns.specs.Building.{slotRules}
-use Rattle.columns.specs.declared.refusal.Refusal.the-variants.{NoSurvivor}
+use Rattle.columns.specs.declared.refusal.Refusal.the-variants.{GroupOrder, OverNumbers, NoSurvivor}
 use Rattle.columns.proofs.FirstBroken.{each-none, passed}
 use Rattle.archive.specs.File.{File}
 use Rattle.archive.specs.Fits.{FileFits}
@@ -25,10 +26,9 @@ use Rattle.cleaning.specs.Taking.{filesRules}
 use Rattle.cleaning.specs.Sheet.{Sheet, rowCount}
 use Rattle.cleaning.specs.Held.{Held, nothing, archiveHeld, sheetWith, heldWith, noFacts, ending, lookBack, holdRules}
 use Rattle.cleaning.specs.Routes.{Valid}
-use Rattle.cleaning.specs.Rewriting.{CitesEarlier}
 use Rattle.cleaning.specs.Memo.{tables}
-use Rattle.cleaning.specs.Resolving.{groupsSurvive}
-use Rattle.cleaning.specs.Survivors.{survivorSheet, survivorReferences}
+use Rattle.cleaning.specs.Resolving.{entries, groupsSurvive}
+use Rattle.cleaning.specs.Survivors.{survivorSheet}
 use Rattle.cleaning.specs.Runs.{slotted, heldRules}
 use Rattle.cleaning.specs.Sections.{labelsFit, Tidy, Filled}
 use Rattle.cleaning.proofs.Taken.{Sound, FollowsLast, Followed, taken-followed}
@@ -41,22 +41,21 @@ use Rattle.cleaning.proofs.SurvivorSheet.{summary-held}
 use Rattle.cleaning.proofs.HeldRows.{HeldLast, Ready, ready, held-with}
 use Rattle.cleaning.proofs.Orderly.{Orderly, orderly-taken}
 use Rattle.cleaning.proofs.HeldColumns.{events-length, tables-length, slotted-length}
-use Rattle.cleaning.proofs.HeldValid.{SlotsBelow, CitesBelow, valid-held, cites-held, below-with, cites-with}
+use Rattle.cleaning.proofs.HeldValid.{SlotsBelow, valid-held, below-with}
 use Rattle.cleaning.proofs.TidySurvivors.{tidy-survivors}
 use Rattle.cleaning.proofs.FilledGroups.{filled-survivors}
 use Rattle.cleaning.proofs.TidyHeld.{groups-below, tidy-with}
 
--- rows in order, a tidy sheet, parents below their events, and so the events that references name
+-- rows in order, a tidy sheet, parents below their events
 pub record Neat (K : ℕ) (h : Held) : Type 0 where
   pub rows : Rows K h
   pub tidy : Tidy K (h .sheet)
   pub below : SlotsBelow K h
-  pub cites : CitesBelow h
 
 pub neat-nothing : (K : ℕ) (served : Served K) → Neat K nothing
 unfolding nothing notFalling levelAbove rising all labelsFit
 neat-nothing K served = record {
-  rows = record { groups = refl; tags = refl; labels = refl; lists = sym (mul-zero K); references = refl; roots = tt; unresolved = tt };
+  rows = record { groups = refl; tags = refl; labels = refl; lists = sym (mul-zero K); roots = tt; unresolved = tt };
   tidy = record {
     eachGroup = refl;
     eachLabel = refl;
@@ -72,16 +71,10 @@ neat-nothing K served = record {
     labelled = refl;
   };
   below = tt;
-  cites = tt;
 }
 
 neat-with : (K : ℕ) (served : Served K) (h : Held) (s : Source) → Ready K h s → Sound K s → Orderly s → Neat K h → Neat K (heldWith h s)
-neat-with K served h s q d o n = record {
-  rows = (held-with K served h s q d) .rows;
-  tidy = tidy-with K served h s q d o (n .tidy);
-  below = below-with K served h s q d (n .below);
-  cites = cites-with K served h s q d (n .cites);
-}
+neat-with K served h s q d o n = record { rows = (held-with K served h s q d) .rows; tidy = tidy-with K served h s q d o (n .tidy); below = below-with K served h s q d (n .below) }
 
 neat-after : (K : ℕ) (served : Served K) (before : Source) (h : Held) (ss : List Source) → HeldLast K before h → Neat K h → Followed K (some before) ss → Each Orderly ss
     → Neat K (foldl heldWith h ss)
@@ -160,7 +153,7 @@ pub neat-more : (K : ℕ) (served : Served K) (h : Held) (fs : List File) → Ne
 unfolding holdRules
 neat-more K served h fs n e k =
     let before = lookBack (h .sheet) in
-    let rules : filesRules K before fs ≡ none = each-none _ e .1 .1 .0 in
+    let rules : filesRules K before fs ≡ none = each-none _ e .1 .1 .1 .0 in
     go (map (sourceOf K) fs) (taken-followed K served before fs rules) (orderly-taken K served before fs rules k) (tested (isEmpty (h .sheet .groups)))
   where
     go : (ss : List Source) → Followed K (lookBack (h .sheet)) ss → Each Orderly ss
@@ -176,9 +169,6 @@ neat-more K served h fs n e k =
 pub neat-valid : (K : ℕ) (served : Served K) (h : Held) → Neat K h → Valid (archiveHeld K h)
 neat-valid K served h n = valid-held K served h (n .rows) (n .below)
 
-pub neat-cites : (K : ℕ) (served : Served K) (h : Held) → Neat K h → CitesEarlier (archiveHeld K h)
-neat-cites K served h n = cites-held K served h (n .rows) (n .cites)
-
 -- the sheet of the survivors of a neat run that is not refused is tidy, and every group has a row in it
 module _ (K : ℕ) (served : Served K) (h : Held) (n : Neat K h) where
   pub survivors-tidy : Tidy K (survivorSheet K h (slotted (length ((archiveHeld K h) .events)) (tables K (archiveHeld K h))))
@@ -193,9 +183,8 @@ module _ (K : ℕ) (served : Served K) (h : Held) (n : Neat K h) where
   survivors-once =
       let A = archiveHeld K h in
       let v = neat-valid K served h n in
-      let same = summary-held K served h (tables K A) (n .rows) (tables-length K served A) ∙ tabled-summary K served A v (neat-cites K served h n) in
-      rows-slots K served (survivorSheet K h (slotted (length (A .events)) (tables K A))) survivors-tidy (survivorReferences A (tables K A))
-      (subst (λ S. RowsFrom K (A .start) (S .rows)) (sym same) (lists-good K served A v))
+      let same = summary-held K served h (tables K A) (n .rows) (tables-length K served A) ∙ tabled-summary K served A v in
+      rows-slots K served (survivorSheet K h (slotted (length (A .events)) (tables K A))) survivors-tidy (subst (λ S. RowsFrom K (A .start) (S .rows)) (sym same) (lists-good K served A v))
 
   pub neat-resolved : heldRules h (archiveHeld K h) (tables K (archiveHeld K h)) ≡ none
       → Tidy K (survivorSheet K h (slotted (length ((archiveHeld K h) .events)) (tables K (archiveHeld K h))))
@@ -203,7 +192,10 @@ module _ (K : ℕ) (served : Served K) (h : Held) (n : Neat K h) where
   unfolding heldRules
   neat-resolved e =
       let A = archiveHeld K h in
-      let rules = each-none _ e in (
+      let rules = each-none (refuse GroupOrder (isEmpty (h .sheet .groups))
+      ∷ refuse OverNumbers (ltb maxNumbers (entries (tables K A)))
+      ∷ refuse NoSurvivor (not (groupsSurvive A))
+      ∷ []) e in (
         survivors-tidy,
-        filled-survivors K served h (n .rows) (n .tidy) (slotted (length (A .events)) (tables K A)) (passed NoSurvivor (groupsSurvive A) (rules .1 .1 .1 .0)),
+        filled-survivors K served h (n .rows) (n .tidy) (slotted (length (A .events)) (tables K A)) (passed NoSurvivor (groupsSurvive A) (rules .1 .1 .0)),
       )

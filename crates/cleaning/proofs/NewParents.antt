@@ -43,7 +43,7 @@ use Rattle.cleaning.proofs.Route.{ends-of}
 use Rattle.cleaning.proofs.Inj.{renumber-past}
 use Rattle.cleaning.proofs.Survivors.{within, map-rank-survivors}
 use Rattle.cleaning.proofs.Tabled.{tabled-summary}
-use Rattle.cleaning.proofs.Events.{valid-sources, cites-sources}
+use Rattle.cleaning.proofs.Events.{valid-sources}
 use Rattle.cleaning.proofs.Taken.{Followed}
 use Rattle.cleaning.proofs.Invariant.{Inv, step-after}
 use Rattle.cleaning.proofs.Writes.{archiveFrom, every-write}
@@ -55,7 +55,6 @@ use Rattle.cleaning.proofs.OutputFits.{files-fit}
 use Rattle.cleaning.proofs.Outputs.{eventOf}
 use Rattle.cleaning.proofs.Unerased.{unerased, blankRow, rowAt, at-row}
 use Rattle.cleaning.proofs.Again.{archive-again}
-use Rattle.cleaning.specs.Rewriting.{citations}
 
 -- ── an archive that is written reads back ────────────────────────────────────────────────────
 
@@ -165,7 +164,6 @@ record Few (ss : List Source) : Type 0 where
 record Resolvable (K : ℕ) (ss : List Source) : Type 0 where
   some-source : isEmpty ss ≡ false
   few-entries : entries (tables K (archiveFrom K ss)) ≤ maxNumbers
-  few-citations : citations (archiveFrom K ss) (tables K (archiveFrom K ss)) ≤ maxNumbers
   survive : groupsSurvive (archiveFrom K ss) ≡ true
 
 abbrev Also : (K : ℕ) → State → List Source → Type 0
@@ -183,7 +181,7 @@ none-taken = record { fitting = tt; limited = record { events = omega arith; ref
 more : (K : ℕ) (served : Served K) (ss : List Source) (fs : List File) → takeRules K ss fs ≡ none → Each (FileFits K) fs → Few ss → Few (ss ++ map (sourceOf K) fs)
 unfolding takeRules
 more K served ss fs e h few =
-    let r = each-none _ e in record {
+    let r = each-none _ e .1 in record {
       fitting = each-append Fitting ss (map (sourceOf K) fs) (few .fitting) (fitting-taken K served (last ss) fs (r .1 .1 .0) h);
       limited = limited-more K served ss fs (r .1 .1 .0) h (not-refused OverRecords (overRecords ss fs) (r .0));
     }
@@ -206,14 +204,13 @@ resolve-few : (K : ℕ) (served : Served K) (t : Taken) (r : Option Refusal) →
 unfolding resolveRules
 resolve-few K served t none e ss i few =
     let A = archiveOf K t in
-    let r = each-none _ e in
+    let r = each-none (refuse GroupOrder (isEmpty (t .sources)) ∷ refuse OverNumbers (ltb maxNumbers (entries (tables K A))) ∷ refuse NoSurvivor (not (groupsSurvive A)) ∷ []) e in
     rw (append-nil ss) (
       few,
       subst (Resolvable K) i (record {
         some-source = not-refused GroupOrder (isEmpty (t .sources)) (r .0);
         few-entries = ltb-false maxNumbers (entries (tables K A)) (not-refused OverNumbers (ltb maxNumbers (entries (tables K A))) (r .1 .0));
-        few-citations = ltb-false maxNumbers (citations A (tables K A)) (not-refused OverNumbers (ltb maxNumbers (citations A (tables K A))) (r .1 .1 .0));
-        survive = passed NoSurvivor (groupsSurvive A) (r .1 .1 .1 .0);
+        survive = passed NoSurvivor (groupsSurvive A) (r .1 .1 .0);
       }),
     )
 resolve-few K served t (some x) e ss i few = rw (append-nil ss) few
@@ -243,15 +240,14 @@ write-renews : (K : ℕ) (served : Served K) (t : Taken) (ts : List (List (List 
 unfolding Inv written unless
 write-renews K served t ts ss room ((i, f, g), (few, r)) =
     let A = archiveFrom K ss in
-    let same : tabled (archiveOf K t) ts ≡ summary K A = rw (g, i) (tabled-summary K served A (valid-sources K served ss f) (cites-sources K served ss f)) in
+    let same : tabled (archiveOf K t) ts ≡ summary K A = rw (g, i) (tabled-summary K served A (valid-sources K served ss f)) in
     rw same (go f few r (writeRules K (summary K A)) refl)
   where
     go : Followed K none ss → Few ss → Resolvable K ss → (x : Option Refusal) → writeRules K (summary K (archiveFrom K ss)) ≡ x
         → Each (Written K ss) (bytesWritten (did (writes room) (writeInto room (unless x (bytesOf K (summary K (archiveFrom K ss)))))))
     go f few r (some x) e = tt
     go f few r none e =
-        fits (renewed K served (archiveFrom K ss) (valid-sources K served ss f)
-        (good-sources K served ss (r .some-source) f (few .fitting) (few .limited) (r .few-entries) (r .few-citations) (r .survive)) e)
+        fits (renewed K served (archiveFrom K ss) (valid-sources K served ss f) (good-sources K served ss (r .some-source) f (few .fitting) (few .limited) (r .few-entries) (r .survive)) e)
         (leb (length (bytesOf K (summary K (archiveFrom K ss)))) room)
       where
         fits : Renewed K (archiveFrom K ss) (cleaned K (archiveFrom K ss)) → (b : Bool)

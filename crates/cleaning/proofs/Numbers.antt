@@ -11,7 +11,6 @@ use Rattle.lists.proofs.Each.{each-imp}
 use Rattle.cleaning.specs.Summary.{Kept}
 use Rattle.cleaning.specs.Writing.{Numbered, numberedFrom, firstNumber}
 use Rattle.cleaning.proofs.Good.{GoodLists, RowsFrom}
-use Rattle.lists.proofs.From.{EachFrom}
 
 -- numbers rise by one, from n on
 abbrev pub Counted : ℕ → List Numbered → Type 0
@@ -47,11 +46,6 @@ pub lists-numbered : (K : ℕ) (served : Served K) (n : ℕ) (rs : List Kept) �
 unfolding numberedFrom
 lists-numbered K served n [] h = tt
 lists-numbered K served n (r ∷ rs) h = (h .0, lists-numbered K served (suc n) rs (h .1))
-
-pub from-numbered : (P : ℕ → Kept → Type 0) (n : ℕ) (rs : List Kept) → EachFrom P n rs → Each (λ r. P (r .number) (r .row)) (numberedFrom n rs)
-unfolding numberedFrom
-from-numbered P n [] h = tt
-from-numbered P n (r ∷ rs) h = (h .0, from-numbered P (suc n) rs (h .1))
 
 pub counted-append : (n : ℕ) (s t : List Numbered) → Counted n (s ++ t) → Counted n s × Counted (n + length s) t
 counted-append n [] t h = rw (add-zero n) (tt, h)

@@ -1,8 +1,8 @@
 -- The output files of a good summary have bytes, where every event minus target is a number of signed 64 bits: every number fits its field.
-use mathlib.Core.Path.{_≡_, sym, ap, _∙_}
+use mathlib.Core.Path.{_≡_, sym, ap}
 use mathlib.Core.Bool.{true}
 use mathlib.Core.Logic.{inl, inr}
-use mathlib.Core.List.{List, [], _∷_, map}
+use mathlib.Core.List.{List, map}
 use Prim.Native.Nat.{ℕ, zero, suc, _+_, _*_, _≤_, _<_, _^_}
 use native.Mathlib.Nat.{mul-le-mul-left}
 use native.Mathlib.Omega.{arith}
@@ -12,24 +12,24 @@ use lib.ListN.{length, length-map}
 use Rattle.lists.specs.Lists.{flat, all, sum, upFrom, Each}
 use Rattle.lists.proofs.Tests.{tested, both, all-each}
 use Rattle.lists.proofs.Each.{each-imp, each-map, each-both, each-getD}
-use Rattle.lists.proofs.Flat.{length-starts, length-joined}
+use Rattle.lists.proofs.Flat.{length-starts}
 use Rattle.columns.specs.Limits.{Served, maxRecords, maxNumbers, maxSubject}
 use Rattle.columns.specs.EdgeSet.{setOf}
 use Rattle.columns.specs.Building.{Graph, subjectOk, granuleStart, deltasFit, forwardPart, reversePart, inboundPart}
-use Rattle.archive.specs.File.{Reference, File}
-use Rattle.archive.specs.Fits.{UnresolvedFits, SetFits, RowReferencesFit, FileFits}
-use Rattle.archive.proofs.References.{length-references}
+use Rattle.archive.specs.File.{File}
+use Rattle.archive.specs.Fits.{UnresolvedFits, SetFits, FileFits}
+use Rattle.archive.proofs.References.{none-fit}
 use Rattle.cleaning.specs.Taking.{storedRanges, storedLinkCount}
 use Rattle.cleaning.specs.Summary.{Summary}
 use Rattle.cleaning.specs.Writing.{Numbered, rowsIn, unresolvedOf, rootsFrom, graphOf, groupAt, noGroup, fileOfRows, outputOf, outputs, groupNumbers}
 use Rattle.cleaning.specs.Accepted.{spansFit}
-use Rattle.cleaning.proofs.Good.{GoodGroup, GoodLabel, GoodRoot, WellCited, Good}
+use Rattle.cleaning.proofs.Good.{GoodGroup, GoodLabel, GoodRoot, Good}
 use Rattle.lists.proofs.Filters.{each-below}
 use Rattle.cleaning.proofs.Blocks.{GoodRow, rowsBefore, rows-counted, before-within, rows-good}
 use Rattle.cleaning.proofs.Outputs.{rowOf, references-each}
 use Rattle.cleaning.proofs.OutputSides.{firstOf, end-within}
 use Rattle.cleaning.proofs.OutputSets.{forwardOf, reverseOf, inboundOf, setsOf, forward-full, reverse-full, inbound-full, parts-forward, parts-reverse, parts-inbound, starts-first, output-sets}
-use Rattle.cleaning.proofs.OutputLimits.{few-events, few-roots, few-unresolved, few-ranges, few-links, few-forward, few-reverse, few-inbound, few-cites}
+use Rattle.cleaning.proofs.OutputLimits.{few-events, few-roots, few-unresolved, few-ranges, few-links, few-forward, few-reverse, few-inbound}
 use Rattle.cleaning.proofs.ByteLengths.{FewEdges, short-rows, short-unresolved, short-roots, short-edges}
 use Rattle.cleaning.proofs.RecordFits.{set-fits, references-ordered, roots-ordered, roots-fit, cover-fits}
 use Rattle.lists.proofs.Sums.{sum-map}
@@ -42,12 +42,6 @@ sum-has f i (suc n) g l h = elim (tested (eqb i g)) [
   | inl e ↦ let s : i ≡ g = eqb-true i g e in rw s (omega arith)
   | inr e ↦ omega (arith, sum-has f (suc i) n g (omega (arith, eqb-false i g e)) (omega arith))
 ]
-
--- each list has no more than all of them
-each-few : (n : ℕ) (css : List (List Reference)) → sum length css ≤ n → Each (λ cs. length cs ≤ n) css
-unfolding sum
-each-few n [] h = tt
-each-few n (cs ∷ css) h = (omega arith, each-few n css (omega arith))
 
 module _ (K : ℕ) (served : Served K) (S : Summary) (good : Good K S) (g : ℕ) (l : g < length (S .groups)) where
   abbrev rs : List Numbered
@@ -137,15 +131,7 @@ module _ (K : ℕ) (served : Served K) (S : Summary) (good : Good K S) (g : ℕ)
     cover = cover-fits ((groupAt S g) .links) rs (length (map rowOf rs)) (sym row-number) few-rows (this-group .2)
         (one-file maxRecords (λ f. storedRanges (f .cover)) (few-ranges K served S good)) (one-file maxRecords (λ f. storedLinkCount (f .cover)) (few-links K served S good))
         (rows-have (λ r. GoodLabel ((groupAt S g) .links) (r .row .body .label)) (λ r k. rw (k .group) at (k .body .label)));
-    references = record {
-      rowCount = length-map rs (λ r. r .row .references) ∙ sym row-number;
-      each = each-imp (λ cs. (length cs ≤ maxNumbers) × WellCited cs) RowReferencesFit cites
-          (λ cs w. record { count = omega (arith, w .0); targets = w .1 .targets; known = w .1 .known })
-          (each-both (λ cs. length cs ≤ maxNumbers) WellCited cites (each-few maxNumbers cites few-cites-here)
-          (each-map WellCited (λ r. r .row .references) rs
-          (rows-have (λ r. WellCited (r .row .references)) (λ r k. record { known = k .cites .known; targets = k .cites .targets }))));
-      short = λ x. omega (arith, length-references cites, length-joined cites, few-cites-here, row-number, few-rows, length-map rs (λ r. r .row .references));
-    };
+    references = none-fit rs (sym row-number);
     edgesShort = short-edges K served file (few-here (forwardOf S g) (forward-full K served S good g) forward-few)
         (few-here (reverseOf K S g) (reverse-full K served S good g) reverse-few) (few-here (inboundOf K S g) (inbound-full K served S good g) inbound-few);
     rowsShort = short-rows (map rowOf rs) few-rows;
@@ -153,12 +139,6 @@ module _ (K : ℕ) (served : Served K) (S : Summary) (good : Good K S) (g : ℕ)
     rootsShort = short-roots (rootsFrom 0 rs) few-roots-here;
   }
     where
-      cites : List (List Reference)
-      cites = map (λ r. r .row .references) rs
-
-      few-cites-here : sum length cites ≤ maxNumbers
-      few-cites-here = one-file maxNumbers (λ f. sum length (f .references)) (few-cites K served S good)
-
       few-references : length (flat unresolvedOf rs) ≤ maxRecords
       few-references = one-file maxRecords (λ f. length (f .unresolved)) (few-unresolved K served S good)
 

@@ -22,7 +22,7 @@ use Rattle.cleaning.proofs.Blocks.{rowsBefore, rows-first, before-all, 
 use Rattle.cleaning.proofs.Outputs.{rowOf}
 use Rattle.cleaning.proofs.OutputSides.{firstOf, endOf, end-next}
 use Rattle.cleaning.proofs.OutputSets.{forwardOf, reverseOf, inboundOf, forward-full}
-use Rattle.lists.proofs.Sums.{sum-flat, sum-map}
+use Rattle.lists.proofs.Sums.{sum-flat}
 use Rattle.lists.proofs.Counting.{sum-below, sum-equal, sum-ones, sum-swap, bit, at-most-one}
 use Rattle.cleaning.proofs.Turnings.{reverse-entries, inbound-entries, targets, edges-entries}
 use Rattle.cleaning.proofs.OutputFigures.{roots-few, cover-ranges, cover-links, references-counted, once-few, length-deltas, files-sum, within, rows-sum, groups-sum}
@@ -155,16 +155,6 @@ module _ (K : ℕ) (served : Served K) (S : Summary) (good : Good K S) where
         good .entries,
       )
 
-  pub few-cites : sum (λ f. sum length (f .references)) (outputs K S) ≤ maxNumbers
-  few-cites =
-      omega (
-        arith,
-        files-sum K served S good (λ f. sum length (f .references)) (λ g. sum (λ r. length (r .row .references)) (rowsIn S g))
-            (λ g l. omega (arith, sum-map length (λ r. r .row .references) (rowsIn S g))),
-        rows-sum K served S good (λ r. length (r .references)),
-        good .citations,
-      )
-
   pub numbers-within : overNumbers [] (outputs K S) ≡ false
   unfolding overNumbers
   numbers-within =
@@ -172,5 +162,4 @@ module _ (K : ℕ) (served : Served K) (S : Summary) (good : Good K S) where
         within K served S good maxNumbers _ (λ f. length (f .forward .deltas)) few-forward,
         within K served S good maxNumbers _ (λ f. length (f .reverse .deltas)) few-reverse,
         within K served S good maxNumbers _ (λ f. length (f .inbound .deltas)) few-inbound,
-        within K served S good maxNumbers _ (λ f. sum length (f .references)) few-cites,
       )

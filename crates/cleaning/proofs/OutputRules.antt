@@ -1,5 +1,5 @@
 -- An output file by itself and after the one before it: no rule of a taking's files refuses it.
-use mathlib.Core.Path.{_≡_, refl, ap, subst}
+use mathlib.Core.Path.{_≡_, refl, ap}
 use mathlib.Core.Bool.{Bool, true, or-true}
 use mathlib.Core.List.{List, [], _∷_, map}
 use mathlib.Core.Option.{Option, none, some}
@@ -13,20 +13,18 @@ use Rattle.lists.proofs.Tests.{all-of}
 use Rattle.lists.proofs.Each.{each-imp, each-append, each-getD}
 use Rattle.columns.specs.Limits.{Served, end64, referenceKinds}
 use Rattle.columns.specs.Building.{numbersOk, inFile, Built}
-use Rattle.columns.specs.declared.refusal.Refusal.the-variants.{SubjectLength, NumberRange, DepthOrder, RootOutside, GroupOrder, SourceOrder, CoverInSome, CoverForm, ParentNotEarlier}
+use Rattle.columns.specs.declared.refusal.Refusal.the-variants.{SubjectLength, NumberRange, DepthOrder, RootOutside, GroupOrder, SourceOrder, CoverInSome, CoverForm}
 use Rattle.cover.specs.Chains.{Link}
 use Rattle.cover.specs.Cover.{rangeRules, linkRules}
 use Rattle.cover.proofs.Stored.{stored-ok, ranges-ok}
 use Rattle.archive.specs.File.{Root, Unresolved, File}
 use Rattle.cleaning.specs.Source.{Source, sourceOf}
-use Rattle.cleaning.specs.Taking.{groupFollows, sourceFollows, coverFollows, fileEnd, unresolvedRules, coverRules, allBefore, fileRules, filesRules}
-use Rattle.cleaning.specs.References.{citesBefore}
+use Rattle.cleaning.specs.Taking.{groupFollows, sourceFollows, coverFollows, fileEnd, unresolvedRules, coverRules, fileRules, filesRules}
 use Rattle.cleaning.specs.Summary.{Summary}
 use Rattle.cleaning.specs.Writing.{Numbered, rowsIn, unresolvedOf, rootOf, rootsFrom, labelsIn, groupAt, coverOfGroup, fileOfRows, outputOf, outputs}
 use Rattle.cleaning.proofs.Good.{GoodLinks, GoodGroup, Good}
 use Rattle.columns.proofs.FirstBroken.{none-of, none-in, passes}
-use Rattle.cleaning.proofs.Blocks.{GoodRow, rowsBefore, rows-first, rows-counted, rows-good}
-use Rattle.cleaning.proofs.Numbers.{Counted}
+use Rattle.cleaning.proofs.Blocks.{rows-first}
 use Rattle.cleaning.proofs.Outputs.{rowOf, references-each}
 use Rattle.cleaning.proofs.OutputSides.{firstOf, endOf, end-next, end-within}
 use Rattle.cleaning.proofs.OutputSets.{setsOf, output-sets, forward-rules, reverse-rules, inbound-rules}
@@ -83,17 +81,6 @@ module _ (K : ℕ) (served : Served K) (S : Summary) (good : Good K S) where
         rw (ne-eqb (suc g) g (omega arith)),
       )
 
-  -- 4 of references
-  cites-pass : (g : ℕ) → g < length (S .groups) → allBefore (firstOf S g) (map (λ r. r .row .references) (rowsIn S g)) ≡ true
-  unfolding allBefore
-  cites-pass g l = rw (rows-first K served S good g l) (go (S .start + rowsBefore S g) (rowsIn S g) (rows-counted K served S good g l) (rows-good K served S good g))
-    where
-      go : (n : ℕ) (rs : List Numbered) → Counted n rs → Each (GoodRow K S g) rs → allBefore n (map (λ r. r .row .references) rs) ≡ true
-      go n [] c h = refl
-      go n (r ∷ rs) c h =
-          let e : all (citesBefore n) (r .row .references) ≡ true = subst (λ m. all (citesBefore m) (r .row .references) ≡ true) (c .0) (h .0 .cites .earlier) in
-          rw e (go (suc n) rs (c .1) (h .1))
-
   module _ (g : ℕ) (l : g < length (S .groups)) where
     this-group : GoodGroup (groupAt S g)
     this-group = each-getD GoodGroup (S .groups) g _ (good .groups) l
@@ -139,7 +126,7 @@ module _ (K : ℕ) (served : Served K) (S : Summary) (good : Good K S) where
                               none-in _ (flat unresolvedOf (rowsIn S g)) (records-pass _ refl (ap (λ m. firstOf S g + m) n)),
                               (
                                 cover-passes ((groupAt S g) .links) (rowsIn S g) (this-group .2),
-                                (passes ParentNotEarlier _ (cites-pass g l), tt),
+                                tt,
                               ),
                             ),
                           ),

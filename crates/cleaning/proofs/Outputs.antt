@@ -1,14 +1,14 @@
 -- An output file as read: its lists are the rows' new lists, its cover has the rows' labels and the group's links, and its events are the rows.
 use mathlib.Core.Path.{_≡_, refl, ap, ap₂, sym, subst, _∙_}
 use mathlib.Core.Bool.{false}
-use mathlib.Core.List.{List, [], _∷_, _++_, map, map-append}
+use mathlib.Core.List.{List, [], _∷_, _++_, map}
 use mathlib.Core.Option.{Option, none, some}
 use Prim.Native.Nat.{ℕ, suc, _+_, _*_, _≤_, _<_, _^_}
 use native.Mathlib.Omega.{arith}
 use native.Mathlib.Nat.{add-zero, zero-add, mul-zero}
-use lib.ListN.{length, getD, length-append, length-map}
-use lib.Seq.{append-snoc, take-all, getD-append-seam}
-use Rattle.lists.specs.Lists.{flat, part, upFrom, Each}
+use lib.ListN.{length, length-append}
+use lib.Seq.{append-snoc, take-all}
+use Rattle.lists.specs.Lists.{flat, part, Each}
 use Rattle.lists.proofs.Each.{each-imp, each-map, each-flat, each-getD}
 use Rattle.columns.specs.Limits.{Served, referenceKinds}
 use Rattle.columns.specs.Reading.{Label}
@@ -16,13 +16,13 @@ use Rattle.columns.specs.Building.{builtOf, forwardPart}
 use Rattle.columns.proofs.ReadBack.{slots-set, cut-joined}
 use Rattle.cover.specs.Chains.{Link, rangesOf}
 use Rattle.cover.proofs.Stored.{stored-back}
-use Rattle.archive.specs.File.{Row, Unresolved, Reference}
+use Rattle.archive.specs.File.{Row, Unresolved}
 use Rattle.cleaning.specs.Source.{SourceCover, Source, sourceOf, coverRead}
 use Rattle.cleaning.specs.Archive.{Taken, Event, Group, isErased, labelIn, rootIn, referencesIn, bodyOf, eventsFrom}
 use Rattle.cleaning.specs.Summary.{Kept, Summary}
 use Rattle.cleaning.specs.Writing.{Numbered, rowsIn, firstNumber, unresolvedOf, rootsFrom, labelsIn, slotsOfRows, graphOfRows, graphOf, groupAt, coverOfGroup, outputOf}
 use Rattle.cleaning.proofs.Good.{GoodLinks, GoodLabel, Good}
-use Rattle.lists.proofs.Filters.{each-left, each-right, map-places}
+use Rattle.lists.proofs.Filters.{each-left, each-right}
 use Rattle.cleaning.proofs.Numbers.{Counted}
 use Rattle.cleaning.proofs.Blocks.{GoodRow, rowsBefore, rows-good, rows-within}
 use Rattle.cleaning.proofs.Followed.{EachKind, length-slots, lists-at, root-at, references-at, label-at, labels-columns}
@@ -46,7 +46,6 @@ pub record Holds (s : Source) (g : ℕ) (group : Group) (rs : List Numbered) : T
   pub unresolved : s .unresolved ≡ flat unresolvedOf rs
   pub roots : s .roots ≡ rootsFrom 0 rs
   pub cover : s .cover ≡ keptCover (group .links) rs
-  pub references : s .references ≡ map (λ r. r .row .references) rs
 
 -- the parents of rows, as building is given them, are those of the one granule
 pub forward-part : (K : ℕ) (served : Served K) (S : Summary) (g : ℕ) (group : Group) (rs : List Numbered) → Each (EachKind K) rs → forwardPart K (graphOfRows S g group rs) ≡ slotsOfRows rs
@@ -77,10 +76,6 @@ module _ (K : ℕ) (served : Served K) (S : Summary) (good : Good K S) (g : ℕ)
     unresolved = refl;
     roots = refl;
     cover = cover-back ((groupAt S g) .links) (rowsIn S g) ((each-getD _ (S .groups) g _ (good .groups) l) .2);
-    references = ap (λ n. map (λ i. getD (map (λ r. r .row .references) (rowsIn S g)) i []) (upFrom 0 n))
-        (length-map (rowsIn S g) rowOf ∙ sym (length-map (rowsIn S g) (λ r. r .row .references)))
-        ∙ map-places (λ i. getD (map (λ r. r .row .references) (rowsIn S g)) i []) 0 (map (λ r. r .row .references) (rowsIn S g)) []
-        (λ j b. ap (λ i. getD (map (λ r. r .row .references) (rowsIn S g)) i []) (zero-add j));
   }
 
   -- the unresolved records of a group's rows: children in the group's numbers, kinds and handles in their bounds
@@ -100,7 +95,7 @@ module _ (K : ℕ) (served : Served K) (S : Summary) (good : Good K S) (g : ℕ)
 
 -- a survivor's row as an event
 abbrev pub eventOf : Kept → Event
-eventOf r = record { erased = false; body = r .body; parents = r .parents; references = r .references }
+eventOf r = record { erased = false; body = r .body; parents = r .parents }
 
 kept-label : (links : Option (List Link)) (before : List Numbered) (r : Numbered) (rs : List Numbered)
     → Each (λ b. GoodLabel links (b .row .body .label)) before → GoodLabel links (r .row .body .label)
@@ -146,19 +141,13 @@ module _ (K : ℕ) (served : Served K) (S : Summary) (t : Taken) (s : Source) (g
       ap (part (K * length before) K) (holds .forward ∙ ap slotsOfRows e)
       ∙ lists-at K served before r rs (each-left (EachKind K) before (r ∷ rs) kinds-of) (each-right (EachKind K) before (r ∷ rs) kinds-of .0)
 
-  cites-back : (before : List Numbered) (r : Numbered) (rs : List Numbered) → all ≡ before ++ (r ∷ rs) → getD (s .references) (length before) [] ≡ r .row .references
-  cites-back before r rs e =
-      let f : Numbered → List Reference = λ r. r .row .references in
-      ap (λ xs. getD xs (length before) []) (holds .references ∙ ap (map f) e ∙ map-append f before (r ∷ rs))
-      ∙ (rw (length-map before f) at (getD-append-seam (map f before) (f r) (map f rs) []))
-
   events-from : (before rs : List Numbered) → all ≡ before ++ rs → eventsFrom K t s (length before) (map rowOf rs) ≡ map (λ r. eventOf (r .row)) rs
   unfolding eventsFrom isErased
   events-from before [] e = refl
   events-from before (r ∷ rs) e =
       let n : length (before ++ (r ∷ [])) ≡ suc (length before) = omega (arith, length-append before (r ∷ [])) in
       let rest = rw n at (events-from (before ++ (r ∷ [])) rs (e ∙ sym (append-snoc before r rs))) in
-      ap₂ (λ x xs. x ∷ xs) (λ i. record { erased = false; body = body-back before r rs e i; parents = lists-back before r rs e i; references = cites-back before r rs e i }) rest
+      ap₂ (λ x xs. x ∷ xs) (λ i. record { erased = false; body = body-back before r rs e i; parents = lists-back before r rs e i }) rest
 
   pub events-back : eventsFrom K t s 0 (s .rows) ≡ map (λ r. eventOf (r .row)) all
   events-back = ap (eventsFrom K t s 0) (holds .rows) ∙ events-from [] all refl

@@ -47,11 +47,11 @@ last-ends (suc (suc k)) h = absurd (omega arith)
 
 first-same : SameSurvivor kinds A B 100 100
 unfolding computes history archiveIn workedFile otherFile cleaningOf
-first-same = record { same-group = refl; same-tag = refl; same-label = refl; same-root = refl; same-unresolved = refl; same-references = tt; same-ends = first-ends }
+first-same = record { same-group = refl; same-tag = refl; same-label = refl; same-root = refl; same-unresolved = refl; same-ends = first-ends }
 
 last-same : SameSurvivor kinds A B 103 102
 unfolding computes history archiveIn workedFile otherFile cleaningOf
-last-same = record { same-group = refl; same-tag = refl; same-label = refl; same-root = refl; same-unresolved = refl; same-references = tt; same-ends = last-ends }
+last-same = record { same-group = refl; same-tag = refl; same-label = refl; same-root = refl; same-unresolved = refl; same-ends = last-ends }
 
 pub pair-meets : PairMeets
 unfolding computes cleaning cleanedBytes history archiveIn Wrote workedFile otherFile cleaningOf taken

@@ -14,7 +14,6 @@ use Rattle.lists.specs.Lists.{any, sum, upFrom, Each}
 use Rattle.lists.proofs.Each.{each-imp}
 use Rattle.columns.specs.Limits.{Served, maxNumbers}
 use Rattle.cleaning.specs.Routes.{Valid}
-use Rattle.cleaning.specs.Rewriting.{citations, CitesEarlier}
 use Rattle.cleaning.specs.Memo.{memo, tables}
 use Rattle.cleaning.specs.Summary.{Kept, Summary}
 use Rattle.cleaning.specs.Resolving.{entries, survivesIn, groupsSurvive}
@@ -26,11 +25,10 @@ use Rattle.lists.proofs.Filters.{each-below, map-places}
 use Rattle.lists.proofs.Sums.{sum-map, sum-ext}
 use Rattle.lists.proofs.Counting.{sum-swap}
 use Rattle.cleaning.proofs.Outputs.{eventOf}
-use Rattle.cleaning.proofs.Unerased.{unerased, blankRow, parents-stay, summary-unerased}
+use Rattle.cleaning.proofs.Unerased.{unerased, blankRow, parents-stay}
 use Rattle.cleaning.proofs.Again.{again, archive-again}
 use Rattle.cleaning.proofs.Taken.{taken-followed}
-use Rattle.cleaning.proofs.Events.{valid-sources, cites-sources}
-use Rattle.cleaning.proofs.Goodness.{same-citations}
+use Rattle.cleaning.proofs.Events.{valid-sources}
 use Rattle.lists.proofs.Tests.{all-of}
 use Rattle.cleaning.proofs.OutputRules.{files-rules}
 
@@ -67,9 +65,6 @@ kind-by-kind K served r e =
     ∙ ap (sum length) (map-places (λ k. list k r) 0 (r .parents) [] (λ k l. ap (λ i. list i r) (zero-add k)))
 
 module _ (K : ℕ) (served : Served K) (S : Summary) (good : Good K S) where
-  cites-again : CitesEarlier (unerased S)
-  cites-again = subst CitesEarlier (archive-again K served S good) (cites-sources K served (again K S .sources) (taken-followed K served none (outputs K S) (files-rules K served S good)))
-
   valid-again : Valid (unerased S)
   valid-again = subst Valid (archive-again K served S good) (valid-sources K served (again K S .sources) (taken-followed K served none (outputs K S) (files-rules K served S good)))
 
@@ -95,10 +90,6 @@ module _ (K : ℕ) (served : Served K) (S : Summary) (good : Good K S) where
       ∙ sum-swap (λ k r. length (list k r)) (upFrom 0 K) (S .rows)
       ∙ sum-ext (λ r. sum (λ k. length (list k r)) (upFrom 0 K)) (λ r. sum length (r .parents)) (S .rows)
       (each-imp (λ r. length (r .parents) ≡ K) _ (S .rows) (kind-by-kind K served) (rows-wide K served (S .start) (S .rows) (good .lists)))
-
-  -- the references of all rows
-  pub few-citations : citations (unerased S) (tables K (unerased S)) ≤ maxNumbers
-  few-citations = omega (arith, same-citations K served (unerased S) valid-again cites-again, ap (λ T. sum (λ r. length (r .references)) (T .rows)) (summary-unerased K served S good), good .citations)
 
   pub few-entries : entries (tables K (unerased S)) ≤ maxNumbers
   few-entries = omega (arith, entries-again, good .entries)

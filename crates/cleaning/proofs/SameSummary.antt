@@ -1,6 +1,5 @@
 -- Archives that are alike have the same summary: nothing of what was erased is left in it.
-use mathlib.Core.Path.{_≡_, refl, ap, _∙_}
-use mathlib.Core.Bool.{Bool, true, false}
+use mathlib.Core.Path.{_≡_, refl, ap, ap₂}
 use mathlib.Core.List.{List}
 use mathlib.Core.Logic.{inl, inr}
 use mathlib.Core.Option.{Option, none, some}
@@ -17,10 +16,7 @@ use Rattle.cleaning.specs.Archive.{Group, Archive, at}
 use Rattle.cleaning.specs.Routes.{ends}
 use Rattle.cleaning.specs.Cleaning.{renumber, newParents, survivors}
 use Rattle.cleaning.specs.Summary.{sorted, groupSummary, kept, keptBy, summary}
-use Rattle.archive.specs.File.{Reference}
-use Rattle.cleaning.specs.References.{namesEvent}
-use Rattle.cleaning.specs.Rewriting.{reached, renewed, rewritten}
-use Rattle.cleaning.specs.Alike.{SameCover, SameGroup, SameEnd, SameReference, SameSurvivor, Alike}
+use Rattle.cleaning.specs.Alike.{SameCover, SameGroup, SameEnd, SameSurvivor, Alike}
 use Rattle.cleaning.proofs.Inj.{renumber-before, renumber-past}
 
 -- ── groups ───────────────────────────────────────────────────────────────────────────────────
@@ -46,31 +42,6 @@ module _ (K : ℕ) (served : Served K) (A B : Archive) (s : A .start ≡ B .star
   unfolding newParents
   same-new k p q r = pairs-map (SameEnd A B) (renumber A) (renumber B) same-number (once (ends A k p)) (once (ends B k q)) r
 
-  same-renewed : (r t : Reference) → SameReference A B r t → renewed A r ≡ renewed B t
-  unfolding renewed namesEvent
-  same-renewed r t h = go (namesEvent r) refl
-    where
-      kind : r .kind ≡ t .kind
-      kind = h .same-kind
-
-      space : r .space ≡ t .space
-      space = h .same-space
-
-      named : namesEvent t ≡ namesEvent r
-      named = rw (kind, space)
-
-      go : (b : Bool) → namesEvent r ≡ b → renewed A r ≡ renewed B t
-      go true e =
-          let target = same-number (r .target) (t .target) (h .same-event e) in
-          rw (e, named ∙ e) (λ i. record { kind = kind i; space = space i; target = target i })
-      go false e =
-          let target = h .same-target e in
-          rw (e, named ∙ e) (λ i. record { kind = kind i; space = space i; target = target i })
-
-  same-rewritten : (p q : ℕ) → Pairs (SameReference A B) (reached A p) (reached B q) → rewritten A p ≡ rewritten B q
-  unfolding rewritten
-  same-rewritten p q h = pairs-map (SameReference A B) (renewed A) (renewed B) same-renewed (reached A p) (reached B q) h
-
   same-body : (p q : ℕ) → SameSurvivor K A B p q → (at A p) .body ≡ (at B q) .body
   same-body p q r = λ i. record {
     group = r .same-group i;
@@ -82,10 +53,10 @@ module _ (K : ℕ) (served : Served K) (A B : Archive) (s : A .start ≡ B .star
 
   same-kept : (p q : ℕ) → SameSurvivor K A B p q → keptBy K A p ≡ keptBy K B q
   unfolding keptBy
-  same-kept p q r = λ i. kept (same-body p q r i)
+  same-kept p q r = ap₂ kept (same-body p q r)
       (map-ext (λ k. newParents A k p) (λ k. newParents B k q) (upFrom 0 K)
       (each-imp (λ k. (0 ≤ k) × (k < 0 + K)) (λ k. newParents A k p ≡ newParents B k q) (upFrom 0 K)
-      (λ k h. same-new k p q (r .same-ends k (omega arith))) (each-upFrom 0 K)) i) (same-rewritten p q (r .same-references) i)
+      (λ k h. same-new k p q (r .same-ends k (omega arith))) (each-upFrom 0 K)))
 
 -- ── the whole ────────────────────────────────────────────────────────────────────────────────
 

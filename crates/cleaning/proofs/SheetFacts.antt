@@ -12,6 +12,5 @@ pub record Rows (K : ℕ) (h : Held) : Type 0 where
   pub tags : length (h .sheet .tags) ≡ length (h .erased)
   pub labels : length (h .sheet .labels) ≡ length (h .erased)
   pub lists : length (h .sheet .lists) ≡ K * length (h .erased)
-  pub references : length (h .references) ≡ length (h .erased)
   pub roots : Each (λ r. r .row < length (h .erased)) (h .sheet .roots)
   pub unresolved : Each (λ u. (h .sheet .start ≤ u .child) × (u .child < h .sheet .start + length (h .erased))) (h .sheet .unresolved)

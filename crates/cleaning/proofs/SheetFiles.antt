@@ -2,32 +2,31 @@
 use mathlib.Core.Path.{_≡_, refl, ap, ap₂, sym, _∙_}
 use mathlib.Core.Bool.{Bool, true, false, cond, false≢true}
 use mathlib.Core.Logic.{inl, inr}
-use mathlib.Core.List.{List, [], _∷_, _++_, map, map-map, append-assoc, append-nil}
+use mathlib.Core.List.{List, [], _∷_, map, map-map}
 use mathlib.Core.Option.{none, some}
-use Prim.Native.Nat.{ℕ, zero, suc, _+_, _≤_, _<_}
+use Prim.Native.Nat.{ℕ, suc, _+_, _≤_, _<_}
 use native.Mathlib.Omega.{arith}
 use lib.Dec.{eqb, ltb}
-use lib.ListN.{length, take, drop}
+use lib.ListN.{length}
 use borrow.Author.Tests.{eqb-true, eqb-false, lt-ltb, le-ltb, ltb-true, ltb-false}
 use Rattle.columns.specs.Limits.{Served}
-use Rattle.lists.specs.Lists.{flat, filter, joined, starts, mem, part, upFrom}
+use Rattle.lists.specs.Lists.{flat, filter, joined, starts, mem, upFrom}
 use Rattle.lists.proofs.Tests.{tested}
 use Rattle.lists.proofs.Flat.{map-ext, flat-map}
 use Rattle.lists.proofs.Filters.{each-below}
 use Rattle.columns.specs.Refusal.{unless}
 use Rattle.columns.specs.Building.{buildRules, builtOf}
 use Rattle.cover.specs.Chains.{Link}
-use Rattle.archive.specs.File.{Reference, noReferences}
-use Rattle.archive.specs.Encode.{headBytes, edgesBytes, referencesRecord, fileBytes, encode}
-use Rattle.archive.proofs.References.{no-record}
-use Rattle.cleaning.specs.Sheet.{Facts, GroupLink, Sheet, rowCount, groupsFrom, groupsOfSheet, summaryOf}
+use Rattle.archive.specs.File.{noReferences}
+use Rattle.archive.specs.Encode.{encode}
+use Rattle.cleaning.specs.Sheet.{Facts, GroupLink, Sheet, groupsFrom, groupsOfSheet, summaryOf}
 use Rattle.cleaning.specs.Writing.{Numbered, rowsIn, firstNumber, labelsIn, labelsOfGroup, edgesInto, edgesOf, inboundColumns, unresolvedColumns, graphOfRows}
 use Rattle.cleaning.specs.Writing.{groupAt, graphOf, coverOfGroup, outputOf, groupNumbers, outputs, writeRules, bytesOf, written}
-use Rattle.cleaning.specs.Sections.{Tidy, Filled, factsOf, reaches, place, sectionStart, sectionRows, sectionFirst, sectionEnd, sectionLabels, sectionLinks, sectionTags, sectionReferences}
-use Rattle.cleaning.specs.Sections.{sectionEdges, rowEdges, otherRows, labelsWhere, coverWhere, unerasedRow, sectionGraph, sectionFile, bareFile, sectionRules, sectionBytes}
+use Rattle.cleaning.specs.Sections.{Tidy, Filled, factsOf, reaches, place, sectionStart, sectionRows, sectionFirst, sectionEnd, sectionLabels, sectionLinks}
+use Rattle.cleaning.specs.Sections.{sectionEdges, rowEdges, otherRows, labelsWhere, coverWhere, unerasedRow, sectionGraph, sectionFile, sectionRules, sectionBytes}
 use Rattle.cleaning.proofs.Places.{place-rises}
 use Rattle.cleaning.proofs.FirstRules.{first-ext}
-use Rattle.cleaning.proofs.SheetRows.{rowAt, section-end, others-section, count-section, first-section, tags-section, labels-section, lists-section, references-section}
+use Rattle.cleaning.proofs.SheetRows.{rowAt, section-end, others-section, count-section, first-section, tags-section, labels-section, lists-section}
 use Rattle.cleaning.proofs.SheetRecords.{unresolved-section, roots-section, group-section}
 
 -- ── a group's file ───────────────────────────────────────────────────────────────────────────
@@ -41,34 +40,34 @@ cover-where true links rs = refl
 cover-where false links rs = refl
 
 module _ (K : ℕ) (served : Served K) (s : Sheet) (t : Tidy K s) (g : ℕ) where
-  pub edges-section : (cites : List (List Reference)) → (first end : ℕ) → edgesOf (summaryOf K s cites) g first end ≡ flat (rowEdges K s first end) (otherRows s g)
+  pub edges-section : (first end : ℕ) → edgesOf (summaryOf K s) g first end ≡ flat (rowEdges K s first end) (otherRows s g)
   unfolding edgesOf rowEdges
-  edges-section cites first end = rw (others-section K served s t g cites) (flat-map (λ r. edgesInto first end (r .number) 0 (r .row .parents)) (rowAt K s cites) (otherRows s g))
+  edges-section first end = rw (others-section K served s t g) (flat-map (λ r. edgesInto first end (r .number) 0 (r .row .parents)) (rowAt K s) (otherRows s g))
 
   module _ (l : g < length (s .groups)) (some-row : 0 < sectionRows s g) where
-    end-section : (cites : List (List Reference)) → firstNumber (rowsIn (summaryOf K s cites) g) + length (rowsIn (summaryOf K s cites) g) ≡ sectionEnd s g
-    end-section cites = omega (arith, first-section K served s t g cites some-row, count-section K served s t g cites, section-end K served s t g)
+    end-section : firstNumber (rowsIn (summaryOf K s) g) + length (rowsIn (summaryOf K s) g) ≡ sectionEnd s g
+    end-section = omega (arith, first-section K served s t g some-row, count-section K served s t g, section-end K served s t g)
 
-    pub graph-section : (cites : List (List Reference)) → graphOf (summaryOf K s cites) g ≡ sectionGraph K s g
+    pub graph-section : graphOf (summaryOf K s) g ≡ sectionGraph K s g
     unfolding graphOf graphOfRows sectionGraph summaryOf
-    graph-section cites =
-        let rs = rowsIn (summaryOf K s cites) g in
-        let first = first-section K served s t g cites some-row in
-        let n = count-section K served s t g cites in
-        let lists = lists-section K served s t g cites in
-        let group = group-section K served s t g l cites in
-        let labels : labelsOfGroup ((groupAt (summaryOf K s cites) g) .links) rs ≡ labelsWhere ((factsOf s g) .covered) (sectionLabels s g) =
+    graph-section =
+        let rs = rowsIn (summaryOf K s) g in
+        let first = first-section K served s t g some-row in
+        let n = count-section K served s t g in
+        let lists = lists-section K served s t g in
+        let group = group-section K served s t g l in
+        let labels : labelsOfGroup ((groupAt (summaryOf K s) g) .links) rs ≡ labelsWhere ((factsOf s g) .covered) (sectionLabels s g) =
         ap (λ x. labelsOfGroup (x .links) rs) group ∙ labels-where ((factsOf s g) .covered) (sectionLinks s g) rs
-        ∙ ap (labelsWhere ((factsOf s g) .covered)) (labels-section K served s t g cites) in
-        let edges : edgesOf (summaryOf K s cites) g (firstNumber rs) (firstNumber rs + length rs) ≡ sectionEdges K s g =
-        ap₂ (edgesOf (summaryOf K s cites) g) first (end-section cites) ∙ edges-section cites (sectionFirst s g) (sectionEnd s g) in
+        ∙ ap (labelsWhere ((factsOf s g) .covered)) (labels-section K served s t g) in
+        let edges : edgesOf (summaryOf K s) g (firstNumber rs) (firstNumber rs + length rs) ≡ sectionEdges K s g =
+        ap₂ (edgesOf (summaryOf K s) g) first end-section ∙ edges-section (sectionFirst s g) (sectionEnd s g) in
         λ k. record {
           subject = s .subject;
           first = first k;
           rows = n k;
           offsets = starts 0 (lists k);
           targets = joined (lists k);
-          unresolved = unresolvedColumns (unresolved-section K served s t g cites k);
+          unresolved = unresolvedColumns (unresolved-section K served s t g k);
           depth = (group k) .depth;
           labels = labels k;
           inbound = inboundColumns (edges k);
@@ -76,19 +75,19 @@ module _ (K : ℕ) (served : Served K) (s : Sheet) (t : Tidy K s) (g : ℕ) wher
           granuleRows = n k;
         }
 
-    pub file-section : (cites : List (List Reference)) → length cites ≡ rowCount s → outputOf K (summaryOf K s cites) g ≡ sectionFile K s cites g
+    pub file-section : outputOf K (summaryOf K s) g ≡ sectionFile K s g
     unfolding outputOf sectionFile summaryOf
-    file-section cites e =
-        let rs = rowsIn (summaryOf K s cites) g in
-        let group = group-section K served s t g l cites in
-        let b = ap (builtOf K) (graph-section cites) in
-        let rows = sym (map-map unerasedRow (λ r. r .row .body .tag) rs) ∙ ap (map unerasedRow) (tags-section K served s t g cites) in
-        let references = references-section K served s t g cites e in
-        let cover : coverOfGroup ((groupAt (summaryOf K s cites) g) .links) rs ≡ coverWhere ((factsOf s g) .covered) (sectionLabels s g) (sectionLinks s g) =
+    file-section =
+        let rs = rowsIn (summaryOf K s) g in
+        let group = group-section K served s t g l in
+        let b = ap (builtOf K) graph-section in
+        let rows = sym (map-map unerasedRow (λ r. r .row .body .tag) rs) ∙ ap (map unerasedRow) (tags-section K served s t g) in
+        let references = sym (map-map (λ x. []) (λ r. r .row .body .tag) rs) ∙ ap noReferences (tags-section K served s t g) in
+        let cover : coverOfGroup ((groupAt (summaryOf K s) g) .links) rs ≡ coverWhere ((factsOf s g) .covered) (sectionLabels s g) (sectionLinks s g) =
         ap (λ x. coverOfGroup (x .links) rs) group ∙ cover-where ((factsOf s g) .covered) (sectionLinks s g) rs
-        ∙ ap (λ ls. coverWhere ((factsOf s g) .covered) ls (sectionLinks s g)) (labels-section K served s t g cites) in
+        ∙ ap (λ ls. coverWhere ((factsOf s g) .covered) ls (sectionLinks s g)) (labels-section K served s t g) in
         λ k. record {
-          first = first-section K served s t g cites some-row k;
+          first = first-section K served s t g some-row k;
           group = g;
           subject = s .subject;
           depth = (group k) .depth;
@@ -96,32 +95,11 @@ module _ (K : ℕ) (served : Served K) (s : Sheet) (t : Tidy K s) (g : ℕ) wher
           reverse = (b k) .reverse;
           inbound = (b k) .inbound;
           rows = rows k;
-          unresolved = unresolved-section K served s t g cites k;
-          roots = roots-section K served s t g cites k;
+          unresolved = unresolved-section K served s t g k;
+          roots = roots-section K served s t g k;
           cover = cover k;
           references = references k;
         }
-
--- ── a file with references and without ───────────────────────────────────────────────────────
-
-part-same : {A B : Type 0} (f : A → B) (i n : ℕ) (xs : List A) → part i n (map f xs) ≡ map f (part i n xs)
-unfolding part
-part-same f zero zero xs = refl
-part-same f zero (suc n) [] = refl
-part-same f zero (suc n) (x ∷ xs) = ap (λ ys. f x ∷ ys) (part-same f zero n xs)
-part-same f (suc i) zero [] = refl
-part-same f (suc i) (suc n) [] = refl
-part-same f (suc i) n (x ∷ xs) = part-same f i n xs
-
--- the references of rows that have none
-pub bare-references : (s : Sheet) (g : ℕ) → sectionReferences s (noReferences (s .tags)) g ≡ noReferences (sectionTags s g)
-bare-references s g = part-same (λ x. []) (sectionStart s g) (sectionRows s g) (s .tags)
-
--- the record of references stands last
-pub file-cited : (K : ℕ) (s : Sheet) (cites : List (List Reference)) (g : ℕ)
-    → fileBytes (sectionFile K s cites g) ≡ fileBytes (bareFile K s g) ++ referencesRecord (sectionReferences s cites g)
-unfolding fileBytes sectionFile headBytes edgesBytes
-file-cited K s cites g = rw (bare-references s g, no-record (sectionTags s g)) (simp (append-assoc, append-nil))
 
 -- ── every group has a row ────────────────────────────────────────────────────────────────────
 
@@ -161,26 +139,26 @@ groups-length ls g [] = refl
 groups-length ls g (f ∷ fs) = ap suc (groups-length ls (1 + g) fs)
 
 module _ (K : ℕ) (served : Served K) (s : Sheet) (t : Tidy K s) (f : Filled s) where
-  numbers-sections : (cites : List (List Reference)) → groupNumbers (summaryOf K s cites) ≡ upFrom 0 (length (s .groups))
+  numbers-sections : groupNumbers (summaryOf K s) ≡ upFrom 0 (length (s .groups))
   unfolding summaryOf groupsOfSheet
-  numbers-sections cites = ap (upFrom 0) (groups-length (s .links) 0 (s .groups))
+  numbers-sections = ap (upFrom 0) (groups-length (s .links) 0 (s .groups))
 
-  pub rules-sections : (cites : List (List Reference)) → writeRules K (summaryOf K s cites) ≡ sectionRules K s
+  pub rules-sections : writeRules K (summaryOf K s) ≡ sectionRules K s
   unfolding writeRules sectionRules
-  rules-sections cites =
-      rw (numbers-sections cites)
-      (first-ext (λ g. buildRules K (graphOf (summaryOf K s cites) g)) (λ g. buildRules K (sectionGraph K s g)) (upFrom 0 (length (s .groups)))
-      (each-below _ (length (s .groups)) (λ g l. ap (buildRules K) (graph-section K served s t g l (filled-section s f g l) cites))))
+  rules-sections =
+      rw numbers-sections
+      (first-ext (λ g. buildRules K (graphOf (summaryOf K s) g)) (λ g. buildRules K (sectionGraph K s g)) (upFrom 0 (length (s .groups)))
+      (each-below _ (length (s .groups)) (λ g l. ap (buildRules K) (graph-section K served s t g l (filled-section s f g l)))))
 
-  pub bytes-sections : (cites : List (List Reference)) → length cites ≡ rowCount s → bytesOf K (summaryOf K s cites) ≡ sectionBytes K s cites
+  pub bytes-sections : bytesOf K (summaryOf K s) ≡ sectionBytes K s
   unfolding bytesOf outputs sectionBytes
-  bytes-sections cites e =
-      rw (numbers-sections cites)
+  bytes-sections =
+      rw numbers-sections
       (ap encode
-      (map-ext (outputOf K (summaryOf K s cites)) (sectionFile K s cites) (upFrom 0 (length (s .groups)))
-      (each-below _ (length (s .groups)) (λ g l. file-section K served s t g l (filled-section s f g l) cites e))))
+      (map-ext (outputOf K (summaryOf K s)) (sectionFile K s) (upFrom 0 (length (s .groups)))
+      (each-below _ (length (s .groups)) (λ g l. file-section K served s t g l (filled-section s f g l)))))
 
   -- what writing answers but for the room that it is lent
-  pub written-sections : (cites : List (List Reference)) → length cites ≡ rowCount s → written K (summaryOf K s cites) ≡ unless (sectionRules K s) (sectionBytes K s cites)
+  pub written-sections : written K (summaryOf K s) ≡ unless (sectionRules K s) (sectionBytes K s)
   unfolding written
-  written-sections cites e = ap₂ unless (rules-sections cites) (bytes-sections cites e)
+  written-sections = ap₂ unless rules-sections bytes-sections

@@ -17,7 +17,6 @@ use Rattle.lists.proofs.Pairs.{each-upFrom}
 use Rattle.lists.proofs.Flat.{flat-map}
 use Rattle.lists.proofs.From.{EachFrom, from-eq}
 use Rattle.columns.specs.Limits.{Served}
-use Rattle.archive.specs.File.{Reference}
 use Rattle.columns.specs.Refusal.{refuse}
 use Rattle.columns.specs.EdgeSet.{eventOf}
 use Rattle.columns.specs.Questions.{listOf}
@@ -102,15 +101,14 @@ module _ (K : ℕ) (served : Served K) (s : Sheet) (t : Tidy K s) where
       rw (le-ltb (s .start + i) (s .start) (omega arith), e, getD-take K (drop (K * i) (s .lists)) k [] l, getD-drop (K * i) (s .lists) k [])
 
   -- a sheet whose rows have good lists keeps 4 and 5
-  pub rows-slots : (cites : List (List Reference)) → RowsFrom K (s .start) ((summaryOf K s cites) .rows) → slotRules K (s .start) 0 (s .lists) ≡ none
+  pub rows-slots : RowsFrom K (s .start) ((summaryOf K s) .rows) → slotRules K (s .start) 0 (s .lists) ≡ none
   unfolding slotsOfRows parentsAt numbered summaryOf
-  rows-slots cites h =
-      let slots : slotsOfRows (numbered (summaryOf K s cites)) ≡ s .lists =
-      ap (flat (λ r. r .row .parents)) (numbered-sheet K served s cites) ∙ flat-map (λ r. r .row .parents) (rowAt K s cites) (upFrom 0 (rowCount s))
+  rows-slots h =
+      let slots : slotsOfRows (numbered (summaryOf K s)) ≡ s .lists =
+      ap (flat (λ r. r .row .parents)) (numbered-sheet K served s) ∙ flat-map (λ r. r .row .parents) (rowAt K s) (upFrom 0 (rowCount s))
       ∙ parts-all K (rowCount s) (s .lists) all-lists in
       subst (λ ls. slotRules K (s .start) 0 ls ≡ none) slots
-      (row-slots-none K served (s .start) (numbered (summaryOf K s cites)) (numbered-counted (s .start) ((summaryOf K s cites) .rows))
-      (lists-numbered K served (s .start) ((summaryOf K s cites) .rows) h))
+      (row-slots-none K served (s .start) (numbered (summaryOf K s)) (numbered-counted (s .start) ((summaryOf K s) .rows)) (lists-numbered K served (s .start) ((summaryOf K s) .rows) h))
 
   module _ (e : slotRules K (s .start) 0 (s .lists) ≡ none) where
     pub row-good : (i : ℕ) → i < rowCount s → GoodLists K (s .start + i) (parentsAt K s i)
@@ -139,7 +137,7 @@ module _ (K : ℕ) (served : Served K) (s : Sheet) (t : Tidy K s) where
 
     -- ── a group's ──────────────────────────────────────────────────────────────────────────────
 
-    rows-counted : (i n : ℕ) → Counted (s .start + i) (map (rowAt K s []) (upFrom i n))
+    rows-counted : (i n : ℕ) → Counted (s .start + i) (map (rowAt K s) (upFrom i n))
     unfolding upFrom
     rows-counted i zero = tt
     rows-counted i (suc n) = let q : suc (s .start + i) ≡ s .start + suc i = omega arith in (refl, rw q (rows-counted (suc i) n))
@@ -148,8 +146,8 @@ module _ (K : ℕ) (served : Served K) (s : Sheet) (t : Tidy K s) where
     section-slots g =
         let a = sectionStart s g in
         let n = sectionRows s g in
-        rw (← lists-section K served s t g [], rows-section K served s t g [])
-        (row-slots-none K served (sectionFirst s g) (map (rowAt K s []) (upFrom a n)) (rows-counted a n)
-        (each-map (λ r. GoodLists K (r .number) (r .row .parents)) (rowAt K s []) (upFrom a n)
+        rw (← lists-section K served s t g, rows-section K served s t g)
+        (row-slots-none K served (sectionFirst s g) (map (rowAt K s) (upFrom a n)) (rows-counted a n)
+        (each-map (λ r. GoodLists K (r .number) (r .row .parents)) (rowAt K s) (upFrom a n)
         (each-imp (λ i. (a ≤ i) × (i < a + n)) (λ i. GoodLists K (s .start + i) (parentsAt K s i)) (upFrom a n)
         (λ i w. row-good i (omega (arith, w .1, section-end K served s t g, section-within K served s t g))) (each-upFrom a n))))

@@ -11,7 +11,6 @@ use lib.Dec.{eqb, ltb}
 use lib.ListN.{length, getD}
 use borrow.Author.Tests.{eqb-true, ne-eqb, ltb-true}
 use Rattle.columns.specs.Limits.{Served}
-use Rattle.archive.specs.File.{Reference}
 use Rattle.lists.specs.Lists.{flat, filter, upFrom}
 use Rattle.lists.specs.Order.{risesAbove, rising}
 use Rattle.lists.proofs.Tests.{tested, both}
@@ -41,14 +40,14 @@ own-records n (u ∷ us) = elim (tested (eqb (u .child) n)) [
 ]
 
 module _ (K : ℕ) (served : Served K) (s : Sheet) (t : Tidy K s) (g : ℕ) where
-  pub unresolved-section : (cites : List (List Reference)) → flat unresolvedOf (rowsIn (summaryOf K s cites) g) ≡ sectionUnresolved s g
+  pub unresolved-section : flat unresolvedOf (rowsIn (summaryOf K s) g) ≡ sectionUnresolved s g
   unfolding unresolvedOf bodyAt
-  unresolved-section cites =
+  unresolved-section =
       let a = sectionStart s g in
       let n = sectionRows s g in
-      let f : ℕ → List Unresolved = λ i. unresolvedOf (rowAt K s cites i) in
+      let f : ℕ → List Unresolved = λ i. unresolvedOf (rowAt K s i) in
       let c : ℕ → List Unresolved = λ i. between (λ u. u .child) (s .start + i) (suc (s .start + i)) (s .unresolved) in
-      ap (flat unresolvedOf) (rows-section K served s t g cites) ∙ flat-map unresolvedOf (rowAt K s cites) (upFrom a n)
+      ap (flat unresolvedOf) (rows-section K served s t g) ∙ flat-map unresolvedOf (rowAt K s) (upFrom a n)
       ∙ flat-ext f c (upFrom a n)
       (each-all (λ i. f i ≡ c i)
       (λ i. own-records (s .start + i) (s .unresolved) ∙ range-one (λ u. u .child) (s .start + i) (s .unresolved) (t .childOrder)) (upFrom a n))
@@ -81,25 +80,24 @@ own-root a i (r ∷ rs) h = elim (tested (eqb (r .row) i)) [
   | inr e ↦ rw e (own-root a i rs (rises-rising (r .row) (map (λ r. r .row) rs) h))
 ]
 
-roots-places : (K : ℕ) (served : Served K) (s : Sheet) (cites : List (List Reference)) (a j n : ℕ)
-    → rootsFrom j (map (rowAt K s cites) (upFrom (a + j) n)) ≡ flat (λ i. rootOf (i - a) (rootIn (s .roots) i)) (upFrom (a + j) n)
+roots-places : (K : ℕ) (served : Served K) (s : Sheet) (a j n : ℕ) → rootsFrom j (map (rowAt K s) (upFrom (a + j) n)) ≡ flat (λ i. rootOf (i - a) (rootIn (s .roots) i)) (upFrom (a + j) n)
 unfolding rootsFrom upFrom bodyAt
-roots-places K served s cites a j zero = refl
-roots-places K served s cites a j (suc n) =
+roots-places K served s a j zero = refl
+roots-places K served s a j (suc n) =
     let e : suc (a + j) ≡ a + suc j = omega arith in
     let d : a + j - a ≡ j = omega arith in
-    rw (e, d) (ap (λ rs. rootOf j (rootIn (s .roots) (a + j)) ++ rs) (roots-places K served s cites a (suc j) n))
+    rw (e, d) (ap (λ rs. rootOf j (rootIn (s .roots) (a + j)) ++ rs) (roots-places K served s a (suc j) n))
 
 module _ (K : ℕ) (served : Served K) (s : Sheet) (t : Tidy K s) (g : ℕ) where
-  pub roots-section : (cites : List (List Reference)) → rootsFrom 0 (rowsIn (summaryOf K s cites) g) ≡ sectionRoots s g
-  roots-section cites =
+  pub roots-section : rootsFrom 0 (rowsIn (summaryOf K s) g) ≡ sectionRoots s g
+  roots-section =
       let a = sectionStart s g in
       let n = sectionRows s g in
       let f : ℕ → List Root = λ i. rootOf (i - a) (rootIn (s .roots) i) in
       let c : ℕ → List Root = λ i. between (λ r. r .row) (0 + i) (suc (0 + i)) (s .roots) in
-      ap (rootsFrom 0) (rows-section K served s t g cites)
-      ∙ ap (λ i. rootsFrom 0 (map (rowAt K s cites) (upFrom i n))) (sym (add-zero a))
-      ∙ roots-places K served s cites a 0 n
+      ap (rootsFrom 0) (rows-section K served s t g)
+      ∙ ap (λ i. rootsFrom 0 (map (rowAt K s) (upFrom i n))) (sym (add-zero a))
+      ∙ roots-places K served s a 0 n
       ∙ ap (λ i. flat f (upFrom i n)) (add-zero a)
       ∙ flat-ext f (λ i. map (lessBy a) (c i)) (upFrom a n)
       (each-all (λ i. f i ≡ map (lessBy a) (c i))
@@ -121,9 +119,9 @@ group-from ls i zero (f ∷ fs) l = rw (add-zero i)
 group-from ls i (suc j) (f ∷ fs) l = let e : i + suc j ≡ 1 + i + j = omega arith in rw e (group-from ls (1 + i) j fs (le-of-suc-le-suc l))
 
 module _ (K : ℕ) (served : Served K) (s : Sheet) (t : Tidy K s) (g : ℕ) (l : g < length (s .groups)) where
-  pub group-section : (cites : List (List Reference)) → groupAt (summaryOf K s cites) g ≡ record { depth = (factsOf s g) .depth; links = cond ((factsOf s g) .covered) (some (sectionLinks s g)) none }
+  pub group-section : groupAt (summaryOf K s) g ≡ record { depth = (factsOf s g) .depth; links = cond ((factsOf s g) .covered) (some (sectionLinks s g)) none }
   unfolding summaryOf groupsOfSheet linksOf
-  group-section cites =
+  group-section =
       group-from (s .links) 0 g (s .groups) l
       ∙ ap (λ ls. record { depth = (factsOf s g) .depth; links = cond ((factsOf s g) .covered) (some ls) none })
       (ap (linksOf (s .links)) (zero-add g) ∙ ap (map (λ l. l .link)) (range-one (λ l. l .group) g (s .links) (t .linkOrder)))

@@ -22,11 +22,9 @@ use Rattle.cleaning.specs.Cleaning.{rank, survivors}
 use Rattle.cleaning.specs.Summary.{Kept, kept, groupSummary, keptIn, tabled}
 use Rattle.cleaning.specs.Sheet.{Facts, GroupLink, rowCount, bodyAt, parentsAt, linksOf, groupsFrom, groupsOfSheet, summaryOf}
 use Rattle.cleaning.specs.Held.{Held, eventAt, archiveHeld}
-use Rattle.archive.specs.File.{Reference}
-use Rattle.cleaning.specs.Rewriting.{rewrittenIn}
-use Rattle.cleaning.specs.Survivors.{keep, rankIn, keepSlots, sortGroups, survivorSheet, survivorReferences}
+use Rattle.cleaning.specs.Survivors.{keep, rankIn, keepSlots, sortGroups, survivorSheet}
 use Rattle.cleaning.specs.Runs.{slotted}
-use Rattle.cleaning.proofs.Survivors.{Survives, survive-from, map-rank-survivors, length-survivors, getD-survivors}
+use Rattle.cleaning.proofs.Survivors.{Survives, survive-from, map-rank-survivors, length-survivors}
 use Rattle.cleaning.proofs.SheetFacts.{Rows}
 use Rattle.cleaning.proofs.GroupLinks.{inGroup, links-append, links-own, links-other}
 use Rattle.cleaning.proofs.HeldColumns.{events-length, event-held, events-erased, slotted-row}
@@ -111,24 +109,15 @@ module _ (K : ℕ) (served : Served K) (h : Held) (r : Rows K h) where
         let unresolved = keep-references es i l s (h .sheet .start) (h .sheet .unresolved) (r .unresolved) in
         λ k. record { group = group k; tag = tag k; label = label k; root = root k; unresolved = unresolved k }
 
-    cites : List (List Reference)
-    cites = survivorReferences (archiveHeld K h) ts
-
-    -- a survivor's references stand at its rank
-    cites-kept : (p : ℕ) → Survives (h .sheet .start) ((archiveHeld K h) .events) p → getD cites (rank (archiveHeld K h) p) [] ≡ rewrittenIn (archiveHeld K h) ts p
-    unfolding cites survivorReferences archiveHeld
-    cites-kept p w′ = getD-survivors (archiveHeld K h) (rewrittenIn (archiveHeld K h) ts) p [] w′
-
     survivor-row : (p : ℕ) → Survives (h .sheet .start) ((archiveHeld K h) .events) p
-        → kept (bodyAt (survivorSheet K h new) (rank (archiveHeld K h) p)) (parentsAt K (survivorSheet K h new) (rank (archiveHeld K h) p))
-        (getD cites (rank (archiveHeld K h) p) []) ≡ keptIn (archiveHeld K h) ts p
+        → kept (bodyAt (survivorSheet K h new) (rank (archiveHeld K h) p)) (parentsAt K (survivorSheet K h new) (rank (archiveHeld K h) p)) ≡ keptIn (archiveHeld K h) ts p
     unfolding keptIn parentsAt survivorSheet at eventAt archiveHeld
     survivor-row p w′ =
         let i = p - h .sheet .start in
         let l : i < length (h .erased) = omega (arith, w′ .0, events-length K served h r) in
         let e = event-held K served h r i l in
         let s : getD (h .erased) i false ≡ false = sym (ap (λ x. x .erased) e) ∙ w′ .1 in
-        rw (cites-kept p w′, rank-held p, e) (ap₂ (λ b ps. kept b ps (rewrittenIn (archiveHeld K h) ts p)) (body-kept i l s) (row-kept i l s))
+        rw (rank-held p, e) (ap₂ kept (body-kept i l s) (row-kept i l s))
 
     row-count : rowCount (survivorSheet K h new) ≡ length (survivors (archiveHeld K h))
     unfolding survivorSheet
@@ -136,18 +125,18 @@ module _ (K : ℕ) (served : Served K) (h : Held) (r : Rows K h) where
         length-keep (h .erased) (h .sheet .tags) (r .tags) ∙ ap (λ es. length (filter not es)) (sym (events-erased K served h r))
         ∙ count-flags ((archiveHeld K h) .events) ∙ sym (length-survivors (archiveHeld K h))
 
-    rows-held : (summaryOf K (survivorSheet K h new) cites) .rows ≡ map (keptIn (archiveHeld K h) ts) (survivors (archiveHeld K h))
+    rows-held : (summaryOf K (survivorSheet K h new)) .rows ≡ map (keptIn (archiveHeld K h) ts) (survivors (archiveHeld K h))
     unfolding summaryOf survivors archiveHeld
     rows-held =
         let A = archiveHeld K h in
-        let f : ℕ → Kept = λ i. kept (bodyAt (survivorSheet K h new) i) (parentsAt K (survivorSheet K h new) i) (getD cites i []) in
+        let f : ℕ → Kept = λ i. kept (bodyAt (survivorSheet K h new) i) (parentsAt K (survivorSheet K h new) i) in
         ap (λ n. map f (upFrom 0 n)) row-count ∙ ap (map f) (sym (map-rank-survivors A)) ∙ map-map f (rank A) (survivors A)
         ∙ map-ext (λ p. f (rank A p)) (keptIn A ts) (survivors A)
         (each-imp (Survives (A .start) (A .events)) (λ p. f (rank A p) ≡ keptIn A ts p) (survivors A) survivor-row (survive-from (A .start) (A .events)))
 
 pub summary-held : (K : ℕ) (served : Served K) (h : Held) (ts : List (List (List ℕ))) → Rows K h → length ts ≡ K
-    → summaryOf K (survivorSheet K h (slotted (length ((archiveHeld K h) .events)) ts)) (survivorReferences (archiveHeld K h) ts) ≡ tabled (archiveHeld K h) ts
-unfolding summaryOf tabled survivorSheet archiveHeld groupsOfSheet new cites
+    → summaryOf K (survivorSheet K h (slotted (length ((archiveHeld K h) .events)) ts)) ≡ tabled (archiveHeld K h) ts
+unfolding summaryOf tabled survivorSheet archiveHeld groupsOfSheet new
 summary-held K served h ts r w =
     let groups = groups-sorted (length (h .sheet .groups)) (h .sheet .links) 0 (h .sheet .groups) (omega arith) in
     let rows = rows-held K served h r ts w in

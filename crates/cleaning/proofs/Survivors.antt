@@ -1,16 +1,12 @@
 -- Survivors: each is an event of the archive that is not erased, their ranks are the numbers from 0 on, their new numbers those from the start on.
 use mathlib.Core.Path.{_≡_, refl, ap, ap₂, _∙_}
 use mathlib.Core.Bool.{Bool, true, false, cond}
-use mathlib.Core.Logic.{inl, inr}
 use mathlib.Core.List.{List, [], _∷_, map}
 use Prim.Native.Nat.{ℕ, suc, _+_, _-_, _≤_, _<_}
 use native.Mathlib.Omega.{arith}
 use native.Mathlib.Nat.{add-zero}
-use lib.Dec.{eqb}
-use lib.ListN.{length, getD, take, length-take}
-use borrow.Author.Tests.{eqb-true, eqb-false}
+use lib.ListN.{length, getD, take}
 use Rattle.lists.specs.Lists.{upFrom, Each}
-use Rattle.lists.proofs.Tests.{tested}
 use Rattle.lists.proofs.Each.{each-imp, each-all}
 use Rattle.lists.proofs.Flat.{map-ext}
 use Rattle.cleaning.specs.Archive.{Event, Archive, blank, at}
@@ -52,19 +48,6 @@ pub survivor-kept : (A : Archive) → Each (λ p. (at A p) .erased ≡ false) (s
 unfolding survivors at
 survivor-kept A =
     each-imp (Survives (A .start) (A .events)) (λ p. (at A p) .erased ≡ false) (survivors A) (λ p s. s .1) (survive-from (A .start) (A .events))
-
--- no more survivors than events
-pub count-le : (es : List Event) → count es ≤ length es
-unfolding count
-count-le [] = omega arith
-count-le (e ∷ es) = go (e .erased) (count-le es)
-  where
-    go : (b : Bool) → count es ≤ length es → cond b (count es) (suc (count es)) ≤ suc (length es)
-    go true h = omega arith
-    go false h = omega arith
-
-pub count-few : (i : ℕ) (es : List Event) → count (take i es) ≤ length es
-count-few i es = omega (arith, count-le (take i es), length-take i es)
 
 -- ── their ranks and new numbers ──────────────────────────────────────────────────────────────
 
@@ -121,29 +104,6 @@ unfolding survivors rank
 map-rank-survivors A =
     map-ext (rank A) (rankFrom 0 (A .start) (A .events)) (survivors A) (each-all (λ p. rank A p ≡ rankFrom 0 (A .start) (A .events) p) (λ p. omega arith) (survivors A))
     ∙ ranks-from 0 (A .start) (A .events)
-
--- what is said of each survivor stands at its rank
-said-from : {B : Type 0} (f : ℕ → B) (d : B) (n : ℕ) (es : List Event) (p : ℕ) → Survives n es p → getD (map f (survivorsFrom n es)) (count (take (p - n) es)) d ≡ f p
-unfolding survivorsFrom count
-said-from f d n [] p s = absurd (omega (arith, s .0 .0, s .0 .1))
-said-from f d n (e ∷ es) p s = elim (tested (eqb p n)) [
-  | inl q ↦ let z : p ≡ n = eqb-true p n q in
-      let i : p - n ≡ 0 = omega arith in
-      let kept : e .erased ≡ false = rw i at (s .1) in
-      rw (i, kept, z)
-  | inr q ↦ let l : suc n ≤ p = omega (arith, s .0 .0, eqb-false p n q) in
-      let i : p - n ≡ suc (p - suc n) = omega arith in
-      rw i (go (e .erased) (said-from f d (suc n) es p ((omega (arith, l), omega (arith, s .0 .1)), rw (getD-past n e es p l) at (s .1))))
-]
-  where
-    go : (b : Bool) → getD (map f (survivorsFrom (suc n) es)) (count (take (p - suc n) es)) d ≡ f p
-        → getD (map f (cond b (survivorsFrom (suc n) es) (n ∷ survivorsFrom (suc n) es))) (cond b (count (take (p - suc n) es)) (suc (count (take (p - suc n) es)))) d ≡ f p
-    go true h = h
-    go false h = h
-
-pub getD-survivors : {B : Type 0} (A : Archive) (f : ℕ → B) (p : ℕ) (d : B) → Survives (A .start) (A .events) p → getD (map f (survivors A)) (rank A p) d ≡ f p
-unfolding survivors rank
-getD-survivors A f p d s = said-from f d (A .start) (A .events) p s
 
 pub map-renumber-survivors : (A : Archive) → map (renumber A) (survivors A) ≡ upFrom (A .start) (length (survivors A))
 unfolding survivors rank

@@ -4,15 +4,12 @@ use mathlib.Core.Bool.{Bool, true, false, _||_, not, Bool·beq, false≢true}
 use mathlib.Core.List.{List, [], _∷_, _++_, map}
 use mathlib.Core.Logic.{_⊎_, inl, inr}
 use mathlib.Core.Option.{Option, none, some}
-use Prim.Native.Nat.{ℕ, zero, suc, _+_, _*_, _≤_, _<_}
-use native.Mathlib.Nat.{add-zero, zero-add}
-use native.Mathlib.Omega.{arith}
+use Prim.Native.Nat.{ℕ, _+_, _*_, _≤_, _<_}
 use lib.Dec.{ltb, leb, eqb}
-use lib.ListN.{length, getD, List·getD-eq-default}
-use borrow.Author.Tests.{ltb-true, ltb-false, leb-true, eqb-true, eq-eqb}
-use Rattle.lists.specs.Lists.{all, same, last, upFrom, Each}
-use Rattle.lists.proofs.Tests.{both, all-each, tested}
-use Rattle.lists.proofs.Flat.{length-map-upFrom, getD-map-upFrom}
+use lib.ListN.{length}
+use borrow.Author.Tests.{ltb-true, leb-true, eqb-true, eq-eqb}
+use Rattle.lists.specs.Lists.{all, same, last, Each}
+use Rattle.lists.proofs.Tests.{both, all-each}
 use Rattle.lists.proofs.Each.{each-imp}
 use Rattle.columns.specs.Limits.{Served, end64, referenceKinds}
 use Rattle.columns.specs.Refusal.{refuse, firstIn}
@@ -20,11 +17,10 @@ use Rattle.columns.specs.EdgeSet.{forward, reverse, inbound}
 use Rattle.columns.specs.Reading.{setRules}
 use Rattle.columns.specs.Building.{subjectOk, numbersOk, depthOk, inFile}
 use Rattle.columns.specs.declared.refusal.Refusal.the-variants.{SubjectLength, NumberRange, UnresolvedChild, UnresolvedKind, DepthOrder, RootOutside, GroupOrder}
-use Rattle.columns.specs.declared.refusal.Refusal.the-variants.{SourceOrder, CoverInSome, ParentNotEarlier}
-use Rattle.archive.specs.File.{Unresolved, CoverColumns, Reference, File}
+use Rattle.columns.specs.declared.refusal.Refusal.the-variants.{SourceOrder, CoverInSome}
+use Rattle.archive.specs.File.{Unresolved, CoverColumns, File}
 use Rattle.cleaning.specs.Source.{Source, coverRead, sourceOf, endOf, isThere}
-use Rattle.cleaning.specs.Taking.{groupFollows, sourceFollows, coverFollows, fileEnd, unresolvedRules, coverRules, allBefore, fileRules, filesRules, takeRules}
-use Rattle.cleaning.specs.References.{citesBefore}
+use Rattle.cleaning.specs.Taking.{groupFollows, sourceFollows, coverFollows, fileEnd, unresolvedRules, coverRules, fileRules, filesRules, takeRules}
 use Rattle.columns.proofs.FirstBroken.{each-none, each-none-in, passed}
 use Rattle.lists.proofs.From.{EachFrom}
 use Rattle.cleaning.proofs.Sides.{SlotBelow, each-slot, forward-below}
@@ -43,8 +39,6 @@ pub record Sound (K : ℕ) (s : Source) : Type 0 where
   pub below : EachFrom (SlotBelow K (s .first)) 0 (s .forward)
   pub roots : Each (λ r. r .row < length (s .rows)) (s .roots)
   pub unresolved : Each (RecordIn s) (s .unresolved)
-  pub cited : length (s .references) ≡ length (s .rows)
-  pub earlier : (i : ℕ) → all (citesBefore (s .first + i)) (getD (s .references) i []) ≡ true
 
 -- `t` is taken after `s`
 pub record Follows (s t : Source) : Type 0 where
@@ -114,21 +108,6 @@ looks-back K served (some b) f g s c = let q = both (same (f .subject) (b .subje
   cover = λ h. there-read (f .cover) ∙ beq-eq (isThere (f .cover)) (isThere (b .cover)) (rw (eq-eqb (f .group) (b .group) h) at c);
 }
 
-before-at : (n : ℕ) (rss : List (List Reference)) → allBefore n rss ≡ true → (i : ℕ) → all (citesBefore (n + i)) (getD rss i []) ≡ true
-unfolding allBefore all
-before-at n [] h i = refl
-before-at n (rs ∷ rss) h zero = rw (add-zero n) (both (all (citesBefore n) rs) (allBefore (suc n) rss) h .0)
-before-at n (rs ∷ rss) h (suc i) =
-    let z : n + suc i ≡ suc n + i = omega arith in
-    rw z (before-at (suc n) rss (both (all (citesBefore n) rs) (allBefore (suc n) rss) h .1) i)
-
-earlier-at : (n : ℕ) (rss : List (List Reference)) (m i : ℕ) → allBefore n rss ≡ true → all (citesBefore (n + i)) (getD (map (λ j. getD rss j []) (upFrom 0 m)) i []) ≡ true
-unfolding all
-earlier-at n rss m i h = elim (tested (ltb i m)) [
-  | inl e ↦ rw (getD-map-upFrom (λ j. getD rss j []) 0 m i [] (ltb-true i m e), zero-add i) (before-at n rss h i)
-  | inr e ↦ rw (List·getD-eq-default (map (λ j. getD rss j []) (upFrom 0 m)) [] {n = i} (omega (arith, length-map-upFrom (λ j. getD rss j []) 0 m, ltb-false i m e)))
-]
-
 module _ (K : ℕ) (served : Served K) (before : Option Source) (f : File) (e : fileRules K before f ≡ none) where
   rules : Each (λ t. t ≡ none) (refuse SubjectLength (not (subjectOk (f .subject)))
       ∷ refuse NumberRange (not (numbersOk (f .first) (length (f .rows))))
@@ -142,7 +121,6 @@ module _ (K : ℕ) (served : Served K) (before : Option Source) (f : File) (e : 
       ∷ refuse RootOutside (not (all (λ r. ltb (r .row) (length (f .rows))) (f .roots)))
       ∷ firstIn (unresolvedRules f) (f .unresolved)
       ∷ coverRules (f .cover)
-      ∷ refuse ParentNotEarlier (not (allBefore (f .first) (f .references)))
       ∷ [])
   unfolding fileRules
   rules = each-none _ e
@@ -170,9 +148,6 @@ module _ (K : ℕ) (served : Served K) (before : Option Source) (f : File) (e : 
         (passed RootOutside (all (λ r. ltb (r .row) (length (f .rows))) (f .roots)) (rules .1 .1 .1 .1 .1 .1 .1 .1 .1 .0)));
     unresolved = each-imp (λ u. unresolvedRules f u ≡ none) (RecordIn (sourceOf K f)) (f .unresolved) record-in
         (each-none-in (unresolvedRules f) (f .unresolved) (rules .1 .1 .1 .1 .1 .1 .1 .1 .1 .1 .0));
-    cited = length-map-upFrom (λ i. getD (f .references) i []) 0 (length (f .rows));
-    earlier = λ i. earlier-at (f .first) (f .references) (length (f .rows)) i
-        (passed ParentNotEarlier (allBefore (f .first) (f .references)) (rules .1 .1 .1 .1 .1 .1 .1 .1 .1 .1 .1 .1 .0));
   }
 
   pub follows-last : FollowsLast before (sourceOf K f)
@@ -193,4 +168,4 @@ taken-followed K served before (f ∷ fs) e =
 pub taking-followed : (K : ℕ) (served : Served K) (ss : List Source) (fs : List File) → takeRules K ss fs ≡ none → Followed K (last ss) (map (sourceOf K) fs)
 unfolding takeRules
 taking-followed K served ss fs e =
-    taken-followed K served (last ss) fs (each-none _ e .1 .1 .0)
+    taken-followed K served (last ss) fs (each-none _ e .1 .1 .1 .0)

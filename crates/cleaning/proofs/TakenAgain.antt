@@ -12,10 +12,11 @@ use Rattle.cleaning.specs.Writing.{graphOf, outputOf, outputs, groupNumb
 use Rattle.cleaning.specs.Accepted.{chainsRise, spansFit, Cleanable}
 use Rattle.cleaning.proofs.Good.{Good}
 use Rattle.cleaning.proofs.Again.{archive-again, summary-again}
+use Rattle.cleaning.proofs.Carried.{none-carried}
 use Rattle.cleaning.proofs.OutputRules.{files-rules}
 use Rattle.cleaning.proofs.OutputLimits.{records-within, numbers-within}
 use Rattle.cleaning.proofs.OutputFits.{files-fit}
-use Rattle.cleaning.proofs.Resolved.{groups-survive, few-entries, few-citations}
+use Rattle.cleaning.proofs.Resolved.{groups-survive, few-entries}
 
 some-output : (K : ℕ) (served : Served K) (S : Summary) → Good K S → isEmpty (outputs K S) ≡ false
 unfolding outputs isEmpty upFrom
@@ -34,11 +35,11 @@ cleanable-again K served S good w =
     let again = subst (Writable K) (sym (summary-again K served S good)) w in record {
       fits = files-fit K served S good (w .1);
       files = some-output K served S good;
+      references = none-carried K S;
       records = records-within K served S good;
       numbers = numbers-within K served S good;
       rules = files-rules K served S good;
       newLists = rw (archive-again K served S good) (few-entries K served S good);
-      references = rw (archive-again K served S good) (few-citations K served S good);
       survivors = rw (archive-again K served S good) (groups-survive K served S good);
       chains = again .0;
       spans = again .1;

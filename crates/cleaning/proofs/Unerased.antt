@@ -1,8 +1,7 @@
 -- An archive in which nobody is erased, each number of a list once: every list is its own new list, every number its own new number, so that the
 -- cleaned form of a good summary's rows is that summary.
 use mathlib.Core.Path.{_≡_, refl, ap, ap₂, sym, _∙_}
-use mathlib.Core.Bool.{Bool, true, false, cond, _||_, not}
-use mathlib.Core.Logic.{inl, inr}
+use mathlib.Core.Bool.{Bool, true, false, cond}
 use mathlib.Core.List.{List, [], _∷_, map, map-id}
 use mathlib.Core.Option.{Option, none, some}
 use Prim.Native.Nat.{ℕ, zero, suc, _+_, _-_, _≤_, _<_}
@@ -11,12 +10,7 @@ use native.Mathlib.Nat.{not-suc-le-zero, le-of-suc-le-suc, add-zero, zero-add}
 use borrow.Author.Tests.{ltb-true, ltb-false}
 use lib.Dec.{ltb}
 use lib.ListN.{length, getD, take, List·getD-map}
-use Rattle.lists.specs.Lists.{flat, once, distinct, upFrom, all, Each}
-use Rattle.lists.proofs.Tests.{both, tested}
-use Rattle.lists.proofs.From.{from-getD}
-use Rattle.archive.specs.File.{Reference}
-use Rattle.cleaning.specs.References.{namesEvent, citesBefore, citeOnce}
-use Rattle.cleaning.specs.Rewriting.{isFollowed, endsFrom, reach, reached, renewed, rewritten}
+use Rattle.lists.specs.Lists.{flat, once, distinct, upFrom, Each}
 use Rattle.lists.proofs.Each.{each-imp, each-all, each-getD}
 use Rattle.lists.proofs.Flat.{flat-ext, map-ext}
 use Rattle.lists.proofs.Once.{once-distinct}
@@ -27,7 +21,7 @@ use Rattle.cleaning.specs.Archive.{Group, Archive, blank, at, parentsOf}
 use Rattle.cleaning.specs.Routes.{passes, through, ends}
 use Rattle.cleaning.specs.Cleaning.{count, rank, renumber, newParents, survivorsFrom, survivors}
 use Rattle.cleaning.specs.Summary.{Kept, kept, Summary, sorted, groupSummary, keptBy, summary}
-use Rattle.cleaning.proofs.Good.{GoodLists, RowsFrom, GoodCites, GoodLinks, GoodGroup, Good}
+use Rattle.cleaning.proofs.Good.{GoodLists, RowsFrom, GoodLinks, GoodGroup, Good}
 use Rattle.cleaning.proofs.Inj.{renumber-before, renumber-past}
 use Rattle.lists.proofs.Filters.{map-places}
 use Rattle.cleaning.proofs.Outputs.{eventOf}
@@ -38,7 +32,7 @@ unerased S = record { start = S .start; subject = S .subject; groups = S .groups
 
 -- no row
 abbrev pub blankRow : Kept
-blankRow = kept (blank .body) (blank .parents) (blank .references)
+blankRow = kept (blank .body) (blank .parents)
 
 -- the row of a number
 abbrev pub rowAt : Summary → ℕ → Kept
@@ -130,43 +124,6 @@ module _ (K : ℕ) (served : Served K) (S : Summary) (good : Good K S) (i : ℕ)
       (each-getD (λ qs. Each (λ q. q < p) qs) (row .parents) k [] (lists .below) inside))
       ∙ map-id ps)
 
-  -- every reference is followed to itself
-  reach-stays : (c : Reference) → reach (unerased S) c ≡ c ∷ []
-  unfolding reach isFollowed endsFrom
-  reach-stays c = elim (tested (isFollowed (unerased S) c)) [
-    | inl e ↦ rw (e, one-step S (c .kind) (suc (c .target - S .start)) (c .target))
-    | inr e ↦ rw e
-  ]
-
-  reaches-stay : (cs : List Reference) → flat (reach (unerased S)) cs ≡ cs
-  reaches-stay [] = refl
-  reaches-stay (c ∷ cs) = rw (reach-stays c, reaches-stay cs)
-
-  renewed-stays : (c : Reference) → citesBefore p c ≡ true → renewed (unerased S) c ≡ c
-  unfolding renewed citesBefore
-  renewed-stays c h = go (namesEvent c) refl h
-    where
-      go : (b : Bool) → namesEvent c ≡ b → (not (namesEvent c) || ltb (c .target) p) ≡ true
-          → cond b (record { kind = c .kind; space = c .space; target = renumber (unerased S) (c .target) }) c ≡ c
-      go false e h = refl
-      go true e h =
-          let below : ltb (c .target) p ≡ true = rw e at h in
-          let n = renumber-same S (c .target) (omega (arith, ltb-true (c .target) p below, l)) in
-          λ i. record { kind = c .kind; space = c .space; target = n i }
-
-  all-stay : (cs : List Reference) → all (citesBefore p) cs ≡ true → map (renewed (unerased S)) cs ≡ cs
-  unfolding all
-  all-stay [] h = refl
-  all-stay (c ∷ cs) h = let q = both (citesBefore p c) (all (citesBefore p) cs) h in rw (renewed-stays c (q .0), all-stay cs (q .1))
-
-  cites-stay : rewritten (unerased S) p ≡ row .references
-  unfolding rewritten reached
-  cites-stay =
-      let good-row = from-getD (λ n r. GoodCites n (r .references)) (S .start) (S .rows) i blankRow (good .cites) l in
-      ap (λ e. map (renewed (unerased S)) (citeOnce (flat (reach (unerased S)) (e .references)))) (at-row S p ∙ ap eventOf this-row)
-      ∙ ap (λ cs. map (renewed (unerased S)) (citeOnce cs)) (reaches-stay (row .references))
-      ∙ ap (map (renewed (unerased S))) (good-row .once) ∙ all-stay (row .references) (good-row .earlier)
-
   row-stays : keptBy K (unerased S) p ≡ row
   unfolding keptBy
   row-stays =
@@ -175,7 +132,7 @@ module _ (K : ℕ) (served : Served K) (S : Summary) (good : Good K S) (i : ℕ)
       let same : map new (upFrom 0 K) ≡ row .parents =
       ap (λ n. map new (upFrom 0 n)) (sym (lists .each-kind))
       ∙ map-places new 0 (row .parents) [] (λ k h. ap new (zero-add k) ∙ parents-stay k (omega (arith, lists .each-kind))) in
-      λ j. record { body = ap (λ e. e .body) (at-row S p ∙ ap eventOf this-row) j; parents = same j; references = cites-stay j }
+      λ j. record { body = ap (λ e. e .body) (at-row S p ∙ ap eventOf this-row) j; parents = same j }
 
 -- ── the summary ──────────────────────────────────────────────────────────────────────────────
 

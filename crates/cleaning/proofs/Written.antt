@@ -10,12 +10,12 @@ use borrow.Author.Tests.{le-leb, le-ltb}
 use Rattle.lists.specs.Lists.{isEmpty, last}
 use Rattle.columns.specs.Limits.{Served, maxNumbers}
 use Rattle.columns.specs.Refusal.{unless, refuse}
-use Rattle.columns.specs.declared.refusal.Refusal.the-variants.{OverRecords, OverNumbers, GroupOrder, NoSurvivor}
+use Rattle.columns.specs.declared.refusal.Refusal.the-variants.{OverRecords, OverNumbers, GroupOrder, NoSurvivor, RecordBroken}
 use Rattle.archive.specs.File.{File}
 use Rattle.archive.specs.Encode.{encode}
 use Rattle.archive.proofs.Round.{parse-encode}
 use Rattle.cleaning.specs.Source.{sourceOf}
-use Rattle.cleaning.specs.Taking.{overRecords, overNumbers, takeRules}
+use Rattle.cleaning.specs.Taking.{overRecords, overNumbers, carries, takeRules}
 use Rattle.cleaning.specs.Memo.{tables}
 use Rattle.cleaning.specs.Resolving.{entries, groupsSurvive, resolveRules}
 use Rattle.cleaning.specs.Writing.{written}
@@ -23,36 +23,29 @@ use Rattle.cleaning.specs.Step.{takes, resolves, writes, done, wrote, al
 use Rattle.cleaning.specs.History.{archiveOfFiles, history, Wrote, cleaned}
 use Rattle.cleaning.specs.Accepted.{Cleanable, Accepted}
 use Rattle.columns.proofs.FirstBroken.{none-of, passes, fails}
-use Rattle.cleaning.proofs.Taken.{Followed, taken-followed}
-use Rattle.cleaning.proofs.Events.{valid-sources, cites-sources}
+use Rattle.cleaning.proofs.Taken.{taken-followed}
+use Rattle.cleaning.proofs.Events.{valid-sources}
 use Rattle.cleaning.proofs.Tabled.{tabled-summary}
 use Rattle.cleaning.proofs.Goodness.{not-empty}
 use Rattle.cleaning.proofs.WriteRules.{nothing-refused}
-use Rattle.cleaning.specs.Rewriting.{citations}
 
 module _ (K : ℕ) (served : Served K) (fs : List File) (c : Cleanable K fs) where
   -- ── the rules of each call ───────────────────────────────────────────────────────────────────
 
   take-none : takeRules K [] fs ≡ none
   unfolding takeRules last
-  take-none = none-of _ (fails OverRecords (overRecords [] fs) (c .records), (fails OverNumbers (overNumbers [] fs) (c .numbers), (c .rules, tt)))
-
-  followed : Followed K none (map (sourceOf K) fs)
-  followed = taken-followed K served none fs (c .rules)
+  take-none = none-of _
+      (fails RecordBroken (carries fs) (c .references), (fails OverRecords (overRecords [] fs) (c .records), (fails OverNumbers (overNumbers [] fs) (c .numbers), (c .rules, tt))))
 
   resolve-none : resolveRules (record { sources = map (sourceOf K) fs }) (archiveOfFiles K fs) (tables K (archiveOfFiles K fs)) ≡ none
   unfolding resolveRules
   resolve-none =
       let few = ltb maxNumbers (entries (tables K (archiveOfFiles K fs))) in
-      none-of _ (
+      none-of (refuse GroupOrder (isEmpty (map (sourceOf K) fs)) ∷ refuse OverNumbers few ∷ refuse NoSurvivor (not (groupsSurvive (archiveOfFiles K fs))) ∷ []) (
         fails GroupOrder (isEmpty (map (sourceOf K) fs)) (not-empty K served fs (c .files)),
         (
           fails OverNumbers few (le-ltb maxNumbers (entries (tables K (archiveOfFiles K fs))) (c .newLists)),
-          (
-            fails OverNumbers (ltb maxNumbers (citations (archiveOfFiles K fs) (tables K (archiveOfFiles K fs))))
-                (le-ltb maxNumbers (citations (archiveOfFiles K fs) (tables K (archiveOfFiles K fs))) (c .references)),
-            (passes NoSurvivor (groupsSurvive (archiveOfFiles K fs)) (c .survivors), tt),
-          ),
+          (passes NoSurvivor (groupsSurvive (archiveOfFiles K fs)) (c .survivors), tt),
         ),
       )
 
@@ -71,7 +64,7 @@ module _ (K : ℕ) (served : Served K) (fs : List File) (c : Cleanable K fs) whe
   unfolding step written unless cleaned
   written-then room l =
       rw (
-        tabled-summary K served (archiveOfFiles K fs) (valid-sources K served (map (sourceOf K) fs) followed) (cites-sources K served (map (sourceOf K) fs) followed),
+        tabled-summary K served (archiveOfFiles K fs) (valid-sources K served (map (sourceOf K) fs) (taken-followed K served none fs (c .rules))),
         nothing-refused K served fs c,
         le-leb (length (cleaned K (archiveOfFiles K fs))) room l,
       )

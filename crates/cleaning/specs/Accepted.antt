@@ -12,8 +12,7 @@ use Rattle.columns.specs.Building.{Graph, seqsRise, deltasFit, granuleStart, fo
 use Rattle.archive.specs.File.{File}
 use Rattle.archive.specs.Fits.{FileFits}
 use Rattle.archive.specs.Encode.{encode}
-use Rattle.cleaning.specs.Taking.{overRecords, overNumbers, filesRules}
-use Rattle.cleaning.specs.Rewriting.{citations}
+use Rattle.cleaning.specs.Taking.{overRecords, overNumbers, filesRules, carries}
 use Rattle.cleaning.specs.Memo.{tables}
 use Rattle.cleaning.specs.Summary.{summary}
 use Rattle.cleaning.specs.Resolving.{entries, groupsSurvive}
@@ -33,15 +32,15 @@ chainsRise g = labelsRise (g .labels)
 unfoldable pub spansFit : (K : ℕ) → Graph → Bool
 spansFit K g = deltasFit K (granuleStart g) (forwardPart K g) && (deltasFit K (granuleStart g) (reversePart K g) && deltasFit K (granuleStart g) (inboundPart K g))
 
--- valid files within the limits, with a survivor in every group and neither 10 nor 15 at writing
+-- valid files without references within the limits, with a survivor in every group and neither 10 nor 15 at writing
 pub record Cleanable (K : ℕ) (fs : List File) : Type 0 where
   pub fits : Each (FileFits K) fs
   pub files : isEmpty fs ≡ false
+  pub references : carries fs ≡ false
   pub records : overRecords [] fs ≡ false
   pub numbers : overNumbers [] fs ≡ false
   pub rules : filesRules K none fs ≡ none
   pub newLists : entries (tables K (archiveOfFiles K fs)) ≤ maxNumbers
-  pub references : citations (archiveOfFiles K fs) (tables K (archiveOfFiles K fs)) ≤ maxNumbers
   pub survivors : groupsSurvive (archiveOfFiles K fs) ≡ true
   pub chains : all (λ g. chainsRise (graphOf (summary K (archiveOfFiles K fs)) g)) (groupNumbers (summary K (archiveOfFiles K fs))) ≡ true
   pub spans : all (λ g. spansFit K (graphOf (summary K (archiveOfFiles K fs)) g)) (groupNumbers (summary K (archiveOfFiles K fs))) ≡ true

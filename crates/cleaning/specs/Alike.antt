@@ -1,5 +1,4 @@
 -- Demand 3: archives that are alike in what survives.
-use mathlib.Core.Bool.{true, false}
 use mathlib.Core.List.{List, List·Memᴰ}
 use mathlib.Core.Logic.{_⊎_, _↔_}
 use mathlib.Core.Option.{Option, none, some}
@@ -7,12 +6,9 @@ use mathlib.Core.Path.{_≡_}
 use Prim.Native.Nat.{ℕ, _≤_, _<_}
 use Rattle.lists.specs.Lists.{Pairs, once}
 use Rattle.cover.specs.Chains.{Link}
-use Rattle.archive.specs.File.{Reference}
 use Rattle.cleaning.specs.Archive.{Group, Archive, at}
 use Rattle.cleaning.specs.Routes.{ends}
 use Rattle.cleaning.specs.Cleaning.{rank, survivors}
-use Rattle.cleaning.specs.References.{namesEvent}
-use Rattle.cleaning.specs.Rewriting.{reached}
 
 -- the same links as a set
 abbrev pub SameSet : List Link → List Link → Type 0
@@ -33,13 +29,6 @@ pub record SameGroup (g h : Group) : Type 0 where
 unfoldable pub SameEnd : Archive → Archive → ℕ → ℕ → Type 0
 SameEnd A B p q = ((p < A .start) × (p ≡ q)) ⊎ ((A .start ≤ p) × (B .start ≤ q) × (rank A p ≡ rank B q))
 
--- the same reference: to the same end where it names an event, else to the same target
-pub record SameReference (A B : Archive) (r s : Reference) : Type 0 where
-  pub same-kind : r .kind ≡ s .kind
-  pub same-space : r .space ≡ s .space
-  pub same-event : namesEvent r ≡ true → SameEnd A B (r .target) (s .target)
-  pub same-target : namesEvent r ≡ false → r .target ≡ s .target
-
 -- survivor p of A and survivor q of B
 pub record SameSurvivor (K : ℕ) (A B : Archive) (p q : ℕ) : Type 0 where
   pub same-group : (at A p) .body .group ≡ (at B q) .body .group
@@ -47,7 +36,6 @@ pub record SameSurvivor (K : ℕ) (A B : Archive) (p q : ℕ) : Type 0 where
   pub same-label : (at A p) .body .label ≡ (at B q) .body .label
   pub same-root : (at A p) .body .root ≡ (at B q) .body .root
   pub same-unresolved : (at A p) .body .unresolved ≡ (at B q) .body .unresolved
-  pub same-references : Pairs (SameReference A B) (reached A p) (reached B q)
   pub same-ends : (k : ℕ) → k < K → Pairs (SameEnd A B) (once (ends A k p)) (once (ends B k q))
 
 pub record Alike (K : ℕ) (A B : Archive) : Type 0 where

@@ -9,7 +9,7 @@ use Rattle.lists.specs.Lists.{flat, filter, part}
 use Rattle.columns.specs.Reading.{Label}
 use Rattle.columns.specs.Building.{Depth}
 use Rattle.cover.specs.Chains.{Link}
-use Rattle.archive.specs.File.{Row, Unresolved, Root, Reference}
+use Rattle.archive.specs.File.{Row, Unresolved, Root}
 use Rattle.cleaning.specs.Source.{SourceCover, Source}
 
 -- what a run has taken: its sources, in order
@@ -19,7 +19,7 @@ pub record Taken : Type 0 where
 -- ── events ───────────────────────────────────────────────────────────────────────────────────
 
 -- an unresolved reference: a kind, and the host's handle of a parent
-pub record Unanswered : Type 0 where
+pub record Reference : Type 0 where
   pub kind : ℕ
   pub handle : ℕ
 
@@ -29,14 +29,13 @@ pub record Body : Type 0 where
   pub tag : ℕ
   pub label : Option Label
   pub root : Option ℕ
-  pub unresolved : List Unanswered
+  pub unresolved : List Reference
 
--- an event: whether it is erased, what follows it, its parents, a list for each kind, and its own references
+-- an event: whether it is erased, what follows it, and its parents, a list for each kind
 pub record Event : Type 0 where
   pub erased : Bool
   pub body : Body
   pub parents : List (List ℕ)
-  pub references : List Reference
 
 -- whether a run holds the event of a number as erased: by its row's flag as taken
 unfoldable pub isErased : Taken → ℕ → Row → Bool
@@ -52,7 +51,7 @@ rootIn [] row = none
 rootIn (r ∷ rs) row = cond (eqb (r .row) row) (some (r .handle)) (rootIn rs row)
 
 -- the unresolved references of a number
-unfoldable pub referencesIn : List Unresolved → ℕ → List Unanswered
+unfoldable pub referencesIn : List Unresolved → ℕ → List Reference
 referencesIn us number = map (λ u. record { kind = u .kind; handle = u .handle }) (filter (λ u. eqb (u .child) number) us)
 
 unfoldable pub bodyOf : Source → ℕ → Row → Body
@@ -68,8 +67,7 @@ bodyOf s i row = record {
 unfoldable pub eventsFrom : (K : ℕ) → Taken → Source → ℕ → List Row → List Event
 eventsFrom K t s i [] = []
 eventsFrom K t s i (row ∷ rows) =
-    record { erased = isErased t (s .first + i) row; body = bodyOf s i row; parents = part (K * i) K (s .forward); references = getD (s .references) i [] }
-    ∷ eventsFrom K t s (suc i) rows
+    record { erased = isErased t (s .first + i) row; body = bodyOf s i row; parents = part (K * i) K (s .forward) } ∷ eventsFrom K t s (suc i) rows
 
 abbrev pub eventsOf : (K : ℕ) → Taken → List Event
 eventsOf K t = flat (λ s. eventsFrom K t s 0 (s .rows)) (t .sources)
@@ -140,7 +138,7 @@ archiveOf K t = record { start = startOf (t .sources); subject = subjectOf (t .s
 
 -- no event: what a number outside the archive looks up
 abbrev pub blank : Event
-blank = record { erased = false; body = record { group = 0; tag = 0; label = none; root = none; unresolved = [] }; parents = []; references = [] }
+blank = record { erased = false; body = record { group = 0; tag = 0; label = none; root = none; unresolved = [] }; parents = [] }
 
 -- the event of a number at or past the start
 unfoldable pub at : Archive → ℕ → Event

@@ -5,9 +5,7 @@ use Rattle.cleaning.specs.Held
 use Rattle.cleaning.specs.Lines
 use Rattle.cleaning.specs.Listed
 use Rattle.cleaning.specs.Memo
-use Rattle.cleaning.specs.References
 use Rattle.cleaning.specs.Resolving
-use Rattle.cleaning.specs.Rewriting
 use Rattle.cleaning.specs.Routes
 use Rattle.cleaning.specs.Runs
 use Rattle.cleaning.specs.Sections
@@ -29,9 +27,7 @@ unfolding
     Lines.digitsFrom Lines.decimal Lines.signed Lines.line Lines.refusedLine Lines.mapLine Lines.setLines Lines.fileLines Lines.listingText
     Listed.fileNeed Listed.filesNeed Listed.listingNeed Listed.listed
     Memo.addParent Memo.memo Memo.tables
-    References.namesEvent References.citesBefore References.sameReference References.cite References.citeOnce
     Resolving.entries Resolving.survivesIn Resolving.groupsSurvive Resolving.resolveRules
-    Rewriting.isFollowed Rewriting.endsFrom Rewriting.reach Rewriting.reached Rewriting.renewed Rewriting.rewritten Rewriting.comesTo Rewriting.followIn Rewriting.rewrittenIn Rewriting.citations Rewriting.CitesEarlier
     Routes.passes Routes.through Routes.ends Routes.Valid
     Runs.slotted Runs.heldRules Runs.resolveHeld Runs.runStep
     Sections.labelsFit Sections.reaches Sections.place Sections.between Sections.sectionStart Sections.sectionRows Sections.rowEdges Sections.otherRows Sections.childLists Sections.sectionGraph Sections.sectionFile Sections.sectionFaults Sections.sectionRules Sections.sectionBytes
@@ -39,7 +35,7 @@ unfolding
     Source.sourceOf
     Step.resolve Step.step
     Summary.keptBy Summary.summary Summary.keptIn Summary.tabled
-    Survivors.keep Survivors.rankIn Survivors.keepSlots Survivors.keepUnresolved Survivors.keepRoots Survivors.sortGroups Survivors.survivorSheet Survivors.survivorReferences
-    Taking.total Taking.groupCount Taking.overRecords Taking.overNumbers Taking.unresolvedRules Taking.allBefore Taking.fileRules Taking.filesRules Taking.takeRules
+    Survivors.keep Survivors.rankIn Survivors.keepSlots Survivors.keepUnresolved Survivors.keepRoots Survivors.sortGroups Survivors.survivorSheet
+    Taking.total Taking.groupCount Taking.overRecords Taking.overNumbers Taking.unresolvedRules Taking.fileRules Taking.filesRules Taking.carries Taking.takeRules
     Writing.numberedFrom Writing.numbered Writing.rowsIn Writing.unresolvedOf Writing.rootsFrom Writing.labelsIn Writing.labelColumns Writing.edgesInto Writing.edgesOf Writing.inboundColumns Writing.slotsOfRows Writing.unresolvedColumns Writing.graphOfRows Writing.graphOf Writing.outputOf Writing.outputs Writing.writeRules Writing.bytesOf Writing.written
 computes = tt

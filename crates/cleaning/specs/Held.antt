@@ -1,5 +1,5 @@
 -- What a run holds of its sources, whose files may be any number: their rows and records joined into one sheet, with the flags of the rows, the
--- lists of the other two sets, the number of ranges and the references row by row. It is all that a later call depends on: proofs/Holding.
+-- lists of the other two sets and the number of ranges. It is all that a later call depends on: proofs/Holding.
 use mathlib.Core.Bool.{Bool, true, false, cond, _||_}
 use mathlib.Core.List.{List, [], _∷_, _++_, map, foldl}
 use mathlib.Core.Option.{Option, none, some}
@@ -12,11 +12,11 @@ use Rattle.columns.specs.Refusal.{Verdict, refused, unless, refuse, firstOf}
 use Rattle.columns.specs.declared.refusal.Refusal.{Refusal}
 use Rattle.columns.specs.declared.refusal.Refusal.the-variants.{OverRecords, OverNumbers, RecordBroken}
 use Rattle.cover.specs.Chains.{Link}
-use Rattle.archive.specs.File.{Root, Reference, File}
+use Rattle.archive.specs.File.{Root, File}
 use Rattle.archive.specs.Reader.{Parsed, broken, got}
 use Rattle.cleaning.specs.Source.{SourceCover, Source, sourceOf, isThere, rangeCount}
 use Rattle.cleaning.specs.Archive.{Event, Archive, labelIn, joinDepth}
-use Rattle.cleaning.specs.Taking.{storedRanges, storedLinkCount, filesRules}
+use Rattle.cleaning.specs.Taking.{storedRanges, storedLinkCount, filesRules, carries}
 use Rattle.cleaning.specs.Sheet.{Facts, GroupLink, Sheet, rowCount, bodyAt, parentsAt, groupsOfSheet}
 
 pub record Held : Type 0 where
@@ -25,7 +25,6 @@ pub record Held : Type 0 where
   pub reverse : List (List ℕ)
   pub inbound : List (List ℕ)
   pub ranges : ℕ
-  pub references : List (List Reference)
 
 -- nothing taken
 unfoldable pub nothing : Held
@@ -35,7 +34,6 @@ nothing = record {
   reverse = [];
   inbound = [];
   ranges = 0;
-  references = [];
 }
 
 -- ── a source more ────────────────────────────────────────────────────────────────────────────
@@ -80,7 +78,6 @@ heldWith h s = record {
   reverse = h .reverse ++ s .reverse;
   inbound = h .inbound ++ s .inbound;
   ranges = h .ranges + rangeCount (s .cover);
-  references = h .references ++ s .references;
 }
 
 -- what a run holds of sources taken one after the other
@@ -90,8 +87,7 @@ heldOf ss = foldl heldWith nothing ss
 -- ── the archive that is held ─────────────────────────────────────────────────────────────────
 
 unfoldable pub eventAt : (K : ℕ) → Held → ℕ → Event
-eventAt K h i =
-    record { erased = getD (h .erased) i false; body = bodyAt (h .sheet) i; parents = parentsAt K (h .sheet) i; references = getD (h .references) i [] }
+eventAt K h i = record { erased = getD (h .erased) i false; body = bodyAt (h .sheet) i; parents = parentsAt K (h .sheet) i }
 
 unfoldable pub archiveHeld : (K : ℕ) → Held → Archive
 archiveHeld K h = record {
@@ -113,13 +109,12 @@ recordsOver h fs =
     || ltb maxRecords (length (h .sheet .links) + sum (λ f. storedLinkCount (f .cover)) fs)
     || ltb maxGroups (length (once (upFrom 0 (length (h .sheet .groups)) ++ map (λ f. f .group) fs)))
 
--- forward, reverse and inbound deltas; references
+-- forward, reverse and inbound deltas
 unfoldable pub numbersOver : Held → List File → Bool
 numbersOver h fs =
     ltb maxNumbers (sum length (h .sheet .lists) + sum (λ f. length (f .forward .deltas)) fs)
     || ltb maxNumbers (sum length (h .reverse) + sum (λ f. length (f .reverse .deltas)) fs)
     || ltb maxNumbers (sum length (h .inbound) + sum (λ f. length (f .inbound .deltas)) fs)
-    || ltb maxNumbers (sum length (h .references) + sum (λ f. sum length (f .references)) fs)
 
 -- a source that ends at a number: of all that it could hold, a file looks back at its group, its subject, its end and whether it has a cover
 unfoldable pub ending : ℕ → List ℕ → ℕ → Bool → Source
@@ -135,7 +130,6 @@ ending group subject end covered = record {
   unresolved = [];
   roots = [];
   cover = cond covered (some (record { labels = []; ranges = 0; links = [] })) none;
-  references = [];
 }
 
 abbrev pub noFacts : Facts
@@ -147,9 +141,10 @@ lookBack s =
     let g = length (s .groups) - 1 in
     cond (isEmpty (s .groups)) none (some (ending g (s .subject) (s .start + rowCount s) ((getD (s .groups) g noFacts) .covered)))
 
--- 42, 43, then file by file
+-- 23 of references, 42, 43, then file by file
 unfoldable pub holdRules : (K : ℕ) → Held → List File → Option Refusal
-holdRules K h fs = firstOf (refuse OverRecords (recordsOver h fs) ∷ refuse OverNumbers (numbersOver h fs) ∷ filesRules K (lookBack (h .sheet)) fs ∷ [])
+holdRules K h fs =
+    firstOf (refuse RecordBroken (carries fs) ∷ refuse OverRecords (recordsOver h fs) ∷ refuse OverNumbers (numbersOver h fs) ∷ filesRules K (lookBack (h .sheet)) fs ∷ [])
 
 -- what a run holds with an archive more; 23 comes first
 abbrev pub holdMore : (K : ℕ) → Held → Parsed (List File) → Verdict Held

@@ -1,10 +1,8 @@
-pub mod References
 pub mod Source
 pub mod Taking
 pub mod Archive
 pub mod Routes
 pub mod Cleaning
-pub mod Rewriting
 pub mod Memo
 pub mod Summary
 pub mod Resolving

@@ -1,4 +1,4 @@
--- Document 01, 24, 43, 27, and document 02, L1: what resolving refuses.
+-- Document 01, 24, 43, 27: what resolving refuses.
 use mathlib.Core.Bool.{Bool, _&&_, not}
 use mathlib.Core.List.{List, [], _∷_}
 use mathlib.Core.Option.{Option}
@@ -11,7 +11,6 @@ use Rattle.columns.specs.Refusal.{refuse, firstOf}
 use Rattle.columns.specs.declared.refusal.Refusal.{Refusal}
 use Rattle.columns.specs.declared.refusal.Refusal.the-variants.{GroupOrder, OverNumbers, NoSurvivor}
 use Rattle.cleaning.specs.Archive.{Event, Archive, Taken}
-use Rattle.cleaning.specs.Rewriting.{citations}
 
 -- the entries of all events' new lists of all kinds, erased events' own lists too
 unfoldable pub entries : List (List (List ℕ)) → ℕ
@@ -25,11 +24,10 @@ survivesIn g e = not (e .erased) && eqb (e .body .group) g
 unfoldable pub groupsSurvive : Archive → Bool
 groupsSurvive A = all (λ g. any (survivesIn g) (A .events)) (upFrom 0 (length (A .groups)))
 
--- no source, too many entries in the new lists or references of survivors, an output file without a survivor
+-- no source, too many entries in the new lists, an output file without a survivor
 unfoldable pub resolveRules : Taken → Archive → List (List (List ℕ)) → Option Refusal
 resolveRules t A ts =
     firstOf (refuse GroupOrder (isEmpty (t .sources))
     ∷ refuse OverNumbers (ltb maxNumbers (entries ts))
-    ∷ refuse OverNumbers (ltb maxNumbers (citations A ts))
     ∷ refuse NoSurvivor (not (groupsSurvive A))
     ∷ [])

@@ -12,7 +12,6 @@ use Rattle.columns.specs.Refusal
 use Rattle.columns.specs.Refusal.{Verdict, refuse, firstOf}
 use Rattle.columns.specs.declared.refusal.Refusal.{Refusal}
 use Rattle.columns.specs.declared.refusal.Refusal.the-variants.{OutOfTurn, GroupOrder, OverNumbers, NoSurvivor}
-use Rattle.archive.specs.File.{Reference}
 use Rattle.archive.specs.Parse.{parse}
 use Rattle.cleaning.specs.Archive.{Archive}
 use Rattle.cleaning.specs.Cleaning.{mapped, reparented}
@@ -23,13 +22,12 @@ use Rattle.cleaning.specs.Listed.{listed}
 use Rattle.cleaning.specs.Step.{Call, takes, resolves, writes, maps, counts, lists, Answer, refused, done, told, counted, writeInto, listInto}
 use Rattle.cleaning.specs.Sheet.{Sheet, summaryOf}
 use Rattle.cleaning.specs.Held.{Held, nothing, archiveHeld, holdMore}
-use Rattle.cleaning.specs.Rewriting.{citations}
-use Rattle.cleaning.specs.Survivors.{survivorSheet, survivorReferences}
+use Rattle.cleaning.specs.Survivors.{survivorSheet}
 
--- a run by phase: taking sources; resolved, with the sheet of its survivors and their references; and `spoiled`, which is no run that calls make
+-- a run by phase: taking sources; resolved, with the sheet of its survivors; and `spoiled`, which is no run that calls make
 pub data RunState : Type 0 where
   taking : Held → RunState
-  resolved : Held → Sheet → List (List Reference) → RunState
+  resolved : Held → Sheet → RunState
   spoiled : RunState
 
 -- a fresh run has taken nothing
@@ -54,19 +52,18 @@ unfoldable pub heldRules : Held → Archive → List (List (List ℕ)) → Optio
 heldRules h A ts =
     firstOf (refuse GroupOrder (isEmpty (h .sheet .groups))
     ∷ refuse OverNumbers (ltb maxNumbers (entries ts))
-    ∷ refuse OverNumbers (ltb maxNumbers (citations A ts))
     ∷ refuse NoSurvivor (not (groupsSurvive A))
     ∷ [])
 
-abbrev pub resolveInto : Held → Sheet → List (List Reference) → Option Refusal → RunOutcome
-resolveInto h s cites none = runOutcome (resolved h s cites) done
-resolveInto h s cites (some r) = runOutcome (taking h) (refused r)
+abbrev pub resolveInto : Held → Sheet → Option Refusal → RunOutcome
+resolveInto h s none = runOutcome (resolved h s) done
+resolveInto h s (some r) = runOutcome (taking h) (refused r)
 
 unfoldable pub resolveHeld : (K : ℕ) → Held → RunOutcome
 resolveHeld K h =
     let A = archiveHeld K h in
     let ts = tables K A in
-    resolveInto h (survivorSheet K h (slotted (length (A .events)) ts)) (survivorReferences A ts) (heldRules h A ts)
+    resolveInto h (survivorSheet K h (slotted (length (A .events)) ts)) (heldRules h A ts)
 
 -- ── every call ───────────────────────────────────────────────────────────────────────────────
 
@@ -81,10 +78,10 @@ runStep K (taking h) (writes room) = runOutcome (taking h) (refused OutOfTurn)
 runStep K (taking h) (maps p) = runOutcome (taking h) (refused OutOfTurn)
 runStep K (taking h) counts = runOutcome (taking h) (refused OutOfTurn)
 runStep K (taking h) (lists room) = runOutcome (taking h) (refused OutOfTurn)
-runStep K (resolved h s c) (takes b) = runOutcome (resolved h s c) (refused OutOfTurn)
-runStep K (resolved h s c) resolves = runOutcome (resolved h s c) (refused OutOfTurn)
-runStep K (resolved h s c) (writes room) = runOutcome (resolved h s c) (writeInto room (written K (summaryOf K s c)))
-runStep K (resolved h s c) (maps p) = runOutcome (resolved h s c) (told (mapped (archiveHeld K h) p))
-runStep K (resolved h s c) counts = runOutcome (resolved h s c) (counted (reparented (archiveHeld K h)))
-runStep K (resolved h s c) (lists room) = runOutcome (resolved h s c) (listInto (listed K room (archiveHeld K h) (summaryOf K s c)))
-runStep K spoiled d = runOutcome spoiled (refused OutOfTurn)
+runStep K (resolved h s) (takes b) = runOutcome (resolved h s) (refused OutOfTurn)
+runStep K (resolved h s) resolves = runOutcome (resolved h s) (refused OutOfTurn)
+runStep K (resolved h s) (writes room) = runOutcome (resolved h s) (writeInto room (written K (summaryOf K s)))
+runStep K (resolved h s) (maps p) = runOutcome (resolved h s) (told (mapped (archiveHeld K h) p))
+runStep K (resolved h s) counts = runOutcome (resolved h s) (counted (reparented (archiveHeld K h)))
+runStep K (resolved h s) (lists room) = runOutcome (resolved h s) (listInto (listed K room (archiveHeld K h) (summaryOf K s)))
+runStep K spoiled c = runOutcome spoiled (refused OutOfTurn)

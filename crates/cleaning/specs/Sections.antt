@@ -17,7 +17,7 @@ use Rattle.columns.specs.declared.refusal.Refusal.{Refusal}
 use Rattle.columns.specs.declared.refusal.Refusal.the-variants.{SubjectLength, UnresolvedKind, DepthOrder, SeqNotRising, DeltaRange}
 use Rattle.cover.specs.Chains.{Link, rangesOf}
 use Rattle.cover.specs.Cover.{columnsOf}
-use Rattle.archive.specs.File.{Row, Unresolved, Root, CoverColumns, Reference, noReferences, File}
+use Rattle.archive.specs.File.{Row, Unresolved, Root, CoverColumns, noReferences, File}
 use Rattle.archive.specs.Encode.{encode}
 use Rattle.cleaning.specs.Source.{isThere}
 use Rattle.cleaning.specs.Writing.{Edge, labelList, labelColumns, edgesInto, inboundColumns, unresolvedColumns}
@@ -162,12 +162,8 @@ sectionGraph K s g = record {
 abbrev pub unerasedRow : ℕ → Row
 unerasedRow tag = record { erased = false; tag = tag }
 
--- the references of the rows
-abbrev pub sectionReferences : Sheet → List (List Reference) → ℕ → List (List Reference)
-sectionReferences s cites g = part (sectionStart s g) (sectionRows s g) cites
-
-abbrev pub sectionFileOf : Sheet → List (List Reference) → ℕ → Built → File
-sectionFileOf s cites g b = record {
+abbrev pub sectionFileOf : Sheet → ℕ → Built → File
+sectionFileOf s g b = record {
   first = sectionFirst s g;
   group = g;
   subject = s .subject;
@@ -179,12 +175,12 @@ sectionFileOf s cites g b = record {
   unresolved = sectionUnresolved s g;
   roots = sectionRoots s g;
   cover = coverWhere ((factsOf s g) .covered) (sectionLabels s g) (sectionLinks s g);
-  references = sectionReferences s cites g;
+  references = noReferences (sectionTags s g);
 }
 
 -- the output file of a group
-unfoldable pub sectionFile : (K : ℕ) → Sheet → List (List Reference) → ℕ → File
-sectionFile K s cites g = sectionFileOf s cites g (builtOf K (sectionGraph K s g))
+unfoldable pub sectionFile : (K : ℕ) → Sheet → ℕ → File
+sectionFile K s g = sectionFileOf s g (builtOf K (sectionGraph K s g))
 
 -- of building's rules those that a run's survivors can break, in building's order
 unfoldable pub sectionFaults : (K : ℕ) → Sheet → ℕ → Option Refusal
@@ -202,32 +198,25 @@ unfoldable pub sectionRules : (K : ℕ) → Sheet → Option Refusal
 sectionRules K s = firstIn (λ g. buildRules K (sectionGraph K s g)) (upFrom 0 (length (s .groups)))
 
 -- the archive's bytes
-unfoldable pub sectionBytes : (K : ℕ) → Sheet → List (List Reference) → List ℕ
-sectionBytes K s cites = encode (map (sectionFile K s cites) (upFrom 0 (length (s .groups))))
-
--- without references: what the records before the seventh are
-abbrev pub bareFile : (K : ℕ) → Sheet → ℕ → File
-bareFile K s g = sectionFile K s (noReferences (s .tags)) g
-
-abbrev pub bareBytes : (K : ℕ) → Sheet → List ℕ
-bareBytes K s = sectionBytes K s (noReferences (s .tags))
+unfoldable pub sectionBytes : (K : ℕ) → Sheet → List ℕ
+sectionBytes K s = encode (map (sectionFile K s) (upFrom 0 (length (s .groups))))
 
 -- ── room ─────────────────────────────────────────────────────────────────────────────────────
 
--- 380: a file with a cover but no rows and no records. The length, version and kind of seven records; the head with its subject; a count and one
+-- 374: a file with a cover but no rows and no records. The length, version and kind of six records; the head with its subject; a count and one
 -- offset for each set; the counts of unresolved records, roots, ranges and links
 abbrev pub bareSize : ℕ
-bareSize = 7 * 6 + (31 + maxSubject) + edgeSets * (4 + 8) + 4 * 4
+bareSize = 6 * 6 + (31 + maxSubject) + edgeSets * (4 + 8) + 4 * 4
 
--- what a row adds (69 for two kinds): its offsets in each set, whether it is erased and its tag, its label, the number of its references
+-- what a row adds (65 for two kinds): its offsets in each set, whether it is erased and its tag, its label
 abbrev pub rowSize : (K : ℕ) → ℕ
-rowSize K = edgeSets * (K * 8) + (1 + 8) + (4 + 4) + 4
+rowSize K = edgeSets * (K * 8) + (1 + 8) + (4 + 4)
 
--- room for so many files, rows, unresolved records, roots, ranges, links, entries of all sets and references
-abbrev pub roomFor : (K : ℕ) → ℕ → ℕ → ℕ → ℕ → ℕ → ℕ → ℕ → ℕ → ℕ
-roomFor K files rows unresolved roots ranges links entries references =
-    files * bareSize + (rows * rowSize K + (unresolved * 13 + (roots * 16 + (ranges * 12 + (links * 16 + (entries * 8 + references * 10))))))
+-- room for so many files, rows, unresolved records, roots, ranges, links and entries of all sets
+abbrev pub roomFor : (K : ℕ) → ℕ → ℕ → ℕ → ℕ → ℕ → ℕ → ℕ → ℕ
+roomFor K files rows unresolved roots ranges links entries =
+    files * bareSize + (rows * rowSize K + (unresolved * 13 + (roots * 16 + (ranges * 12 + (links * 16 + entries * 8)))))
 
 -- room for an archive whose every count is at its limit. An entry of the new lists is in a forward set, and once more in a reverse or inbound set
 abbrev pub maxArchiveSize : (K : ℕ) → ℕ
-maxArchiveSize K = roomFor K maxGroups maxRecords maxRecords maxRecords maxRecords maxRecords (maxNumbers + maxNumbers) maxNumbers
+maxArchiveSize K = roomFor K maxGroups maxRecords maxRecords maxRecords maxRecords maxRecords (maxNumbers + maxNumbers)

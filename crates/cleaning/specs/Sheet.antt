@@ -10,7 +10,7 @@ use Rattle.lists.specs.Lists.{filter, part, upFrom}
 use Rattle.columns.specs.Reading.{Label}
 use Rattle.columns.specs.Building.{Depth}
 use Rattle.cover.specs.Chains.{Link}
-use Rattle.archive.specs.File.{Unresolved, Root, Reference}
+use Rattle.archive.specs.File.{Unresolved, Root}
 use Rattle.cleaning.specs.Archive.{Body, Group, rootIn, referencesIn}
 use Rattle.cleaning.specs.Summary.{Kept, kept, Summary}
 
@@ -67,11 +67,11 @@ groupsFrom ls g (f ∷ fs) = record { depth = f .depth; links = cond (f .covered
 unfoldable pub groupsOfSheet : Sheet → List Group
 groupsOfSheet s = groupsFrom (s .links) 0 (s .groups)
 
--- the summary that a sheet of survivors holds, with their references row by row
-unfoldable pub summaryOf : (K : ℕ) → Sheet → List (List Reference) → Summary
-summaryOf K s cites = record {
+-- the summary that a sheet of survivors holds
+unfoldable pub summaryOf : (K : ℕ) → Sheet → Summary
+summaryOf K s = record {
   start = s .start;
   subject = s .subject;
   groups = groupsOfSheet s;
-  rows = map (λ i. kept (bodyAt s i) (parentsAt K s i) (getD cites i [])) (upFrom 0 (rowCount s));
+  rows = map (λ i. kept (bodyAt s i) (parentsAt K s i)) (upFrom 0 (rowCount s));
 }

@@ -1,15 +1,14 @@
 -- Document 01, "Cleaning": a source, which is what a run keeps of a file that it has taken, its columns read.
 use mathlib.Core.Bool.{Bool, true, false}
-use mathlib.Core.List.{List, [], map}
+use mathlib.Core.List.{List}
 use mathlib.Core.Option.{Option, none, some}
 use Prim.Native.Nat.{ℕ, _+_}
-use lib.ListN.{length, getD}
-use Rattle.lists.specs.Lists.{upFrom}
+use lib.ListN.{length}
 use Rattle.columns.specs.Reading.{Label, labelsOf, slotsOf}
 use Rattle.columns.specs.Building.{Depth}
 use Rattle.cover.specs.Chains.{Link}
 use Rattle.cover.specs.Cover.{storedLinks}
-use Rattle.archive.specs.File.{Row, Unresolved, Root, CoverColumns, Reference, File}
+use Rattle.archive.specs.File.{Row, Unresolved, Root, CoverColumns, File}
 
 -- a cover as read: labels, links, and the number of ranges, which counts for 42 and for nothing else
 pub record SourceCover : Type 0 where
@@ -17,7 +16,7 @@ pub record SourceCover : Type 0 where
   pub ranges : ℕ
   pub links : List Link
 
--- the lists of the three sets stand slot by slot, references row by row, a list for each
+-- the lists of the three sets stand slot by slot
 pub record Source : Type 0 where
   pub first : ℕ
   pub group : ℕ
@@ -30,7 +29,6 @@ pub record Source : Type 0 where
   pub unresolved : List Unresolved
   pub roots : List Root
   pub cover : Option SourceCover
-  pub references : List (List Reference)
 
 abbrev pub coverRead : Option CoverColumns → Option SourceCover
 coverRead none = none
@@ -50,7 +48,6 @@ sourceOf K f = record {
   unresolved = f .unresolved;
   roots = f .roots;
   cover = coverRead (f .cover);
-  references = map (λ i. getD (f .references) i []) (upFrom 0 (length (f .rows)));
 }
 
 -- one past a source's last number

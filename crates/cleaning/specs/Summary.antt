@@ -5,16 +5,13 @@ use Prim.Native.Nat.{ℕ, _-_}
 use lib.ListN.{getD}
 use Rattle.lists.specs.Lists.{upFrom}
 use Rattle.cover.specs.Chains.{Link, sortLinks}
-use Rattle.archive.specs.File.{Reference}
 use Rattle.cleaning.specs.Archive.{Body, Group, Archive, at}
 use Rattle.cleaning.specs.Cleaning.{newParents, survivors}
-use Rattle.cleaning.specs.Rewriting.{rewritten, rewrittenIn}
 
--- a survivor's row: what follows it, its new parents, a list for each kind, and its references rewritten
+-- a survivor's row: what follows it, and its new parents, a list for each kind
 pub record Kept : Type 0 where
   pub body : Body
   pub parents : List (List ℕ)
-  pub references : List Reference
 
 -- start, subject, groups with their links sorted and repeats dropped, survivors in old order
 pub record Summary : Type 0 where
@@ -30,15 +27,15 @@ sorted (some ls) = some (sortLinks ls)
 abbrev pub groupSummary : Group → Group
 groupSummary g = record { depth = g .depth; links = sorted (g .links) }
 
-abbrev pub kept : Body → List (List ℕ) → List Reference → Kept
-kept b lists cites = record { body = b; parents = lists; references = cites }
+abbrev pub kept : Body → List (List ℕ) → Kept
+kept b lists = record { body = b; parents = lists }
 
 abbrev pub summaryWith : (ℕ → Kept) → Archive → Summary
 summaryWith rowOf A = record { start = A .start; subject = A .subject; groups = map groupSummary (A .groups); rows = map rowOf (survivors A) }
 
 -- the row of a survivor by the routes
 unfoldable pub keptBy : (K : ℕ) → Archive → ℕ → Kept
-keptBy K A p = kept ((at A p) .body) (map (λ k. newParents A k p) (upFrom 0 K)) (rewritten A p)
+keptBy K A p = kept ((at A p) .body) (map (λ k. newParents A k p) (upFrom 0 K))
 
 -- an archive cleaned, by the routes
 unfoldable pub summary : (K : ℕ) → Archive → Summary
@@ -46,7 +43,7 @@ summary K A = summaryWith (keptBy K A) A
 
 -- the row of a survivor out of tables that hold every event's new lists, kind by kind
 unfoldable pub keptIn : Archive → List (List (List ℕ)) → ℕ → Kept
-keptIn A ts p = kept ((at A p) .body) (map (λ t. getD t (p - A .start) []) ts) (rewrittenIn A ts p)
+keptIn A ts p = kept ((at A p) .body) (map (λ t. getD t (p - A .start) []) ts)
 
 -- an archive cleaned, out of tables
 unfoldable pub tabled : Archive → List (List (List ℕ)) → Summary

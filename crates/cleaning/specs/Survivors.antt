@@ -6,11 +6,8 @@ use Prim.Native.Nat.{ℕ, _+_, _-_, _*_}
 use lib.ListN.{length, getD, take}
 use Rattle.lists.specs.Lists.{flat, filter, part, upFrom}
 use Rattle.cover.specs.Chains.{sortLinks}
-use Rattle.archive.specs.File.{Unresolved, Root, Reference}
+use Rattle.archive.specs.File.{Unresolved, Root}
 use Rattle.cleaning.specs.Sheet.{GroupLink, Sheet, linksOf}
-use Rattle.cleaning.specs.Archive.{Archive}
-use Rattle.cleaning.specs.Cleaning.{survivors}
-use Rattle.cleaning.specs.Rewriting.{rewrittenIn}
 use Rattle.cleaning.specs.Held.{Held}
 
 -- the elements of the rows that are not erased; flags and elements stand row by row
@@ -54,7 +51,3 @@ survivorSheet K h lists = let s = h .sheet in record {
   roots = keepRoots (h .erased) (s .roots);
   links = sortGroups (length (s .groups)) (s .links);
 }
-
--- the survivors' references, rewritten out of tables of every event's new lists, row by row
-unfoldable pub survivorReferences : Archive → List (List (List ℕ)) → List (List Reference)
-survivorReferences A ts = map (rewrittenIn A ts) (survivors A)

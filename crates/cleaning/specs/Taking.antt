@@ -2,23 +2,22 @@
 use mathlib.Core.Bool.{Bool, true, _&&_, _||_, not, Bool·beq}
 use mathlib.Core.List.{List, [], _∷_, _++_, map}
 use mathlib.Core.Option.{Option, none, some}
-use Prim.Native.Nat.{ℕ, suc, _+_}
+use Prim.Native.Nat.{ℕ, _+_}
 use lib.Dec.{ltb, eqb}
 use lib.ListN.{length}
-use Rattle.lists.specs.Lists.{all, sum, same, once, last}
+use Rattle.lists.specs.Lists.{all, any, sum, same, once, last}
 use Rattle.columns.specs.Limits.{maxRecords, maxGroups, maxNumbers, referenceKinds}
 use Rattle.columns.specs.Refusal.{Verdict, refused, unless, refuse, firstOf, firstIn}
 use Rattle.columns.specs.EdgeSet.{forward, reverse, inbound}
 use Rattle.columns.specs.Reading.{setRules}
 use Rattle.columns.specs.Building.{subjectOk, numbersOk, depthOk, inFile}
 use Rattle.columns.specs.declared.refusal.Refusal.{Refusal}
-use Rattle.columns.specs.declared.refusal.Refusal.the-variants.{SubjectLength, NumberRange, ParentNotEarlier, UnresolvedChild, UnresolvedKind, DepthOrder, RootOutside, GroupOrder}
+use Rattle.columns.specs.declared.refusal.Refusal.the-variants.{SubjectLength, NumberRange, UnresolvedChild, UnresolvedKind, DepthOrder, RootOutside, GroupOrder}
 use Rattle.columns.specs.declared.refusal.Refusal.the-variants.{SourceOrder, CoverInSome, OverRecords, OverNumbers, RecordBroken}
 use Rattle.cover.specs.Cover.{rangeRules, linkRules}
-use Rattle.archive.specs.File.{Unresolved, CoverColumns, Reference, File}
+use Rattle.archive.specs.File.{Unresolved, CoverColumns, anyReference, File}
 use Rattle.archive.specs.Reader.{Parsed, broken, got}
 use Rattle.cleaning.specs.Source.{Source, sourceOf, endOf, isThere, rangeCount, linkCount}
-use Rattle.cleaning.specs.References.{citesBefore}
 
 -- ── 42 and 43, over the run and the whole archive ────────────────────────────────────────────
 
@@ -48,13 +47,12 @@ overRecords ss fs =
     || ltb maxRecords (total (λ s. linkCount (s .cover)) (λ f. storedLinkCount (f .cover)) ss fs)
     || ltb maxGroups (groupCount ss fs)
 
--- forward, reverse and inbound deltas; references (document 02, L1)
+-- forward, reverse and inbound deltas
 unfoldable pub overNumbers : List Source → List File → Bool
 overNumbers ss fs =
     ltb maxNumbers (total (λ s. sum length (s .forward)) (λ f. length (f .forward .deltas)) ss fs)
     || ltb maxNumbers (total (λ s. sum length (s .reverse)) (λ f. length (f .reverse .deltas)) ss fs)
     || ltb maxNumbers (total (λ s. sum length (s .inbound)) (λ f. length (f .inbound .deltas)) ss fs)
-    || ltb maxNumbers (total (λ s. sum length (s .references)) (λ f. sum length (f .references)) ss fs)
 
 -- ── looking back: 24, 25, 26 ─────────────────────────────────────────────────────────────────
 
@@ -88,12 +86,7 @@ abbrev pub coverRules : Option CoverColumns → Option Refusal
 coverRules none = none
 coverRules (some c) = firstOf (rangeRules (c .ranges) ∷ linkRules (c .links) ∷ [])
 
--- document 02, L1: 4 of references, of rows from number n on
-unfoldable pub allBefore : ℕ → List (List Reference) → Bool
-allBefore n [] = true
-allBefore n (rs ∷ rss) = all (citesBefore n) rs && allBefore (suc n) rss
-
--- 1, 3, 8, 24, 25, 26, 17 to 19 set by set, 16, 6 and 7 record by record, 22, 4 of references; `before` is the source taken last
+-- 1, 3, 8, 24, 25, 26, 17 to 19 set by set, 16, 6 and 7 record by record, 22; `before` is the source taken last
 unfoldable pub fileRules : (K : ℕ) → Option Source → File → Option Refusal
 fileRules K before f =
     firstOf (refuse SubjectLength (not (subjectOk (f .subject)))
@@ -108,7 +101,6 @@ fileRules K before f =
     ∷ refuse RootOutside (not (all (λ r. ltb (r .row) (length (f .rows))) (f .roots)))
     ∷ firstIn (unresolvedRules f) (f .unresolved)
     ∷ coverRules (f .cover)
-    ∷ refuse ParentNotEarlier (not (allBefore (f .first) (f .references)))
     ∷ [])
 
 -- file after file, each looking back at the one before it
@@ -118,9 +110,14 @@ filesRules K before (f ∷ fs) = firstOf (fileRules K before f ∷ filesRules K 
 
 -- ── taking ───────────────────────────────────────────────────────────────────────────────────
 
--- 42, 43, then file by file; a refused taking takes nothing
+-- whether some file has a reference. A run does not carry references yet, so it refuses an archive that has any, with 23, and loses none in silence
+unfoldable pub carries : List File → Bool
+carries fs = any (λ f. anyReference (f .references)) fs
+
+-- 23 of references, 42, 43, then file by file; a refused taking takes nothing
 unfoldable pub takeRules : (K : ℕ) → List Source → List File → Option Refusal
-takeRules K ss fs = firstOf (refuse OverRecords (overRecords ss fs) ∷ refuse OverNumbers (overNumbers ss fs) ∷ filesRules K (last ss) fs ∷ [])
+takeRules K ss fs =
+    firstOf (refuse RecordBroken (carries fs) ∷ refuse OverRecords (overRecords ss fs) ∷ refuse OverNumbers (overNumbers ss fs) ∷ filesRules K (last ss) fs ∷ [])
 
 -- the sources of an archive that a run with sources `ss` is given; 23 comes first
 abbrev pub takenFrom : (K : ℕ) → List Source → Parsed (List File) → Verdict (List Source)

@@ -12,7 +12,7 @@ use Rattle.columns.specs.Building.{UnresolvedColumns, InboundColumns, Graph, Bu
 use Rattle.columns.specs.declared.refusal.Refusal.{Refusal}
 use Rattle.cover.specs.Chains.{Link, rangesOf}
 use Rattle.cover.specs.Cover.{columnsOf}
-use Rattle.archive.specs.File.{Unresolved, Root, CoverColumns, File}
+use Rattle.archive.specs.File.{Unresolved, Root, CoverColumns, noReferences, File}
 use Rattle.archive.specs.Encode.{encode}
 use Rattle.cleaning.specs.Archive.{Group}
 use Rattle.cleaning.specs.Summary.{Kept, Summary}
@@ -144,7 +144,7 @@ fileOfRows subject g group rs b = record {
   unresolved = flat unresolvedOf rs;
   roots = rootsFrom 0 rs;
   cover = coverOfGroup (group .links) rs;
-  references = map (λ r. r .row .references) rs;
+  references = noReferences rs;
 }
 
 -- the output file of a group: no erased rows, its sets made from the new lists, ranges of the survivors' labels

@@ -18,7 +18,7 @@ use Rattle.columns.specs.declared.refusal.Refusal.{Refusal}
 use Rattle.archive.specs.Encode.{fileBytes, encode}
 use Rattle.archive_store.specs.sizes.FileSize.{maxFileSize}
 use Rattle.cleaning.specs.Sheet.{Sheet}
-use Rattle.cleaning.specs.Sections.{sectionGraph, sectionFile, bareFile, sectionRules, sectionBytes, bareBytes}
+use Rattle.cleaning.specs.Sections.{sectionGraph, sectionFile, sectionRules, sectionBytes}
 use Rattle.columns.specs.Answers.{ruling}
 use Rattle.columns.specs.declared.refusal.Ruling.{Ruling}
 use Rattle.columns.specs.declared.refusal.Ruling.the-variants.{Kept, Broken}
@@ -34,7 +34,7 @@ unfoldable pub rulesFrom : Sheet → ℕ → ℕ → Option Refusal
 rulesFrom s g n = firstIn (λ k. buildRules kinds (sectionGraph kinds s k)) (upFrom g (n - g))
 
 unfoldable pub bytesFrom : Sheet → ℕ → ℕ → List ℕ
-bytesFrom s g n = encode (map (bareFile kinds s) (upFrom g (n - g)))
+bytesFrom s g n = encode (map (sectionFile kinds s) (upFrom g (n - g)))
 
 module _ (s : Sheet) (g n : ℕ) where
   no-more : n ≤ g → upFrom g (n - g) ≡ []
@@ -69,14 +69,14 @@ module _ (s : Sheet) (g n : ℕ) where
       go none d = refl
       go (some x) d = let z : _≡_ {A = ℕ} 0 1 = cc in absurd (omega arith)
 
-  pub bytes-next : g < n → bytesFrom s g n ≡ fileBytes (bareFile kinds s g) ++ bytesFrom s (suc g) n
+  pub bytes-next : g < n → bytesFrom s g n ≡ fileBytes (sectionFile kinds s g) ++ bytesFrom s (suc g) n
   unfolding bytesFrom encode
   bytes-next h = rw (more h)
 
 -- what the loop has come to at group g of n
 pub record Going (s : Sheet) (n g total : ℕ) : Type 0 where
   pub rules-left : sectionRules kinds s ≡ rulesFrom s g n
-  pub bytes-left : length (bareBytes kinds s) ≡ total + length (bytesFrom s g n)
+  pub bytes-left : length (sectionBytes kinds s) ≡ total + length (bytesFrom s g n)
   pub so-far : total ≤ g * 223606
   pub few : n ≤ 16
 
@@ -89,8 +89,8 @@ module _ (s : Sheet) (g n total : ℕ) {m : Measured} (measured : MeasuredGroup 
 
     two-lengths : length (bytesFrom s g n) ≡ m .length + length (bytesFrom s (g + 1) n)
     two-lengths =
-        ap length (bytes-next s g n h ∙ ap (λ k. fileBytes (bareFile kinds s g) ++ bytesFrom s k n) (sym (add-one g)))
-        ∙ length-append (fileBytes (bareFile kinds s g)) (bytesFrom s (g + 1) n) ∙ ap (λ l. l + length (bytesFrom s (g + 1) n)) (sym (measured .length-is kept))
+        ap length (bytes-next s g n h ∙ ap (λ k. fileBytes (sectionFile kinds s g) ++ bytesFrom s k n) (sym (add-one g)))
+        ∙ length-append (fileBytes (sectionFile kinds s g)) (bytesFrom s (g + 1) n) ∙ ap (λ l. l + length (bytesFrom s (g + 1) n)) (sym (measured .length-is kept))
 
     pub going-on : Going s n g total → Going s n (g + 1) (total + m .length)
     going-on w = record {

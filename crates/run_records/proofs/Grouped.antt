@@ -21,7 +21,7 @@ use Rattle.archive.specs.Encode.{fileBytes, headBytes, edgesBytes, coverRecord}
 use Rattle.archive.proofs.Back.{length-several}
 use Rattle.archive.proofs.References.{no-record}
 use Rattle.cleaning.specs.Sheet.{Sheet}
-use Rattle.cleaning.specs.Sections.{sectionFile, bareFile, sectionLabels, coverWhere, unerasedRow}
+use Rattle.cleaning.specs.Sections.{sectionFile, sectionLabels, coverWhere, unerasedRow}
 use Rattle.run_state.specs.declared.Groups.{Groups}
 use Rattle.run_state.specs.View.{factsAt, hasCover}
 use Rattle.run_section.specs.declared.Counts.{Counts}
@@ -204,7 +204,7 @@ module _ (z : Counts) (subject : List ℕ) (groups : Groups) (covers : Covers) (
       abbrev back : List ℕ
       back = backAt s f rows unresolved roots links ranges
 
-      file-halves : fileBytes (bareFile kinds S g) ≡ front ++ back
+      file-halves : fileBytes (sectionFile kinds S g) ≡ front ++ back
       unfolding fileBytes fileAt headBytes edgesBytes frontAt backAt middleAt
       file-halves =
           let n : length (map unerasedRow (tagsAt s rows)) ≡ many (s .rows) =

@@ -3,4 +3,3 @@ pub mod HeadTests
 pub mod RecordTurns
 pub mod SetOrder
 pub mod CoverTurns
-pub mod CiteTurns

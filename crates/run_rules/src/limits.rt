@@ -1,4 +1,4 @@
-// 42 and 43 of a taking: what a run holds and what an archive adds, together.
+// 23 of a taking's references, and 42 and 43: what a run holds and what an archive adds, together.
 use archive_read::files::Totals;
 use columns::refusal::Refusal;
 use columns::refusal::Ruling;
@@ -33,7 +33,7 @@ pub fn count(h: Held) -> Totals
         forward: h.sheet.edges.count,
         reverse: h.reverse.count,
         inbound: h.inbound.count,
-        references: h.cites.count,
+        references: 0,
     }
 }
 
@@ -59,7 +59,7 @@ fn many_records(a: Totals, b: Totals, groups: bool) -> bool
     groups
 }
 
-// 43: the deltas of each set, and the references.
+// 43: the deltas of each set.
 fn many_numbers(a: Totals, b: Totals) -> bool
     ensures { λ r. ⌜ r ≡ manyNumbers a b ⌝ }
 {
@@ -69,17 +69,17 @@ fn many_numbers(a: Totals, b: Totals) -> bool
     if is_over(4096, a.reverse, b.reverse) {
         return true;
     }
-    if is_over(4096, a.inbound, b.inbound) {
-        return true;
-    }
-    is_over(4096, a.references, b.references)
+    is_over(4096, a.inbound, b.inbound)
 }
 
-// 42, then 43, by the figures of what is held, which itself is not read.
+// 23 of references, which a run does not carry, then 42, then 43, by the figures of what is held, which itself is not read.
 pub fn limit_rules(h: Held, a: Totals, t: Totals, groups: bool) -> Ruling
     requires { ⌜ a ≡ figures h ⌝ }
     ensures { λ r. ⌜ r ≡ ruling (limitRules h t groups) ⌝ }
 {
+    if 0 < t.references {
+        return Ruling::Broken(Refusal::RecordBroken);
+    }
     if many_records(a, t, groups) {
         return Ruling::Broken(Refusal::OverRecords);
     }

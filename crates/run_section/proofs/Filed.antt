@@ -14,10 +14,9 @@ use Rattle.columns.specs.Building.{Built, slotRules, builtOf, within}
 use Rattle.archive.specs.File.{File}
 use Rattle.archive_bytes.specs.Bytes.{several}
 use Rattle.cleaning.specs.Sheet.{Sheet, rowCount}
-use Rattle.cleaning.specs.Sections.{sectionStart, sectionRows, sectionFirst, sectionEnd, sheetEnd, sectionLists, sectionChildren, childLists, sectionGraph, sectionFile, bareFile}
+use Rattle.cleaning.specs.Sections.{sectionStart, sectionRows, sectionFirst, sectionEnd, sheetEnd, sectionLists, sectionChildren, childLists, sectionGraph, sectionFile}
 use Rattle.cleaning.specs.Sections.{sectionFileOf, unerasedRow, coverWhere, sectionLabels}
 use Rattle.cleaning.proofs.SectionSets.{section-built}
-use Rattle.cleaning.proofs.SheetFiles.{bare-references}
 use Rattle.run_state.specs.declared.Groups.{Groups}
 use Rattle.run_state.specs.View.{factsAt}
 use Rattle.run_section.specs.declared.Counts.{Counts}
@@ -65,13 +64,12 @@ module _ (z : Counts) (subject : List ℕ) (groups : Groups) (rows unresolved ro
         (same-end z subject groups rows unresolved roots links offsets targets g s h ready there children)
         ∙ rw (first-is, last-is, all-is, lists-are, children-are)
 
-    pub file-is : bareFile kinds S g ≡ fileAt z subject groups g s rows unresolved roots (setsAt z s offsets targets starts kids)
+    pub file-is : sectionFile kinds S g ≡ fileAt z subject groups g s rows unresolved roots (setsAt z s offsets targets starts kids)
         (coverWhere ((factsAt groups g) .covered) (sectionLabels S g) (linksAt s links))
     unfolding sectionFile fileAt sheetOf
     file-is =
         rw (
           sets-are,
-          bare-references S g,
           unresolved-are z subject groups rows unresolved roots links offsets targets g s h,
           roots-are z subject groups rows unresolved roots links offsets targets g s h,
           links-are z subject groups rows unresolved roots links offsets targets g s h,

@@ -16,7 +16,7 @@ use Rattle.archive.specs.Encode.{fileBytes}
 use Rattle.archive.proofs.Back.{length-several}
 use Rattle.archive_store.specs.sizes.FileSize.{maxFileSize}
 use Rattle.cleaning.specs.Sheet.{Sheet}
-use Rattle.cleaning.specs.Sections.{place, sectionGraph, sectionFile, bareFile, sectionLabels}
+use Rattle.cleaning.specs.Sections.{place, sectionGraph, sectionFile, sectionLabels}
 use Rattle.run_state.specs.declared.Groups.{Groups}
 use Rattle.run_state.specs.View.{hasCover, factsAt}
 use Rattle.run_section.specs.declared.Counts.{Counts}
@@ -98,7 +98,7 @@ module _ (z : Counts) (subject : List ℕ) (groups : Groups) (rows unresolved ro
                 measured .rules ∙ ap ruling (sym (rules-are z subject groups rows unresolved roots links offsets targets g s at ready there children (facts .known-is)
                 (facts .rises-is ∙ counted .rises-at g there ∙ sym (rises-section z subject groups rows unresolved roots links offsets targets (ready .sorted .by-group) g))))
 
-            size-told : m .ruling ≡ Kept → m .length ≡ length (fileBytes (bareFile kinds S g))
+            size-told : m .ruling ≡ Kept → m .length ≡ length (fileBytes (sectionFile kinds S g))
             unfolding sizeBy factsAt
             size-told k =
                 let lists = both-lists children in

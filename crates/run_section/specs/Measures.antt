@@ -14,7 +14,7 @@ use Rattle.columns.specs.declared.refusal.Ruling.{Ruling}
 use Rattle.columns.specs.declared.refusal.Ruling.the-variants.{Kept}
 use Rattle.archive.specs.Encode.{fileBytes}
 use Rattle.cleaning.specs.Sheet.{Sheet}
-use Rattle.cleaning.specs.Sections.{sectionGraph, sectionFile, bareFile}
+use Rattle.cleaning.specs.Sections.{sectionGraph, sectionFile}
 use Rattle.archive_store.specs.sizes.FileSize.{fileSize, maxFileSize}
 use Rattle.run_section.specs.declared.Counts.{Counts}
 use Rattle.run_section.specs.declared.Section.{Section}
@@ -56,5 +56,5 @@ pub record SectionMeasured (z : Counts) (size : ℕ) (k : Known) (rises : Bool) 
 -- the first of building's rules that group g breaks; where there is none, how long its file is
 pub record MeasuredGroup (s : Sheet) (g : ℕ) (r : Measured) : Type 0 where
   pub rules : r .ruling ≡ ruling (buildRules kinds (sectionGraph kinds s g))
-  pub length-is : buildRules kinds (sectionGraph kinds s g) ≡ none → r .length ≡ length (fileBytes (bareFile kinds s g))
+  pub length-is : buildRules kinds (sectionGraph kinds s g) ≡ none → r .length ≡ length (fileBytes (sectionFile kinds s g))
   pub few : r .length ≤ maxFileSize

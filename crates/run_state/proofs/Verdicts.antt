@@ -20,7 +20,7 @@ use Rattle.run_state.specs.declared.Edges.{Edges}
 use Rattle.run_state.specs.declared.Held.{Held}
 use Rattle.run_state.specs.declared.valid.Sizes.{Sizes}
 use Rattle.run_state.specs.View.{slotsIn}
-use Rattle.run_state.specs.Valid.{tableOk, edgesOk, countsOk, below, earlier, recordsOk, sizesOf, columnsOk, sheetOk, citesOk, heldOk, onceOk}
+use Rattle.run_state.specs.Valid.{tableOk, edgesOk, countsOk, below, earlier, recordsOk, sizesOf, columnsOk, sheetOk, heldOk, onceOk}
 
 -- ── counts ───────────────────────────────────────────────────────────────────────────────────
 
@@ -226,11 +226,6 @@ module _ (h : Held) {a : Bool} (d : a ≡ countsOk (h .sheet)) where
       unfolding heldOk edgesOk
       bad-reverse m = rw (← sheet-is, not-false b f, ← g, not-true r m)
 
-      module _ (m : not r ≡ false) {q : Bool} (w : q ≡ tableOk (h .sheet .rows .count) (h .inbound .count) (h .inbound .offsets)) where
-        pub bad-inbound : not q ≡ true → false ≡ heldOk h
-        unfolding heldOk edgesOk
-        bad-inbound x = rw (← sheet-is, not-false b f, ← g, not-false r m, ← w, not-true q x)
-
-        pub cites-last : {p : Bool} → not q ≡ false → p ≡ citesOk (h .sheet .start) (h .sheet .rows .count) (h .cites) → p ≡ heldOk h
-        unfolding heldOk edgesOk
-        cites-last x y = rw (← sheet-is, not-false b f, ← g, not-false r m, ← w, not-false q x) y
+      pub inbound-test : {q : Bool} → not r ≡ false → q ≡ tableOk (h .sheet .rows .count) (h .inbound .count) (h .inbound .offsets) → q ≡ heldOk h
+      unfolding heldOk edgesOk
+      inbound-test m w = rw (← sheet-is, not-false b f, ← g, not-false r m) w

@@ -3,11 +3,9 @@ use mathlib.Core.List.{List}
 use Prim.Native.Nat.{ℕ}
 use lib.ListN.{replicate}
 use Rattle.columns.specs.Limits.{kinds, maxRecords, maxGroups, maxSubject, offsetsRoom, numbersRoom}
-use Rattle.run_state.specs.declared.Cites.{Cites}
 use Rattle.run_state.specs.declared.Edges.{Edges}
 use Rattle.run_state.specs.declared.Ends.{Ends}
 use Rattle.run_state.specs.declared.Held.{Held}
-use Rattle.run_state.specs.View.{citesRoom}
 
 abbrev pub zeros : ℕ → List ℕ
 zeros n = replicate n 0
@@ -19,10 +17,6 @@ noEdges = record { count = 0; offsets = zeros (offsetsRoom kinds); targets = zer
 -- one side of no links
 abbrev pub noEnds : Ends
 noEnds = record { chains = zeros maxRecords; seqs = zeros maxRecords }
-
--- references of no rows
-abbrev pub noCites : Cites
-noCites = record { count = 0; offsets = zeros citesRoom; kinds = zeros numbersRoom; spaces = zeros numbersRoom; targets = zeros numbersRoom }
 
 unfoldable pub blank : Held
 blank = record {
@@ -40,5 +34,4 @@ blank = record {
   reverse = noEdges;
   inbound = noEdges;
   ranges = 0;
-  cites = noCites;
 }

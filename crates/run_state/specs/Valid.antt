@@ -1,5 +1,5 @@
--- What columns must satisfy to be those of a run: counts within the limits, tables in form, records of rows that are there, parents and
--- references before their events. Every test computes, so that a run is tested before it is used.
+-- What columns must satisfy to be those of a run: counts within the limits, tables in form, records of rows that are there, parents before their
+-- children. Every test computes, so that a run is tested before it is used.
 use mathlib.Core.Bool.{Bool, true, _&&_, not}
 use mathlib.Core.List.{List, [], _∷_}
 use Prim.Native.Nat.{ℕ, suc, _+_, _*_}
@@ -7,13 +7,10 @@ use lib.Dec.{ltb, leb}
 use lib.ListN.{take}
 use Rattle.lists.specs.Lists.{all}
 use Rattle.columns.specs.Limits.{kinds, maxRecords, maxNumbers, maxGroups, maxSubject, end64}
-use Rattle.columns.specs.EdgeSet.{fromTo, offsetsForm, cut, eventOf}
+use Rattle.columns.specs.EdgeSet.{offsetsForm, cut, eventOf}
 use Rattle.columns.specs.Building.{inFile, slotRules}
-use Rattle.archive_store.specs.Lent.{citedFrom}
 use Rattle.cleaning.specs.Source.{isThere}
-use Rattle.cleaning.specs.Taking.{allBefore}
 use Rattle.run_state.specs.declared.Sheet as sheets
-use Rattle.run_state.specs.declared.Cites.{Cites}
 use Rattle.run_state.specs.declared.Edges.{Edges}
 use Rattle.run_state.specs.declared.Held as holds
 use Rattle.run_state.specs.declared.valid.Sizes.{Sizes}
@@ -61,21 +58,8 @@ columnsOk z offsets targets children roots =
 unfoldable pub sheetOk : sheets.Sheet → Bool
 sheetOk s = countsOk s && (edgesOk (s .rows .count) (s .edges) && (recordsOk s && earlier (s .start) 0 (slotsIn (s .rows .count) (s .edges))))
 
--- references of n rows from number `start` on, by their columns: no more than there is room for, offsets that rise or stay level from 0 to their
--- number, and each that names an event by its sequence number names one before its own
-unfoldable pub citedOk : ℕ → ℕ → ℕ → List ℕ → List ℕ → List ℕ → List ℕ → Bool
-citedOk start n count offsets ks ss ts =
-    leb count maxNumbers
-    && (fromTo 0 count (take (n + 1) offsets)
-    && allBefore start (citedFrom (take (n + 1) offsets) (take count ks) (take count ss) (take count ts)))
-
-unfoldable pub citesOk : ℕ → ℕ → Cites → Bool
-citesOk start n c = citedOk start n (c .count) (c .offsets) (c .kinds) (c .spaces) (c .targets)
-
 unfoldable pub heldOk : holds.Held → Bool
-heldOk h =
-    sheetOk (h .sheet) && (edgesOk (h .sheet .rows .count) (h .reverse) && (edgesOk (h .sheet .rows .count) (h .inbound)
-    && citesOk (h .sheet .start) (h .sheet .rows .count) (h .cites)))
+heldOk h = sheetOk (h .sheet) && (edgesOk (h .sheet .rows .count) (h .reverse) && edgesOk (h .sheet .rows .count) (h .inbound))
 
 -- no parent at or above its event, none twice in a list: 4 and 5 over all rows
 unfoldable pub onceOk : sheets.Sheet → Bool

@@ -6,15 +6,13 @@ use Prim.Native.Nat.{ℕ, _+_, _*_}
 use lib.Dec.{eqb}
 use lib.ListN.{getD, take}
 use Rattle.lists.specs.Lists.{upFrom}
-use Rattle.columns.specs.Limits.{kinds, maxRecords}
+use Rattle.columns.specs.Limits.{kinds}
 use Rattle.columns.specs.EdgeSet.{cut}
 use Rattle.columns.specs.Reading.{Label}
 use Rattle.columns.specs.Building.{Depth}
 use Rattle.archive.specs.File
-use Rattle.archive_store.specs.Lent.{citedFrom}
 use Rattle.cleaning.specs.Sheet
 use Rattle.cleaning.specs.Held
-use Rattle.run_state.specs.declared.Cites.{Cites}
 use Rattle.run_state.specs.declared.Groups.{Groups}
 use Rattle.run_state.specs.declared.Rows.{Rows}
 use Rattle.run_state.specs.declared.Edges.{Edges}
@@ -68,14 +66,6 @@ linkAt l i = record {
 unfoldable pub slotsIn : ℕ → Edges → List (List ℕ)
 slotsIn n e = cut (take (kinds * n + 1) (e .offsets)) (take (e .count) (e .targets))
 
--- room for where the references of each row start
-abbrev pub citesRoom : ℕ
-citesRoom = maxRecords + 1
-
--- the references of n rows
-unfoldable pub citesIn : ℕ → Cites → List (List File.Reference)
-citesIn n c = citedFrom (take (n + 1) (c .offsets)) (take (c .count) (c .kinds)) (take (c .count) (c .spaces)) (take (c .count) (c .targets))
-
 -- ── a sheet, and what is held ────────────────────────────────────────────────────────────────
 
 unfoldable pub sheetIn : sheets.Sheet → Sheet.Sheet
@@ -99,5 +89,4 @@ heldIn h = record {
   reverse = slotsIn (h .sheet .rows .count) (h .reverse);
   inbound = slotsIn (h .sheet .rows .count) (h .inbound);
   ranges = h .ranges;
-  references = citesIn (h .sheet .rows .count) (h .cites);
 }

@@ -1,5 +1,4 @@
 // A run that has taken nothing.
-use crate::Cites;
 use crate::Edges;
 use crate::Ends;
 use crate::Groups;
@@ -29,8 +28,6 @@ pub fn fresh() -> Held
     let name = [0u8; 255];
     let offsets = [0u64; 2049];
     let targets = [0u64; 4096];
-    let starts = [0u64; 1025];
-    let many_flags = [0u8; 4096];
     let none = Edges {
         count: 0,
         offsets: offsets,
@@ -85,12 +82,5 @@ pub fn fresh() -> Held
         reverse: none,
         inbound: none,
         ranges: 0,
-        cites: Cites {
-            count: 0,
-            offsets: starts,
-            kinds: many_flags,
-            spaces: many_flags,
-            targets: targets,
-        },
     }
 }

@@ -1,6 +1,5 @@
 // What a run holds, as columns of fixed length: the rows and records of its sources, and those of its survivors. specs/ says what they stand for.
 // A run crosses to C and Rust by value, so that the layout of each struct is C's.
-pub mod cited;
 pub mod empty;
 pub mod order;
 pub mod tests;
@@ -89,18 +88,7 @@ pub struct Sheet {
     pub links: Links,
 }
 
-// References of rows: where each row's start, and kind, space and target of all.
-#[repr(C)]
-pub struct Cites {
-    pub count: usize,
-    pub offsets: [u64; 1025],
-    pub kinds: [u8; 4096],
-    pub spaces: [u8; 4096],
-    pub targets: [u64; 4096],
-}
-
-// What is held of sources: their rows, which of them are erased, the lists of their other two sets, the number of their ranges,
-// the references of their rows.
+// What is held of sources: their rows, which of them are erased, the lists of their other two sets, the number of their ranges.
 #[repr(C)]
 pub struct Held {
     pub sheet: Sheet,
@@ -108,7 +96,6 @@ pub struct Held {
     pub reverse: Edges,
     pub inbound: Edges,
     pub ranges: usize,
-    pub cites: Cites,
 }
 
 // How many bytes were written, or why none.

@@ -5,7 +5,6 @@ use crate::Held;
 use crate::Roots;
 use crate::Sheet;
 use crate::Unresolved;
-use crate::cited::cites_ok;
 use crate::tests::are_below;
 use crate::tests::are_in_file;
 use crate::tests::once_ok;
@@ -159,8 +158,5 @@ pub fn ok(h: Held) -> bool
     }
     edges_long(h.inbound);
     let inbound = h.inbound.offsets;
-    if !edges_ok(n, h.inbound.count, &inbound) {
-        return false;
-    }
-    cites_ok(h.sheet.start, n, h.cites)
+    edges_ok(n, h.inbound.count, &inbound)
 }

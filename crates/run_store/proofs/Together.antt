@@ -15,7 +15,6 @@ use Rattle.run_state.specs.declared.Edges.{Edges}
 use Rattle.run_state.specs.declared.Unresolved.{Unresolved}
 use Rattle.run_state.specs.declared.Roots.{Roots}
 use Rattle.run_state.specs.declared.Links.{Links}
-use Rattle.run_state.specs.declared.Cites.{Cites}
 use Rattle.run_state.specs.declared.Held.{Held}
 use Rattle.run_state.specs.View.{heldIn}
 use Rattle.run_state.specs.Valid.{heldOk}
@@ -40,21 +39,20 @@ together n p = record {
   reverse = p .reverse;
   inbound = p .inbound;
   ranges = n .ranges;
-  cites = p .cites;
 }
 
 module _ (h : Held) (l : List ℕ) (n : Names) (d : Named h l n) where
   held-is : together n (stored h l) ≡ d .held
   held-is = ap (λ p. together n p) (sym (d .parts)) ∙ ap (λ m. together m (partsOf (d .held))) (d .names)
 
-  module _ {a : Rows} {b : Edges} {c : Unresolved} {e : Roots} {f : Links} {g : List ℕ} {i j : Edges} {k : Cites} (ra : a ≡ stored h l .rows) (rb : b ≡ stored h l .edges)
+  module _ {a : Rows} {b : Edges} {c : Unresolved} {e : Roots} {f : Links} {g : List ℕ} {i j : Edges} (ra : a ≡ stored h l .rows) (rb : b ≡ stored h l .edges)
       (rc : c ≡ stored h l .unresolved) (re : e ≡ stored h l .roots) (rf : f ≡ stored h l .links) (rg : g ≡ stored h l .erased) (ri : i ≡ stored h l .reverse)
-      (rj : j ≡ stored h l .inbound) (rk : k ≡ stored h l .cites) where
+      (rj : j ≡ stored h l .inbound) where
     abbrev whole : Held
-    whole = together n (record { rows = a; edges = b; unresolved = c; roots = e; links = f; erased = g; reverse = i; inbound = j; cites = k })
+    whole = together n (record { rows = a; edges = b; unresolved = c; roots = e; links = f; erased = g; reverse = i; inbound = j })
 
     whole-is : whole ≡ d .held
-    whole-is = rw (ra, rb, rc, re, rf, rg, ri, rj, rk) held-is
+    whole-is = rw (ra, rb, rc, re, rf, rg, ri, rj) held-is
 
     pub together-stored : (heldIn whole ≡ heldAfter h (parse kinds l)) × ((heldOk whole ≡ true) × (ordered (whole .sheet) ≡ true))
     together-stored = (ap heldIn whole-is ∙ d .whole, (ap heldOk whole-is ∙ d .ok, ap (λ q. ordered (q .sheet)) whole-is ∙ d .order))

@@ -3,7 +3,6 @@ pub mod Records
 pub mod LinkRecords
 pub mod GroupTable
 pub mod Lists
-pub mod References
 pub mod RowLabels
 pub mod Fitting
 pub mod Whole

@@ -1,4 +1,3 @@
-pub mod cites
 pub mod file
 pub mod fits
 pub mod grow

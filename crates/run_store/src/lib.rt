@@ -1,5 +1,4 @@
 // A taking's last step: the files of an accepted archive are appended to what a run holds, part by part: each part is grown in place over all files.
-pub mod cites;
 pub mod grow;
 pub mod links;
 pub mod names;
@@ -9,7 +8,6 @@ pub mod rows;
 pub mod sets;
 pub mod turns;
 
-use crate::cites::store_cites;
 use crate::links::store_links;
 use crate::names::store_names;
 use crate::records::store_roots;
@@ -55,7 +53,6 @@ pub fn store(h: Held, bytes: &[u8]) -> Held
     let erased = store_flags(h, bytes);
     let reverse = store_set(h, h.reverse, Side::Reverse, bytes);
     let inbound = store_set(h, h.inbound, Side::Inbound, bytes);
-    let cites = store_cites(h, bytes);
     Held {
         sheet: Sheet {
             start: names.start,
@@ -71,6 +68,5 @@ pub fn store(h: Held, bytes: &[u8]) -> Held
         reverse: reverse,
         inbound: inbound,
         ranges: names.ranges,
-        cites: cites,
     }
 }

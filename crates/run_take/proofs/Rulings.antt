@@ -14,7 +14,7 @@ use Rattle.lists.proofs.Once.{or-is-false}
 use Rattle.columns.specs.Limits.{kinds, maxRecords, maxNumbers, maxGroups}
 use Rattle.columns.specs.Refusal.{refuse, firstOf}
 use Rattle.columns.specs.declared.refusal.Refusal.{Refusal}
-use Rattle.columns.specs.declared.refusal.Refusal.the-variants.{OverRecords, OverNumbers}
+use Rattle.columns.specs.declared.refusal.Refusal.the-variants.{RecordBroken, OverRecords, OverNumbers}
 use Rattle.columns.proofs.FirstBroken.{each-none, not-refused}
 use Rattle.columns.specs.Answers.{ruling}
 use Rattle.columns.specs.declared.refusal.Ruling.{Ruling}
@@ -30,13 +30,13 @@ use Rattle.archive_groups.specs.Groups.{filesOf, isRead, groupsOver}
 use Rattle.cleaning.specs.Held.{recordsOver, numbersOver, lookBack, holdRules}
 use Rattle.cleaning.specs.Held as run
 use Rattle.cleaning.specs.History.{filesIn}
-use Rattle.cleaning.specs.Taking.{filesRules}
+use Rattle.cleaning.specs.Taking.{filesRules, carries}
 use Rattle.run_state.specs.declared.Held.{Held}
 use Rattle.run_state.specs.View.{sheetIn, heldIn}
 use Rattle.run_state.specs.Valid.{sheetOk, heldOk}
 use Rattle.run_state.specs.order.Long.{LongHeld}
 use Rattle.run_rules.specs.limits.Figures.{limitRules}
-use Rattle.run_rules.proofs.limits.Limits.{records-same, numbers-same}
+use Rattle.run_rules.proofs.limits.Limits.{references-same, records-same, numbers-same}
 use Rattle.run_rules.specs.files.Archive.{Within}
 use Rattle.run_take.specs.declared.Known.{Known}
 use Rattle.run_take.specs.Known.{KnownOf}
@@ -48,7 +48,7 @@ unfolding totalsOf
 summed-up P broken e f = absurd (let z : _≡_ {A = ℕ} 0 1 = cc in omega arith)
 summed-up P (got fs end) e f = f fs end (cc)
 
--- ── 42, 43 ───────────────────────────────────────────────────────────────────────────────────
+-- ── 23, 42, 43 ───────────────────────────────────────────────────────────────────────────────────
 
 pub is-read : (o : Parsed (List File)) (t : Totals) → totalsOf o ≡ summed.Sums t → isRead o ≡ true
 unfolding isRead
@@ -58,7 +58,7 @@ pub limits-are : (h : Held) (o : Parsed (List File)) (t : Totals) (g : Bool) →
     → g ≡ groupsOver (h .sheet .groups .count) (filesOf o) → {r : Ruling} → r ≡ ruling (limitRules h t g) → r ≡ ruling (limitsOver (heldIn h) (filesIn o))
 unfolding filesOf limitRules limitsOver
 limits-are h o t g l k e f {r} v = summed-up (λ o. g ≡ groupsOver (h .sheet .groups .count) (filesOf o) → r ≡ ruling (limitsOver (heldIn h) (filesIn o))) o e
-    (λ fs end z f. rw (← records-same h l k fs, ← numbers-same h l k fs, ← z, ← f) v) f
+    (λ fs end z f. rw (← references-same fs, ← records-same h l k fs, ← numbers-same h l k fs, ← z, ← f) v) f
 
 -- the number of groups by what is known
 pub limits-known : (h : Held) (k : Known) (o : Parsed (List File)) (t : Totals) (g : Bool) → LongHeld h → heldOk h ≡ true → KnownOf h k → totalsOf o ≡ summed.Sums t
@@ -72,7 +72,7 @@ within m a b e = omega (arith, ltb-false m (a + b) e)
 limits-within : (h : run.Held) (fs : List File) → limitsOver h fs ≡ none → Within (summed.Sums (totals fs))
 unfolding limitsOver recordsOver numbersOver totals
 limits-within h fs e =
-    let parts = each-none (refuse OverRecords (recordsOver h fs) ∷ refuse OverNumbers (numbersOver h fs) ∷ []) e in
+    let parts = each-none _ e .1 in
     let r = not-refused OverRecords (recordsOver h fs) (parts .0) in
     let s = not-refused OverNumbers (numbersOver h fs) (parts .1 .0) in
     let a = or-is-false _ (ltb maxGroups (length (once (upFrom 0 (length (h .sheet .groups)) ++ map (λ f. f .group) fs)))) r in
@@ -80,8 +80,7 @@ limits-within h fs e =
     let c = or-is-false _ (ltb maxRecords (h .ranges + _)) (b .0) in
     let d = or-is-false _ (ltb maxRecords (length (h .sheet .unresolved) + _)) (c .0) in
     let g = or-is-false (ltb maxRecords (length (h .sheet .tags) + _)) (ltb maxRecords (length (h .sheet .roots) + _)) (d .0) in
-    let u = or-is-false _ (ltb maxNumbers (sum length (h .references) + _)) s in
-    let i = or-is-false _ (ltb maxNumbers (sum length (h .inbound) + _)) (u .0) in
+    let i = or-is-false _ (ltb maxNumbers (sum length (h .inbound) + _)) s in
     let j = or-is-false (ltb maxNumbers (sum length (h .sheet .lists) + _)) (ltb maxNumbers (sum length (h .reverse) + _)) (i .0) in
     (within maxRecords _ _ (g .0), within maxRecords _ _ (c .1), within maxRecords _ _ (b .1), within maxNumbers _ _ (j .0), within maxNumbers _ _ (j .1), within maxNumbers _ _ (i .1))
 
@@ -89,12 +88,14 @@ limits-within h fs e =
 
 in-order : (h : run.Held) (fs : List File) → firstOf (limitsOver h fs ∷ filesRules kinds (lookBack (h .sheet)) fs ∷ []) ≡ holdRules kinds h fs
 unfolding limitsOver holdRules firstOf
-in-order h fs = go (recordsOver h fs) (numbersOver h fs) (filesRules kinds (lookBack (h .sheet)) fs)
+in-order h fs = go (carries fs) (recordsOver h fs) (numbersOver h fs) (filesRules kinds (lookBack (h .sheet)) fs)
   where
-    go : (a b : Bool) (c : Option Refusal) → firstOf (firstOf (refuse OverRecords a ∷ refuse OverNumbers b ∷ []) ∷ c ∷ []) ≡ firstOf (refuse OverRecords a ∷ refuse OverNumbers b ∷ c ∷ [])
-    go true b c = refl
-    go false true c = refl
-    go false false c = refl
+    go : (r a b : Bool) (c : Option Refusal) → firstOf (firstOf (refuse RecordBroken r ∷ refuse OverRecords a ∷ refuse OverNumbers b ∷ []) ∷ c ∷ [])
+        ≡ firstOf (refuse RecordBroken r ∷ refuse OverRecords a ∷ refuse OverNumbers b ∷ c ∷ [])
+    go true a b c = refl
+    go false true b c = refl
+    go false false true c = refl
+    go false false false c = refl
 
 pub sheet-ok : (h : Held) → heldOk h ≡ true → sheetOk (h .sheet) ≡ true
 unfolding heldOk

@@ -1,4 +1,4 @@
--- Document 01, the order of an archive's rules: 23 over the whole archive, then 42, 43 over the run and the archive together, then file by file. A refused
+-- Document 01, the order of an archive's rules: 23 over the whole archive, its references too, then 42, 43 over the run and the archive together, then file by file. A refused
 -- archive is taken in no part.
 use mathlib.Core.Path.{_≡_}
 use mathlib.Core.Bool.{true}
@@ -13,15 +13,16 @@ use Rattle.archive.specs.File.{File}
 use Rattle.archive.specs.Reader.{Parsed, broken, got}
 use Rattle.cleaning.specs.Held as run
 use Rattle.cleaning.specs.Held.{recordsOver, numbersOver, holdRules}
+use Rattle.cleaning.specs.Taking.{carries}
 use Rattle.run_state.specs.declared.Held.{Held}
 use Rattle.run_state.specs.View.{heldIn}
 use Rattle.run_state.specs.Valid.{heldOk}
 use Rattle.run_state.specs.order.Ordered.{ordered}
 use Rattle.run_take.specs.declared.Taken.{Taken}
 
--- 42, then 43
+-- 23 of references, then 42, then 43
 unfoldable pub limitsOver : run.Held → List File → Option Refusal
-limitsOver h fs = firstOf (refuse OverRecords (recordsOver h fs) ∷ refuse OverNumbers (numbersOver h fs) ∷ [])
+limitsOver h fs = firstOf (refuse RecordBroken (carries fs) ∷ refuse OverRecords (recordsOver h fs) ∷ refuse OverNumbers (numbersOver h fs) ∷ [])
 
 -- 23, then 42, 43, then file by file
 unfoldable pub archiveRules : run.Held → Parsed (List File) → Option Refusal

@@ -102,7 +102,7 @@ fn known_rules(h: Held, k: Known, bytes: &[u8]) -> Ruling
     files_rules(bytes, back, &name[..n])
 }
 
-// 42, then 43: what a run holds and an archive of those sums together.
+// 23 of references, then 42, then 43: what a run holds and an archive of those sums together.
 fn limits(h: Held, k: Known, bytes: &[u8], t: Totals) -> Ruling
     requires { ⌜ (heldOk h ≡ true) × ((KnownOf h k) × (totalsOf (parse kinds (now bytes)) ≡ Sums t)) ⌝ }
     ensures { λ r. ⌜ r ≡ ruling (limitsOver (heldIn h) (filesIn (parse kinds (now (bytes .entry))))) ⌝ }
@@ -113,7 +113,7 @@ fn limits(h: Held, k: Known, bytes: &[u8], t: Totals) -> Ruling
     limit_rules(h, figures, t, many)
 }
 
-// 42, 43, then file by file.
+// 23 of references, 42, 43, then file by file.
 fn hold_rules(h: Held, k: Known, bytes: &[u8], t: Totals) -> Ruling
     requires { ⌜ (heldOk h ≡ true) × ((KnownOf h k) × (totalsOf (parse kinds (now bytes)) ≡ Sums t)) ⌝ }
     ensures { λ r. ⌜ r ≡ ruling (holdRules kinds (heldIn h) (filesIn (parse kinds (now (bytes .entry))))) ⌝ }

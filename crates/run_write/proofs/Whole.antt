@@ -18,10 +18,8 @@ use Rattle.columns.specs.declared.refusal.Ruling.the-variants.{Kept, Broken}
 use Rattle.columns.proofs.Told.{told, told-kept}
 use Rattle.cleaning.specs.Sheet.{Sheet, summaryOf}
 use Rattle.cleaning.specs.Writing.{written}
-use Rattle.cleaning.specs.Sections.{Tidy, Filled, sectionRules, sectionBytes, bareBytes}
+use Rattle.cleaning.specs.Sections.{Tidy, Filled, sectionRules, sectionBytes}
 use Rattle.cleaning.specs.Step.{allOf, refused, wrote, writeInto}
-use Rattle.archive.specs.File.{noReferences}
-use Rattle.archive.proofs.References.{length-none}
 use Rattle.cleaning.proofs.SheetFiles.{written-sections}
 use Rattle.run_state.specs.declared.Writing.the-variants.{Length, Refused}
 use Rattle.run_section.specs.declared.measures.Measured.{Measured}
@@ -31,14 +29,14 @@ use Rattle.run_write.specs.Answers.{Wrote}
 -- ── what writing answers ─────────────────────────────────────────────────────────────────────
 
 module _ (s : Sheet) (t : Tidy kinds s) (f : Filled s) where
-  as-sections : written kinds (summaryOf kinds s (noReferences (s .tags))) ≡ unless (sectionRules kinds s) (bareBytes kinds s)
-  as-sections = written-sections kinds kinds-served s t f (noReferences (s .tags)) (length-none (s .tags))
+  as-sections : written kinds (summaryOf kinds s) ≡ unless (sectionRules kinds s) (sectionBytes kinds s)
+  as-sections = written-sections kinds kinds-served s t f
 
   module _ {m : Measured} (d : MeasuredBy s m) (was : List ℕ) where
     pub wrote-refused : (x : Refusal) → m .ruling ≡ Broken x → Wrote s was was (Refused x)
     unfolding unless
     wrote-refused x e = record {
-      answers = sym (ap (writeInto (length was)) (as-sections ∙ ap (λ r. unless r (bareBytes kinds s)) (told (sectionRules kinds s) (d .rules) e)));
+      answers = sym (ap (writeInto (length was)) (as-sections ∙ ap (λ r. unless r (sectionBytes kinds s)) (told (sectionRules kinds s) (d .rules) e)));
       rest = refl;
       within = omega arith;
     }
@@ -47,24 +45,23 @@ module _ (s : Sheet) (t : Tidy kinds s) (f : Filled s) where
       no-rule : sectionRules kinds s ≡ none
       no-rule = told-kept (sectionRules kinds s) (d .rules) e
 
-      all-accepted : writeInto (length was) (written kinds (summaryOf kinds s (noReferences (s .tags))))
-          ≡ cond (leb (length (bareBytes kinds s)) (length was)) (wrote (allOf (bareBytes kinds s))) (refused SliceShort)
+      all-accepted : writeInto (length was) (written kinds (summaryOf kinds s)) ≡ cond (leb (length (sectionBytes kinds s)) (length was)) (wrote (allOf (sectionBytes kinds s))) (refused SliceShort)
       unfolding unless
-      all-accepted = ap (writeInto (length was)) (as-sections ∙ ap (λ r. unless r (bareBytes kinds s)) no-rule)
+      all-accepted = ap (writeInto (length was)) (as-sections ∙ ap (λ r. unless r (sectionBytes kinds s)) no-rule)
 
       pub wrote-short : length was < m .length → Wrote s was was (Refused SliceShort)
       wrote-short h =
-          let q : length was < length (bareBytes kinds s) = omega (arith, d .length-is no-rule) in
-          record { answers = sym (all-accepted ∙ rw (lt-leb (length (bareBytes kinds s)) (length was) q)); rest = refl; within = omega arith }
+          let q : length was < length (sectionBytes kinds s) = omega (arith, d .length-is no-rule) in
+          record { answers = sym (all-accepted ∙ rw (lt-leb (length (sectionBytes kinds s)) (length was) q)); rest = refl; within = omega arith }
 
       -- bytes that hold the measured length hold all files
-      pub has-room : {room : ℕ} → m .length ≤ room → length (bareBytes kinds s) ≤ room
+      pub has-room : {room : ℕ} → m .length ≤ room → length (sectionBytes kinds s) ≤ room
       has-room {room} h = omega (arith, h, d .length-is no-rule)
 
       module _ (h : m .length ≤ length was) where
-        pub wrote-all : {is : List ℕ} → is ≡ sets was 0 (bareBytes kinds s) → Wrote s was is (Length (m .length))
+        pub wrote-all : {is : List ℕ} → is ≡ sets was 0 (sectionBytes kinds s) → Wrote s was is (Length (m .length))
         wrote-all {is} q =
-            let w = bareBytes kinds s in
+            let w = sectionBytes kinds s in
             let n : m .length ≡ length w = d .length-is no-rule in
             let z : 0 + length w ≡ length w = omega arith in
             let p : is ≡ w ++ drop (length w) was = q ∙ sets-eq w was 0 (omega arith) ∙ rw z in

@@ -4,7 +4,6 @@ use mathlib.Core.List.{List}
 use Prim.Native.Nat.{ℕ, _≤_}
 use lib.ListN.{length, take, drop}
 use Rattle.columns.specs.Limits.{kinds}
-use Rattle.archive.specs.File.{noReferences}
 use Rattle.cleaning.specs.Sheet.{Sheet, summaryOf}
 use Rattle.cleaning.specs.Writing.{written}
 use Rattle.cleaning.specs.Step.{Bytes, Answer, refused, wrote, writeInto}
@@ -29,4 +28,4 @@ pub record Gives (made : Bytes → Answer) (answer : ℕ → Answer) (was is : L
 
 -- a sheet written
 abbrev pub Wrote : Sheet → List ℕ → List ℕ → Writing → Type 0
-Wrote s = Gives wrote (λ room. writeInto room (written kinds (summaryOf kinds s (noReferences (s .tags)))))
+Wrote s = Gives wrote (λ room. writeInto room (written kinds (summaryOf kinds s)))

@@ -19,17 +19,17 @@ use Rattle.columns.specs.declared.refusal.Ruling.the-variants.{Kept, Broken}
 use Rattle.columns.proofs.Told.{told-kept, stops-here, goes-on}
 use Rattle.archive.specs.Bytes.{several}
 use Rattle.archive.specs.Parse.{depthRead, unresolvedAt, rootAt}
-use Rattle.archive_read.specs.bodies.View.{setIn, coverIn, referencesFrom}
+use Rattle.archive_read.specs.bodies.View.{setIn, coverIn}
 use Rattle.archive_read.specs.declared.bodies.HeadAt.{HeadAt}
-use Rattle.archive_read.specs.Layout.{partIn, HoldsCover, HoldsCites, HoldsTail, fileIn}
+use Rattle.archive_read.specs.Layout.{partIn, HoldsCover, HoldsTail, fileIn}
 use Rattle.archive_read.specs.declared.records.FrontAt.{FrontAt}
 use Rattle.archive_read.specs.declared.records.MiddleAt.{MiddleAt}
 use Rattle.archive_read.specs.declared.records.TailAt.{TailAt}
 use Rattle.archive_read.specs.declared.records.FileAt.{FileAt}
 use Rattle.cleaning.specs.Source.{Source}
 use Rattle.cleaning.specs.Taking.{coverRules, fileRules}
-use Rattle.run_rules.specs.parts.Back.{ownRules, backRules, setsRules, recordsRules, earlierRule}
-use Rattle.run_rules.specs.files.Parts.{headRules, subjectIn, edgesRules, listsRules, coverRule, citesRule, endRules, tailRules, restRules}
+use Rattle.run_rules.specs.parts.Back.{ownRules, backRules, setsRules, recordsRules}
+use Rattle.run_rules.specs.files.Parts.{headRules, subjectIn, edgesRules, listsRules, coverRule, tailRules, restRules}
 use Rattle.run_rules.proofs.files.Regrouped.{parts-are}
 
 -- ── a head ───────────────────────────────────────────────────────────────────────────────────
@@ -75,35 +75,14 @@ module _ (l : List ℕ) (n : ℕ) (t : TailAt) (h : HoldsTail l n t) (k : not (t
   pub cover-holds : HoldsCover l n (t .cover) (t .body)
   cover-holds = rw (not-false (t .covered) k) at (h .cover)
 
-pub no-cites : (l : List ℕ) (h : HeadAt) (t : TailAt) → not (t .cited) ≡ true → Kept ≡ ruling (citesRule l h t)
-unfolding citesRule
-no-cites l h t k = rw (not-true (t .cited) k)
-
-pub some-cites : (l : List ℕ) (h : HeadAt) (t : TailAt) {r : Ruling} → not (t .cited) ≡ false
-    → r ≡ ruling (earlierRule (h .first) (referencesFrom (h .rows) (partIn l (t .cites)))) → r ≡ ruling (citesRule l h t)
-unfolding citesRule
-some-cites l h t k e = rw (not-false (t .cited) k) e
-
-pub cites-hold : (l : List ℕ) (n : ℕ) (t : TailAt) → HoldsTail l n t → not (t .cited) ≡ false → HoldsCites l n (t .references) (t .cites)
-cites-hold l n t h k = rw (not-false (t .cited) k) at (h .references)
-
-module _ (l : List ℕ) (h : HeadAt) (t : TailAt) {x : Ruling} (e : x ≡ ruling (coverRule l (h .rows) t)) where
-  pub cover-bad : {y : Refusal} → x ≡ Broken y → Broken y ≡ ruling (endRules l h t)
-  unfolding endRules
-  cover-bad {y} g = stops-here _ (citesRule l h t) e y g
-
-  pub then-cites : {r : Ruling} → x ≡ Kept → r ≡ ruling (citesRule l h t) → r ≡ ruling (endRules l h t)
-  unfolding endRules
-  then-cites g k = goes-on _ (citesRule l h t) e g k
-
 module _ (l : List ℕ) (h : HeadAt) (m : MiddleAt) (t : TailAt) {x : Ruling} (e : x ≡ ruling (listsRules l h m t)) where
   pub lists-bad : {y : Refusal} → x ≡ Broken y → Broken y ≡ ruling (tailRules l h m t)
   unfolding tailRules
-  lists-bad {y} g = stops-here _ (endRules l h t) e y g
+  lists-bad {y} g = stops-here _ (coverRule l (h .rows) t) e y g
 
-  pub then-end : {r : Ruling} → x ≡ Kept → r ≡ ruling (endRules l h t) → r ≡ ruling (tailRules l h m t)
+  pub then-cover : {r : Ruling} → x ≡ Kept → r ≡ ruling (coverRule l (h .rows) t) → r ≡ ruling (tailRules l h m t)
   unfolding tailRules
-  then-end g k = goes-on _ (endRules l h t) e g k
+  then-cover g k = goes-on _ (coverRule l (h .rows) t) e g k
 
 module _ (l : List ℕ) (f : FileAt) {x : Ruling} (e : x ≡ ruling (edgesRules l (f .front))) where
   pub edges-bad : {y : Refusal} → x ≡ Broken y → Broken y ≡ ruling (restRules l f)

@@ -3,46 +3,41 @@ use mathlib.Core.Path.{_≡_, refl, _∙_}
 use mathlib.Core.Bool.{Bool, true, false, cond, not}
 use mathlib.Core.List.{List, [], _∷_}
 use mathlib.Core.Option.{Option, none, some}
-use Prim.Native.Nat.{ℕ, suc}
+use Prim.Native.Nat.{ℕ}
 use lib.Dec.{eqb}
 use lib.ListN.{length}
-use Rattle.lists.specs.Lists.{all}
 use Rattle.columns.specs.Limits.{kinds}
 use Rattle.columns.specs.Refusal.{refuse, firstOf}
 use Rattle.columns.specs.declared.refusal.Refusal.{Refusal}
 use Rattle.columns.specs.declared.refusal.Refusal.the-variants.{GroupOrder, SourceOrder, CoverInSome}
-use Rattle.archive.specs.File.{Row, CoverColumns, Reference, noReferences, File}
-use Rattle.archive.specs.Bytes.{several}
-use Rattle.archive.specs.Parse.{rowAt, referencesOf}
-use Rattle.archive_read.specs.bodies.View.{headIn, setsIn, coverIn, referencesFrom}
+use Rattle.archive.specs.File.{CoverColumns, File}
+use Rattle.archive_read.specs.bodies.View.{headIn, setsIn, coverIn}
 use Rattle.archive_read.specs.Layout.{partIn, frontIn, middleIn, tailIn, fileFrom, fileIn}
 use Rattle.archive_read.specs.declared.records.FileAt.{FileAt}
 use Rattle.archive_read.proofs.AtFiles.{rows-counted}
 use Rattle.cleaning.specs.Source.{Source, isThere}
-use Rattle.cleaning.specs.Taking.{groupFollows, sourceFollows, coverFollows, fileEnd, unresolvedRules, coverRules, allBefore, fileRules}
-use Rattle.run_rules.specs.parts.Back.{ownRules, backRules, groupsNear, inRows, childRule, recordRule, recordsRules, laterRules, setsRules, earlierRule}
-use Rattle.run_rules.specs.files.Parts.{headRules, subjectIn, edgesRules, listsRules, coverRule, citesRule, endRules, tailRules, restRules}
+use Rattle.cleaning.specs.Taking.{groupFollows, sourceFollows, coverFollows, fileEnd, unresolvedRules, coverRules, fileRules}
+use Rattle.run_rules.specs.parts.Back.{ownRules, backRules, groupsNear, inRows, childRule, recordRule, recordsRules, laterRules, setsRules}
+use Rattle.run_rules.specs.files.Parts.{headRules, subjectIn, edgesRules, listsRules, coverRule, tailRules, restRules}
 
--- ── thirteen rules in groups ─────────────────────────────────────────────────────────────────
+-- ── twelve rules in groups ───────────────────────────────────────────────────────────────────
 
-regroup : (a b c d e g h i j k l m n : Option Refusal) → firstOf (a ∷ b ∷ c ∷ d ∷ e ∷ g ∷ h ∷ i ∷ j ∷ k ∷ l ∷ m ∷ n ∷ [])
-    ≡ firstOf (firstOf (firstOf (a ∷ b ∷ c ∷ []) ∷ firstOf (d ∷ e ∷ g ∷ []) ∷ []) ∷ firstOf (firstOf (h ∷ firstOf (i ∷ j ∷ []) ∷ [])
-    ∷ firstOf (firstOf (k ∷ l ∷ []) ∷ firstOf (m ∷ n ∷ []) ∷ []) ∷ []) ∷ [])
+regroup : (a b c d e g h i j k l m : Option Refusal) → firstOf (a ∷ b ∷ c ∷ d ∷ e ∷ g ∷ h ∷ i ∷ j ∷ k ∷ l ∷ m ∷ [])
+    ≡ firstOf (firstOf (firstOf (a ∷ b ∷ c ∷ []) ∷ firstOf (d ∷ e ∷ g ∷ []) ∷ []) ∷ firstOf (firstOf (h ∷ firstOf (i ∷ j ∷ []) ∷ []) ∷ firstOf (firstOf (k ∷ l ∷ []) ∷ m ∷ []) ∷ []) ∷ [])
 unfolding firstOf
-regroup (some x) b c d e g h i j k l m n = refl
-regroup none (some x) c d e g h i j k l m n = refl
-regroup none none (some x) d e g h i j k l m n = refl
-regroup none none none (some x) e g h i j k l m n = refl
-regroup none none none none (some x) g h i j k l m n = refl
-regroup none none none none none (some x) h i j k l m n = refl
-regroup none none none none none none (some x) i j k l m n = refl
-regroup none none none none none none none (some x) j k l m n = refl
-regroup none none none none none none none none (some x) k l m n = refl
-regroup none none none none none none none none none (some x) l m n = refl
-regroup none none none none none none none none none none (some x) m n = refl
-regroup none none none none none none none none none none none (some x) n = refl
-regroup none none none none none none none none none none none none (some x) = refl
-regroup none none none none none none none none none none none none none = refl
+regroup (some x) b c d e g h i j k l m = refl
+regroup none (some x) c d e g h i j k l m = refl
+regroup none none (some x) d e g h i j k l m = refl
+regroup none none none (some x) e g h i j k l m = refl
+regroup none none none none (some x) g h i j k l m = refl
+regroup none none none none none (some x) h i j k l m = refl
+regroup none none none none none none (some x) i j k l m = refl
+regroup none none none none none none none (some x) j k l m = refl
+regroup none none none none none none none none (some x) k l m = refl
+regroup none none none none none none none none none (some x) l m = refl
+regroup none none none none none none none none none none (some x) m = refl
+regroup none none none none none none none none none none none (some x) = refl
+regroup none none none none none none none none none none none none = refl
 
 -- ── looking back ─────────────────────────────────────────────────────────────────────────────
 
@@ -63,37 +58,18 @@ there-cond : (b : Bool) (c : CoverColumns) → isThere (cond b (some c) none) �
 there-cond true c = refl
 there-cond false c = refl
 
--- rows without references keep their rule
-none-before : {A : Type 0} (n : ℕ) (rs : List A) → allBefore n (noReferences rs) ≡ true
-unfolding allBefore all
-none-before n [] = refl
-none-before n (r ∷ rs) = none-before (suc n) rs
-
-cites-cond : (first : ℕ) (rs : List Row) (b : Bool) (rss : List (List Reference))
-    → earlierRule first (referencesOf rs (cond b (some rss) none)) ≡ cond b (earlierRule first rss) none
-unfolding earlierRule referencesOf
-cites-cond first rs true rss = refl
-cites-cond first rs false rss = rw (none-before first rs)
-
 grouped : (before : Option Source) (f : File) → fileRules kinds before f
     ≡ firstOf (firstOf (ownRules (f .subject) (f .first) (length (f .rows)) (f .depth) ∷ backRules before (f .group) (f .subject) (f .first) (isThere (f .cover)) ∷ [])
     ∷ firstOf (setsRules (f .first) (length (f .rows)) (fileEnd f) (f .forward) (f .reverse) (f .inbound)
-    ∷ firstOf (recordsRules (f .first) (length (f .rows)) (fileEnd f) (f .roots) (f .unresolved)
-    ∷ firstOf (coverRules (f .cover) ∷ earlierRule (f .first) (f .references) ∷ []) ∷ []) ∷ []) ∷ [])
-unfolding fileRules ownRules setsRules laterRules earlierRule recordsRules inRows recordRule childRule unresolvedRules
-grouped before f = regroup _ _ _ _ _ _ _ _ _ _ _ _ _ ∙ rw (back-same before f)
+    ∷ firstOf (recordsRules (f .first) (length (f .rows)) (fileEnd f) (f .roots) (f .unresolved) ∷ coverRules (f .cover) ∷ []) ∷ []) ∷ [])
+unfolding fileRules ownRules setsRules laterRules recordsRules inRows recordRule childRule unresolvedRules
+grouped before f = regroup _ _ _ _ _ _ _ _ _ _ _ _ ∙ rw (back-same before f)
 
 module _ (l : List ℕ) (f : FileAt) where
   cover-there : isThere (fileIn l f .cover) ≡ f .tail .covered
   unfolding fileIn fileFrom tailIn
   cover-there = there-cond (f .tail .covered) (coverIn (partIn l (f .tail .body)) (f .front .head .rows) (f .tail .cover))
 
-  cites-there : earlierRule (fileIn l f .first) (fileIn l f .references) ≡ citesRule l (f .front .head) (f .tail)
-  unfolding fileIn fileFrom frontIn middleIn tailIn headIn citesRule
-  cites-there =
-      let n = f .front .head .rows in
-      cites-cond (f .front .head .first) (several 9 rowAt n (partIn l (f .middle .rows))) (f .tail .cited) (referencesFrom n (partIn l (f .tail .cites)))
-
   pub parts-are : (before : Option Source) → fileRules kinds before (fileIn l f) ≡ firstOf (headRules before (subjectIn l (f .front)) (f .front .head) (f .tail .covered) ∷ restRules l f ∷ [])
-  unfolding fileIn fileFrom frontIn middleIn tailIn headIn setsIn headRules restRules edgesRules tailRules endRules listsRules coverRule
-  parts-are before = grouped before (fileIn l f) ∙ rw (rows-counted l f, cover-there, cites-there)
+  unfolding fileIn fileFrom frontIn middleIn tailIn headIn setsIn headRules restRules edgesRules tailRules listsRules coverRule
+  parts-are before = grouped before (fileIn l f) ∙ rw (rows-counted l f, cover-there)

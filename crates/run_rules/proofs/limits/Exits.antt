@@ -7,7 +7,7 @@ use lib.Dec.{ltb}
 use borrow.Author.Tests.{lt-ltb, le-ltb, ltb-true, ltb-false}
 use Rattle.columns.specs.Limits.{maxRecords, maxNumbers}
 use Rattle.columns.specs.Refusal.{refuse, firstOf}
-use Rattle.columns.specs.declared.refusal.Refusal.the-variants.{OverRecords, OverNumbers}
+use Rattle.columns.specs.declared.refusal.Refusal.the-variants.{OverRecords, OverNumbers, RecordBroken}
 use Rattle.archive_read.specs.declared.files.Totals.{Totals}
 use Rattle.columns.specs.Answers.{ruling}
 use Rattle.columns.specs.declared.refusal.Ruling.the-variants.{Kept, Broken}
@@ -64,25 +64,24 @@ module _ (a b : Totals) {x : Bool} (p : x ≡ ltb maxNumbers (a .forward + b .fo
     unfolding manyNumbers
     many-reverse k = rw (← p, h, ← q, k)
 
-    module _ (k : y ≡ false) {z : Bool} (r : z ≡ ltb maxNumbers (a .inbound + b .inbound)) where
-      pub many-inbound : z ≡ true → true ≡ manyNumbers a b
-      unfolding manyNumbers
-      many-inbound l = rw (← p, h, ← q, k, ← r, l)
+    pub only-inbound : y ≡ false → {r : Bool} → r ≡ ltb maxNumbers (a .inbound + b .inbound) → r ≡ manyNumbers a b
+    unfolding manyNumbers
+    only-inbound k e = rw (← p, h, ← q, k) e
 
-      pub only-references : z ≡ false → {w : Bool} → w ≡ ltb maxNumbers (a .references + b .references) → w ≡ manyNumbers a b
-      unfolding manyNumbers
-      only-references l e = rw (← p, h, ← q, k, ← r, l) e
+pub references-there : (h : Held) (t : Totals) (groups : Bool) → 0 < t .references → Broken RecordBroken ≡ ruling (limitRules h t groups)
+unfolding limitRules firstOf
+references-there h t groups l = rw (lt-ltb 0 (t .references) l)
 
-module _ (h : Held) (t a : Totals) (groups : Bool) (e : a ≡ figures h) {x : Bool} (p : x ≡ manyRecords a t groups) where
+module _ (h : Held) (t a : Totals) (groups : Bool) (n : t .references ≤ 0) (e : a ≡ figures h) {x : Bool} (p : x ≡ manyRecords a t groups) where
   pub records-many : x ≡ true → Broken OverRecords ≡ ruling (limitRules h t groups)
   unfolding limitRules firstOf
-  records-many k = rw (← e, ← p, k)
+  records-many k = rw (le-ltb 0 (t .references) n, ← e, ← p, k)
 
   module _ (k : x ≡ false) {y : Bool} (q : y ≡ manyNumbers a t) where
     pub numbers-many : y ≡ true → Broken OverNumbers ≡ ruling (limitRules h t groups)
     unfolding limitRules firstOf
-    numbers-many l = rw (← e, ← p, k, ← q, l)
+    numbers-many l = rw (le-ltb 0 (t .references) n, ← e, ← p, k, ← q, l)
 
     pub limits-kept : y ≡ false → Kept ≡ ruling (limitRules h t groups)
     unfolding limitRules firstOf
-    limits-kept l = rw (← e, ← p, k, ← q, l)
+    limits-kept l = rw (le-ltb 0 (t .references) n, ← e, ← p, k, ← q, l)

@@ -4,7 +4,7 @@ use mathlib.Core.Bool.{true, false≢true}
 use mathlib.Core.List.{List, [], _∷_}
 use Prim.Native.Nat.{ℕ, _+_, _-_, _*_, _≤_}
 use native.Mathlib.Omega.{arith}
-use lib.Dec.{leb, eqb}
+use lib.Dec.{leb, eqb, ltb}
 use lib.ListN.{length, take, length-drop}
 use lib.Seq.{slice, length-take-le}
 use borrow.Author.Tests.{leb-true, eqb-true}
@@ -20,12 +20,13 @@ use Rattle.archive_read.specs.declared.files.Totals.{Totals}
 use Rattle.archive_read.specs.Sums.{totals}
 use Rattle.archive_groups.specs.Groups.{groupsOver}
 use Rattle.cleaning.specs.Held.{recordsOver, numbersOver}
+use Rattle.cleaning.specs.Taking.{carries}
+use Rattle.cleaning.proofs.Carried.{carries-counted}
 use Rattle.run_state.specs.declared.Edges.{Edges}
 use Rattle.run_state.specs.declared.Held.{Held}
 use Rattle.run_state.specs.View.{factsAt, unresolvedAt, rootAt, linkAt, slotsIn, sheetIn, heldIn}
 use Rattle.run_state.specs.Valid.{edgesOk, sheetOk, heldOk}
 use Rattle.run_state.specs.order.Long.{LongEdges, LongHeld}
-use Rattle.run_state.proofs.cited.Kept.{cites-kept, cites-sum}
 use Rattle.run_state.proofs.order.TidySheets.{tags-length, edges-form}
 use Rattle.run_rules.specs.limits.Figures.{figures, manyRecords, manyNumbers}
 
@@ -58,6 +59,10 @@ slots-sum n e l k = go (take (kinds * n + 1) (e .offsets)) (both (eqb (length (t
 
 -- ── the figures ──────────────────────────────────────────────────────────────────────────────
 
+pub references-same : (fs : List File) → ltb 0 (totals fs .references) ≡ carries fs
+unfolding totals
+references-same fs = sym (carries-counted fs)
+
 module _ (h : Held) (l : LongHeld h) (k : heldOk h ≡ true) (fs : List File) where
   sheet-ok : sheetOk (h .sheet) ≡ true
   unfolding heldOk
@@ -80,7 +85,5 @@ module _ (h : Held) (l : LongHeld h) (k : heldOk h ≡ true) (fs : List File) wh
       rw (
         slots-sum (h .sheet .rows .count) (h .sheet .edges) (l .sheet .edges) (edges-form (h .sheet) (l .sheet) sheet-ok),
         slots-sum (h .sheet .rows .count) (h .reverse) (l .reverse) (both (edgesOk (h .sheet .rows .count) (h .reverse)) _ e .0),
-        slots-sum (h .sheet .rows .count) (h .inbound) (l .inbound)
-            (both (edgesOk (h .sheet .rows .count) (h .inbound)) _ (both (edgesOk (h .sheet .rows .count) (h .reverse)) _ e .1) .0),
-        cites-sum (h .sheet .start) (h .sheet .rows .count) (h .cites) (cites-kept h k) (l .cites),
+        slots-sum (h .sheet .rows .count) (h .inbound) (l .inbound) (both (edgesOk (h .sheet .rows .count) (h .reverse)) _ e .1),
       )

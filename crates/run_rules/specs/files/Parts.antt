@@ -9,7 +9,7 @@ use Rattle.columns.specs.Refusal.{firstOf}
 use Rattle.columns.specs.declared.refusal.Refusal.{Refusal}
 use Rattle.archive.specs.Bytes.{several}
 use Rattle.archive.specs.Parse.{depthRead, unresolvedAt, rootAt}
-use Rattle.archive_read.specs.bodies.View.{setIn, coverIn, referencesFrom}
+use Rattle.archive_read.specs.bodies.View.{setIn, coverIn}
 use Rattle.archive_read.specs.declared.bodies.HeadAt.{HeadAt}
 use Rattle.archive_read.specs.Layout.{partIn}
 use Rattle.archive_read.specs.declared.records.FrontAt.{FrontAt}
@@ -18,7 +18,7 @@ use Rattle.archive_read.specs.declared.records.TailAt.{TailAt}
 use Rattle.archive_read.specs.declared.records.FileAt.{FileAt}
 use Rattle.cleaning.specs.Source.{Source}
 use Rattle.cleaning.specs.Taking.{coverRules}
-use Rattle.run_rules.specs.parts.Back.{ownRules, backRules, setsRules, recordsRules, earlierRule}
+use Rattle.run_rules.specs.parts.Back.{ownRules, backRules, setsRules, recordsRules}
 
 -- 1, 3, 8, 24, 25, 26 of a head with a subject
 unfoldable pub headRules : Option Source → List ℕ → HeadAt → Bool → Option Refusal
@@ -44,19 +44,11 @@ listsRules l h m t =
 unfoldable pub coverRule : List ℕ → ℕ → TailAt → Option Refusal
 coverRule l n t = coverRules (cond (t .covered) (some (coverIn (partIn l (t .body)) n (t .cover))) none)
 
--- 4 of references
-unfoldable pub citesRule : List ℕ → HeadAt → TailAt → Option Refusal
-citesRule l h t = cond (t .cited) (earlierRule (h .first) (referencesFrom (h .rows) (partIn l (t .cites)))) none
-
--- 22, 4 of references
-unfoldable pub endRules : List ℕ → HeadAt → TailAt → Option Refusal
-endRules l h t = firstOf (coverRule l (h .rows) t ∷ citesRule l h t ∷ [])
-
--- 16, 6, 7, 22, 4 of references
+-- 16, 6, 7, 22
 unfoldable pub tailRules : List ℕ → HeadAt → MiddleAt → TailAt → Option Refusal
-tailRules l h m t = firstOf (listsRules l h m t ∷ endRules l h t ∷ [])
+tailRules l h m t = firstOf (listsRules l h m t ∷ coverRule l (h .rows) t ∷ [])
 
--- 17 to 19, 16, 6, 7, 22, 4 of references
+-- 17 to 19, 16, 6, 7, 22
 unfoldable pub restRules : List ℕ → FileAt → Option Refusal
 restRules l f = firstOf (edgesRules l (f .front) ∷ tailRules l (f .front .head) (f .middle) (f .tail) ∷ [])
 

@@ -1,4 +1,5 @@
--- Document 01, 42 and 43: the figures of what a run holds and of an archive's files, added. proofs/limits/Limits has that they are the definitions'.
+-- Document 01, 42 and 43: the figures of what a run holds and of an archive's files, added; before them 23 of references, of which a run holds none.
+-- proofs/limits/Limits has that they are the definitions'.
 use mathlib.Core.Bool.{Bool, _||_}
 use mathlib.Core.List.{[], _∷_}
 use mathlib.Core.Option.{Option}
@@ -7,7 +8,7 @@ use lib.Dec.{ltb}
 use Rattle.columns.specs.Limits.{maxRecords, maxNumbers}
 use Rattle.columns.specs.Refusal.{refuse, firstOf}
 use Rattle.columns.specs.declared.refusal.Refusal.{Refusal}
-use Rattle.columns.specs.declared.refusal.Refusal.the-variants.{OverRecords, OverNumbers}
+use Rattle.columns.specs.declared.refusal.Refusal.the-variants.{OverRecords, OverNumbers, RecordBroken}
 use Rattle.archive_read.specs.declared.files.Totals.{Totals}
 use Rattle.run_state.specs.declared.Held.{Held}
 
@@ -22,7 +23,7 @@ figures h = record {
   forward = h .sheet .edges .count;
   reverse = h .reverse .count;
   inbound = h .inbound .count;
-  references = h .cites .count;
+  references = 0;
 }
 
 unfoldable pub manyRecords : Totals → Totals → Bool → Bool
@@ -39,8 +40,7 @@ manyNumbers a b =
     ltb maxNumbers (a .forward + b .forward)
     || ltb maxNumbers (a .reverse + b .reverse)
     || ltb maxNumbers (a .inbound + b .inbound)
-    || ltb maxNumbers (a .references + b .references)
 
 unfoldable pub limitRules : Held → Totals → Bool → Option Refusal
 limitRules h t groups =
-    firstOf (refuse OverRecords (manyRecords (figures h) t groups) ∷ refuse OverNumbers (manyNumbers (figures h) t) ∷ [])
+    firstOf (refuse RecordBroken (ltb 0 (t .references)) ∷ refuse OverRecords (manyRecords (figures h) t groups) ∷ refuse OverNumbers (manyNumbers (figures h) t) ∷ [])

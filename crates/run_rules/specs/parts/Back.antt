@@ -11,16 +11,14 @@ use Rattle.columns.specs.EdgeSet.{EdgeSet, forward, reverse, inbound}
 use Rattle.columns.specs.Reading.{setRules}
 use Rattle.columns.specs.Building.{Depth, subjectOk, numbersOk, depthOk, inFile}
 use Rattle.columns.specs.declared.refusal.Refusal.{Refusal}
-use Rattle.columns.specs.declared.refusal.Refusal.the-variants.{SubjectLength, NumberRange, ParentNotEarlier, UnresolvedChild, UnresolvedKind, DepthOrder}
-use Rattle.columns.specs.declared.refusal.Refusal.the-variants.{RootOutside, GroupOrder, SourceOrder, CoverInSome}
+use Rattle.columns.specs.declared.refusal.Refusal.the-variants.{SubjectLength, NumberRange, UnresolvedChild, UnresolvedKind, DepthOrder, RootOutside, GroupOrder, SourceOrder, CoverInSome}
 use Rattle.cover.specs.Chains.{Range}
 use Rattle.cover.specs.Cover.{LinkColumns}
 use Rattle.archive_bytes.specs.Bytes.{column}
-use Rattle.archive.specs.File.{Unresolved, Root, Reference}
+use Rattle.archive.specs.File.{Unresolved, Root}
 use Rattle.archive_read.specs.declared.bodies.CoverAt.{CoverAt}
 use Rattle.cleaning.specs.Source.{Source, endOf, isThere}
 use Rattle.cleaning.specs.Held.{ending}
-use Rattle.cleaning.specs.Taking.{allBefore}
 use Rattle.run_rules.specs.declared.parts.heads.Back.{Back}
 
 -- what a file looks back at: nothing, or a source that ends where the rows before it end
@@ -68,10 +66,6 @@ laterRules first rows end r i = firstOf (setRules kinds reverse first rows end r
 -- 17 to 19, set by set
 unfoldable pub setsRules : ℕ → ℕ → ℕ → EdgeSet → EdgeSet → EdgeSet → Option Refusal
 setsRules first rows end f r i = firstOf (setRules kinds forward first rows end f ∷ laterRules first rows end r i ∷ [])
-
--- 4 of the references of rows from number `first` on
-unfoldable pub earlierRule : ℕ → List (List Reference) → Option Refusal
-earlierRule first rss = refuse ParentNotEarlier (not (allBefore first rss))
 
 -- a range's minimum is not above its maximum
 unfoldable pub inOrder : Range → Bool

@@ -1,5 +1,4 @@
 // The rules of one file of an archive, part by part, over the archive's bytes.
-use crate::parts::cites::cites_rules;
 use crate::parts::covers::cover_rules;
 use crate::parts::heads::Back;
 use crate::parts::heads::back_rules;
@@ -18,11 +17,11 @@ ghost use Prim.Native.Nat.{_+_, _≤_, _<_};
 ghost use lib.ListN.{length, take, drop};
 ghost use Rattle.columns.specs.Limits.{kinds, end64};
 ghost use Rattle.columns.specs.Answers.{ruling};
-ghost use Rattle.archive_read.specs.Layout.{partIn, HoldsHead, HoldsSets, HoldsCover, HoldsCites, HoldsMiddle, HoldsTail, HoldsFile, fileIn};
-ghost use Rattle.archive_read.specs.bodies.View.{coverIn, referencesFrom};
+ghost use Rattle.archive_read.specs.Layout.{partIn, HoldsHead, HoldsSets, HoldsCover, HoldsMiddle, HoldsTail, HoldsFile, fileIn};
+ghost use Rattle.archive_read.specs.bodies.View.{coverIn};
 ghost use Rattle.cleaning.specs.Taking.{coverRules, fileRules};
-ghost use Rattle.run_rules.specs.parts.Back.{backOf, earlierRule};
-ghost use Rattle.run_rules.specs.files.Parts.{headRules, subjectIn, edgesRules, listsRules, coverRule, citesRule, endRules, tailRules, restRules, Small};
+ghost use Rattle.run_rules.specs.parts.Back.{backOf};
+ghost use Rattle.run_rules.specs.files.Parts.{headRules, subjectIn, edgesRules, listsRules, coverRule, tailRules, restRules, Small};
 
 // 1, 3, 8, 24, 25, 26 of a head and the bytes of its subject.
 fn named_rules(s: &[u8], h: HeadAt, covered: bool, back: Back, before: &[u8]) -> Ruling
@@ -139,58 +138,20 @@ fn cover_rule(bytes: &[u8], n: u32, t: TailAt) -> Ruling
     covered_rule(bytes, n, t)
 }
 
-// 4 of a file that has references.
-fn cited_rule(bytes: &[u8], h: HeadAt, t: TailAt) -> Ruling
-    requires { ⌜ HoldsCites (now bytes) (h .rows) (t .references) (t .cites) ⌝ }
-    requires { ⌜ (h .rows ≤ 1024) × (h .first + h .rows < end64) ⌝ }
-    ensures { λ r. ⌜ r ≡ ruling (earlierRule (h .first) (referencesFrom (h .rows) (partIn (now (bytes .entry)) (t .cites)))) ⌝ }
-{
-    let a = t.cites;
-    let at = a.at;
-    let end = a.end;
-    let rows = h.rows as usize;
-    cites_rules(&bytes[at..end], rows, h.first)
-}
-
-// 4 of references.
-fn cites_rule(bytes: &[u8], h: HeadAt, t: TailAt) -> Ruling
-    requires { ⌜ HoldsTail (now bytes) (h .rows) t ⌝ }
-    requires { ⌜ (h .rows ≤ 1024) × (h .first + h .rows < end64) ⌝ }
-    ensures { λ r. ⌜ r ≡ ruling (citesRule (now (bytes .entry)) h t) ⌝ }
-{
-    if !t.cited {
-        return Ruling::Kept;
-    }
-    cited_rule(bytes, h, t)
-}
-
-// 22, 4 of references.
-fn end_rules(bytes: &[u8], h: HeadAt, t: TailAt) -> Ruling
-    requires { ⌜ HoldsTail (now bytes) (h .rows) t × (h .first + h .rows < end64) ⌝ }
-    requires { ⌜ (h .rows ≤ 1024) × ((t .cover .ranges ≤ 1024) × (t .cover .links ≤ 1024)) ⌝ }
-    ensures { λ r. ⌜ r ≡ ruling (endRules (now (bytes .entry)) h t) ⌝ }
-{
-    let r = cover_rule(bytes, h.rows, t);
-    match r {
-        Ruling::Broken(x) => Ruling::Broken(x),
-        Ruling::Kept => cites_rule(bytes, h, t),
-    }
-}
-
-// 16, 6, 7, 22, 4 of references.
+// 16, 6, 7, 22.
 fn tail_rules(bytes: &[u8], h: HeadAt, m: MiddleAt, t: TailAt) -> Ruling
-    requires { ⌜ HoldsMiddle (now bytes) (h .rows) m × HoldsTail (now bytes) (h .rows) t × (h .first + h .rows < end64) ⌝ }
+    requires { ⌜ HoldsMiddle (now bytes) (h .rows) m × HoldsTail (now bytes) (h .rows) t ⌝ }
     requires { ⌜ (h .rows ≤ 1024) × ((t .cover .ranges ≤ 1024) × (t .cover .links ≤ 1024)) ⌝ }
     ensures { λ r. ⌜ r ≡ ruling (tailRules (now (bytes .entry)) h m t) ⌝ }
 {
     let r = lists_rules(bytes, h, m, t);
     match r {
         Ruling::Broken(x) => Ruling::Broken(x),
-        Ruling::Kept => end_rules(bytes, h, t),
+        Ruling::Kept => cover_rule(bytes, h.rows, t),
     }
 }
 
-// 17 to 19, 16, 6, 7, 22, 4 of references, of a file whose numbers fit.
+// 17 to 19, 16, 6, 7, 22 of a file whose numbers fit.
 fn rest_rules(
     bytes: &[u8],
     f: FileAt,

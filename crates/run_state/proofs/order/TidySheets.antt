@@ -31,11 +31,10 @@ use Rattle.run_state.specs.declared.Rows.{Rows}
 use Rattle.run_state.specs.declared.Edges.{Edges}
 use Rattle.run_state.specs.declared.Sheet.{Sheet}
 use Rattle.run_state.specs.declared.Held.{Held}
-use Rattle.run_state.specs.View.{flagged, hasCover, listed, factsAt, labelAt, unresolvedAt, rootAt, linkAt, slotsIn, citesIn, sheetIn, heldIn}
+use Rattle.run_state.specs.View.{flagged, hasCover, listed, factsAt, labelAt, unresolvedAt, rootAt, linkAt, slotsIn, sheetIn, heldIn}
 use Rattle.run_state.specs.Valid.{edgesOk, countsOk, below, earlier, recordsOk, sheetOk, heldOk}
 use Rattle.run_state.specs.order.Ordered.{groupsOrdered, ordered, filled}
 use Rattle.run_state.specs.order.Long.{LongSheet, LongHeld}
-use Rattle.run_state.proofs.cited.Kept.{before-each, cites-kept, cites-earlier, cites-rows}
 use Rattle.run_state.proofs.order.Turns.{rows-few, children-few, roots-few, links-few}
 
 -- ── columns place by place ───────────────────────────────────────────────────────────────────
@@ -207,7 +206,6 @@ neat-held h l k o =
         tags = tags-length s (l .sheet) e ∙ sym m;
         labels = length-map-upFrom (labelAt (s .groups) (s .rows)) 0 n ∙ sym m;
         lists = slots-length n (s .edges) (edges-form s (l .sheet) e) ∙ ap (λ i. kinds * i) (sym m);
-        references = cites-rows (s .start) n (h .cites) (cites-kept h k) (l .cites) (rows-few s (counts s (l .sheet) e)) ∙ sym m;
         roots = rw m (each-imp (λ r. ltb (r .row) n ≡ true) (λ r. r .row < n) (listed (rootAt (s .roots)) (s .roots .count)) (λ r b. ltb-true (r .row) n b)
             (all-each (λ r. ltb (r .row) n) (listed (rootAt (s .roots)) (s .roots .count)) (rw (tags-length s (l .sheet) e) at (t .rootsWithin))));
         unresolved = rw m (each-imp (λ u. inFile (s .start) (s .start + n) (u .child) ≡ true) (λ u. (s .start ≤ u .child) × (u .child < s .start + n))
@@ -217,5 +215,4 @@ neat-held h l k o =
       };
       tidy = t;
       below = slots-below (s .start) 0 (slotsIn n (s .edges)) (below-events s (l .sheet) e);
-      cites = before-each (s .start) (citesIn n (h .cites)) (cites-earlier (s .start) n (h .cites) (cites-kept h k));
     }

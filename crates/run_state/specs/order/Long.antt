@@ -2,7 +2,6 @@
 use mathlib.Core.Path.{_≡_}
 use lib.ListN.{length}
 use Rattle.columns.specs.Limits.{kinds, maxRecords, maxNumbers, maxGroups, maxSubject, offsetsRoom}
-use Rattle.run_state.specs.declared.Cites.{Cites}
 use Rattle.run_state.specs.declared.Groups.{Groups}
 use Rattle.run_state.specs.declared.Rows.{Rows}
 use Rattle.run_state.specs.declared.Edges.{Edges}
@@ -12,7 +11,6 @@ use Rattle.run_state.specs.declared.Ends.{Ends}
 use Rattle.run_state.specs.declared.Links.{Links}
 use Rattle.run_state.specs.declared.Sheet.{Sheet}
 use Rattle.run_state.specs.declared.Held.{Held}
-use Rattle.run_state.specs.View.{citesRoom}
 
 pub record LongGroups (g : Groups) : Type 0 where
   pub known : length (g .known) ≡ maxGroups
@@ -57,15 +55,8 @@ pub record LongSheet (s : Sheet) : Type 0 where
   pub roots : LongRoots (s .roots)
   pub links : LongLinks (s .links)
 
-pub record LongCites (c : Cites) : Type 0 where
-  pub offsets : length (c .offsets) ≡ citesRoom
-  pub kindsGiven : length (c .kinds) ≡ maxNumbers
-  pub spaces : length (c .spaces) ≡ maxNumbers
-  pub targets : length (c .targets) ≡ maxNumbers
-
 pub record LongHeld (h : Held) : Type 0 where
   pub sheet : LongSheet (h .sheet)
   pub erased : length (h .erased) ≡ maxRecords
   pub reverse : LongEdges (h .reverse)
   pub inbound : LongEdges (h .inbound)
-  pub cites : LongCites (h .cites)

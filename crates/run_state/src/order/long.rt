@@ -1,5 +1,4 @@
 // How long columns are, said once for whoever uses them: these functions do nothing.
-use crate::Cites;
 use crate::Edges;
 use crate::Ends;
 use crate::Groups;
@@ -13,7 +12,7 @@ use crate::Unresolved;
 ghost use mathlib.Core.Path.{_≡_};
 ghost use lib.ListN.{length};
 ghost use Rattle.columns.specs.Limits.{maxRecords, maxSubject};
-ghost use Rattle.run_state.specs.order.Long.{LongGroups, LongRows, LongEdges, LongUnresolved, LongRoots, LongEnds, LongLinks, LongSheet, LongCites, LongHeld};
+ghost use Rattle.run_state.specs.order.Long.{LongGroups, LongRows, LongEdges, LongUnresolved, LongRoots, LongEnds, LongLinks, LongSheet, LongHeld};
 
 pub fn subject_long(s: Subject)
     ensures { λ _. ⌜ length (s .bytes) ≡ maxSubject ⌝ }
@@ -66,10 +65,6 @@ pub fn sheet_long(s: Sheet)
     links_long(s.links);
 }
 
-pub fn cites_long(c: Cites)
-    ensures { λ _. ⌜ LongCites c ⌝ }
-{}
-
 pub fn held_long(h: Held)
     ensures { λ _. ⌜ LongHeld h ⌝ }
 {
@@ -78,5 +73,4 @@ pub fn held_long(h: Held)
     erased_long(e);
     edges_long(h.reverse);
     edges_long(h.inbound);
-    cites_long(h.cites);
 }

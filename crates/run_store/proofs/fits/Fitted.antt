@@ -3,10 +3,10 @@ use mathlib.Core.Path.{_≡_, refl, sym, ap, _∙_}
 use mathlib.Core.Bool.{Bool, true, false, cond}
 use mathlib.Core.List.{List, [], _∷_, map}
 use mathlib.Core.Option.{Option, none, some}
-use Prim.Native.Nat.{ℕ, zero, suc, _+_, _*_, _≤_, _<_}
+use Prim.Native.Nat.{ℕ, _+_, _≤_, _<_}
 use native.Mathlib.Omega.{arith}
 use lib.Dec.{leb, ltb}
-use lib.ListN.{length, take, drop, length-drop, length-map}
+use lib.ListN.{length, take, drop, length-drop}
 use lib.Seq.{length-take-le}
 use borrow.Author.Tests.{leb-true}
 use Rattle.lists.specs.Lists.{sum}
@@ -19,21 +19,21 @@ use Rattle.columns.specs.EdgeSet.{EdgeSet, forward, reverse, inbound}
 use Rattle.columns.specs.Reading.{setRules}
 use Rattle.columns.specs.Readable.{Readable}
 use Rattle.columns.specs.Building.{subjectOk}
-use Rattle.columns.specs.declared.refusal.Refusal.the-variants.{CoverForm, ParentNotEarlier}
+use Rattle.columns.specs.declared.refusal.Refusal.the-variants.{CoverForm}
 use Rattle.columns.proofs.FirstBroken.{each-none, passed}
 use Rattle.columns.proofs.Checks.{kept-form}
 use Rattle.archive_bytes.specs.Bytes.{be, several}
 use Rattle.archive_bytes.proofs.Several.{map-several}
 use Rattle.cover.specs.Cover.{evenColumns, sumsFit, linksOk, linkRules, rangeRules}
-use Rattle.archive.specs.File.{CoverColumns, Row, File}
-use Rattle.archive.specs.Parse.{depthRead, rowAt, rootAt, referencesOf}
+use Rattle.archive.specs.File.{CoverColumns, File}
+use Rattle.archive.specs.Parse.{depthRead, rootAt}
 use Rattle.archive.proofs.Back.{length-several}
-use Rattle.archive_read.specs.bodies.View.{headIn, setIn, setsIn, coverIn, referencesFrom}
+use Rattle.archive_read.specs.bodies.View.{headIn, setIn, setsIn, coverIn}
 use Rattle.archive_read.specs.Layout.{partIn, frontIn, middleIn, tailIn, fileFrom, fileIn, HoldsFile, Uncovers}
 use Rattle.archive_read.specs.declared.records.FileAt.{FileAt}
 use Rattle.archive_read.proofs.AtFiles.{rows-counted, forward-counted, reverse-counted, inbound-counted, ranges-counted, links-counted}
 use Rattle.cleaning.specs.Source.{Source, sourceOf}
-use Rattle.cleaning.specs.Taking.{fileEnd, storedRanges, storedLinkCount, coverRules, allBefore, fileRules, filesRules}
+use Rattle.cleaning.specs.Taking.{fileEnd, storedRanges, storedLinkCount, coverRules, fileRules, filesRules}
 use Rattle.cleaning.specs.Held.{lookBack}
 use Rattle.cleaning.proofs.Taken.{Sound, taken-followed}
 use Rattle.cleaning.proofs.HeldRows.{Ready}
@@ -43,7 +43,6 @@ use Rattle.run_state.specs.declared.Held.{Held}
 use Rattle.run_state.specs.View.{factsAt, sheetIn, heldIn}
 use Rattle.run_state.specs.Valid.{edgesOk, countsOk, sheetOk, heldOk}
 use Rattle.run_state.specs.order.Long.{LongEdges, LongHeld}
-use Rattle.run_state.proofs.cited.Kept.{cites-kept, cites-cut}
 use Rattle.run_store.specs.grow.Column.{Small}
 use Rattle.run_store.proofs.joined.Fitting.{SetFit, LinkFit, HeldFit}
 use Rattle.run_store.proofs.joined.RowLabels.{Labelled}
@@ -56,28 +55,6 @@ use Rattle.run_store.proofs.fits.LooksBack.{ready-held, group-below}
 depth-is : (l : List ℕ) (f : FileAt) → fileIn l f .depth ≡ depthRead (f .front .head .flag) (f .front .head .least) (f .front .head .greatest)
 unfolding fileIn fileFrom frontIn headIn
 depth-is l f = refl
-
--- ── references ───────────────────────────────────────────────────────────────────────────────
-
-from-many : (n : ℕ) (b : List ℕ) → length (referencesFrom n b) ≡ n
-unfolding referencesFrom
-from-many zero b = refl
-from-many (suc n) b = ap suc (from-many n (drop (4 + be 4 b 0 * 10) b))
-
--- a list for each row
-references-many : (l : List ℕ) (f : FileAt) → length (fileIn l f .references) ≡ f .front .head .rows
-unfolding fileIn fileFrom tailIn middleIn referencesOf
-references-many l f = go (f .tail .cited)
-  where
-    n : ℕ
-    n = f .front .head .rows
-
-    rs : List Row
-    rs = several 9 rowAt n (partIn l (f .middle .rows))
-
-    go : (t : Bool) → length (referencesOf rs (cond t (some (referencesFrom n (partIn l (f .tail .cites)))) none)) ≡ n
-    go true = from-many n (partIn l (f .tail .cites))
-    go false = length-map rs (λ r. []) ∙ length-several 9 rowAt n (partIn l (f .middle .rows))
 
 -- ── covers ───────────────────────────────────────────────────────────────────────────────────
 
@@ -117,10 +94,7 @@ module _ (h : Held) (l : List ℕ) (f : FileAt) (fs : List File) (long : LongHel
 
   held-parts : (sheetOk (h .sheet) ≡ true) × (edgesOk n (h .reverse) ≡ true) × (edgesOk n (h .inbound) ≡ true)
   unfolding heldOk
-  held-parts =
-      let a = both (sheetOk (h .sheet)) _ ok in
-      let b = both (edgesOk n (h .reverse)) _ (a .1) in
-      (a .0, b .0, both (edgesOk n (h .inbound)) _ (b .1) .0)
+  held-parts = let a = both (sheetOk (h .sheet)) _ ok in let b = both (edgesOk n (h .reverse)) _ (a .1) in (a .0, b .0, b .1)
 
   sheet-parts : (countsOk (h .sheet) ≡ true) × (edgesOk n (h .sheet .edges) ≡ true)
   unfolding sheetOk
@@ -167,10 +141,6 @@ module _ (h : Held) (l : List ℕ) (f : FileAt) (fs : List File) (long : LongHel
   cover-kept : coverRules (F .cover) ≡ none
   unfolding fileRules
   cover-kept = each-none (_ ∷ _) rules .1 .1 .1 .1 .1 .1 .1 .1 .1 .1 .1 .0
-
-  references-kept : allBefore (F .first) (F .references) ≡ true
-  unfolding fileRules
-  references-kept = passed ParentNotEarlier (allBefore (F .first) (F .references)) (each-none (_ ∷ _) rules .1 .1 .1 .1 .1 .1 .1 .1 .1 .1 .1 .1 .0)
 
   -- ── sets ─────────────────────────────────────────────────────────────────────────────────────
 
@@ -248,10 +218,6 @@ module _ (h : Held) (l : List ℕ) (f : FileAt) (fs : List File) (long : LongHel
   unfolding sum
   links-room = omega (arith, left .links)
 
-  references-room : h .cites .count + sum length (F .references) ≤ 4096
-  unfolding sum
-  references-room = omega (arith, left .references)
-
   roots-small : Small (several 16 (λ b. be 8 b 0) (f .tail .count) (drop 4 (partIn l (f .tail .roots))))
   unfolding fileIn fileFrom tailIn rootAt sourceOf
   roots-small =
@@ -312,11 +278,7 @@ module _ (h : Held) (l : List ℕ) (f : FileAt) (fs : List File) (long : LongHel
     reverse = reverse-fits;
     inbound = inbound-fits;
     ranges = omega (arith, ranges-room, ranges-counted l f u);
-    cites = references-room;
   }
-
-  references-are : length (F .references) ≡ length (F .rows)
-  references-are = references-many l f ∙ sym rows-are
 
   link-fit : LinkFit (h .sheet .links) (F .cover)
   unfolding fileIn fileFrom tailIn coverIn
@@ -369,14 +331,6 @@ module _ (h : Held) (l : List ℕ) (f : FileAt) (fs : List File) (long : LongHel
     erased = rw (long .erased) rows-room;
     reverse = set-fit reverse (h .reverse) (F .reverse) reverse-kept reverse-even reverse-room (held-parts .1) (long .reverse);
     inbound = set-fit inbound (h .inbound) (F .inbound) inbound-kept inbound-even inbound-room (held-parts .2) (long .inbound);
-    cites = record {
-      form = cites-cut (h .sheet .start) n (h .cites) (cites-kept h ok);
-      long = long .cites;
-      few = references-room;
-      room = omega (arith, rows-room, references-are);
-    };
-    cited = references-are;
-    earlier = references-kept;
   }
 
   pub held-sound : SheetSound (h .sheet) F

@@ -10,7 +10,6 @@ use Rattle.columns.specs.EdgeSet.{EdgeSet, offsetsForm}
 use Rattle.archive.specs.File.{CoverColumns, File}
 use Rattle.archive.specs.Parse.{depthRead}
 use Rattle.cleaning.specs.Source.{isThere}
-use Rattle.cleaning.specs.Taking.{allBefore}
 use Rattle.run_state.specs.declared.Rows.{Rows}
 use Rattle.run_state.specs.declared.Edges.{Edges}
 use Rattle.run_state.specs.declared.Unresolved.{Unresolved}
@@ -23,7 +22,6 @@ use Rattle.run_state.specs.Valid.{edgesOk}
 use Rattle.run_store.proofs.joined.GroupTable.{Table}
 use Rattle.run_store.proofs.joined.LinkRecords.{LinkRoom}
 use Rattle.run_store.proofs.joined.RowLabels.{Labelled}
-use Rattle.run_store.proofs.joined.References.{CitesFit}
 
 -- the lists of n rows are in form, a set of a file of some rows is too, and there is room for both
 pub record SetFit (n rows : ℕ) (e : Edges) (s : EdgeSet) : Type 0 where
@@ -77,6 +75,3 @@ pub record HeldFit (h : Held) (f : File) (flag least greatest : ℕ) : Type 0 wh
   pub erased : h .sheet .rows .count + length (f .rows) ≤ length (h .erased)
   pub reverse : SetFit (h .sheet .rows .count) (length (f .rows)) (h .reverse) (f .reverse)
   pub inbound : SetFit (h .sheet .rows .count) (length (f .rows)) (h .inbound) (f .inbound)
-  pub cites : CitesFit (h .sheet .rows .count) (h .cites) (f .references)
-  pub cited : length (f .references) ≡ length (f .rows)
-  pub earlier : allBefore (f .first) (f .references) ≡ true

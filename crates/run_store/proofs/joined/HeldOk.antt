@@ -1,5 +1,5 @@
 -- A valid run with a file more, whose rules are kept, is valid.
-use mathlib.Core.Path.{_≡_, sym, _∙_, ap}
+use mathlib.Core.Path.{_≡_, _∙_, ap}
 use mathlib.Core.Bool.{Bool, true, cond, _&&_}
 use mathlib.Core.List.{map}
 use Prim.Native.Nat.{ℕ, _≤_, _<_, _+_, _-_, _*_}
@@ -25,15 +25,13 @@ use Rattle.run_state.specs.declared.Edges.{Edges}
 use Rattle.run_state.specs.declared.Sheet.{Sheet}
 use Rattle.run_state.specs.declared.Held.{Held}
 use Rattle.run_state.specs.View.{slotsIn}
-use Rattle.run_state.specs.Valid.{edgesOk, countsOk, below, earlier, recordsOk, sheetOk, citesOk, heldOk}
-use Rattle.run_state.proofs.cited.Kept.{cites-kept, cites-earlier, cites-rows}
-use Rattle.run_store.specs.parts.Grown.{edgesWith, unresolvedWith, rootsWith, citesWith}
+use Rattle.run_state.specs.Valid.{edgesOk, countsOk, below, earlier, recordsOk, sheetOk, heldOk}
+use Rattle.run_store.specs.parts.Grown.{edgesWith, unresolvedWith, rootsWith}
 use Rattle.run_store.specs.joined.Joined.{linksMore, sheetMore, heldMore}
 use Rattle.run_store.proofs.joined.Records.{column-grown}
 use Rattle.run_store.proofs.joined.Lists.{edges-grown}
 use Rattle.run_store.proofs.joined.Fitting.{SetFit, SheetFit, HeldFit}
 use Rattle.run_store.proofs.joined.StaysOk.{subject-length, groups-few, links-count, children-in, roots-below, parents-earlier}
-use Rattle.run_store.proofs.joined.References.{cites-stay-ok}
 use Rattle.run_store.proofs.joined.Whole.{grownRows, rows-count, slots-more}
 
 -- what the rules of a file say of it, after the rows that are held
@@ -134,14 +132,4 @@ held-stays-ok h f flag least greatest ok fit sound =
     let z = rows-count s f flag least greatest (fit .sheet) in
     yes (sheet-stays-ok s f flag least greatest (both (sheetOk s) _ ok .0) (fit .sheet) sound)
     (yes (edges-ok (s .rows .count) (length (f .rows)) (f .first) _ (h .reverse) (f .reverse) (fit .reverse) (fit .sheet .rows .room) z)
-    (yes (edges-ok (s .rows .count) (length (f .rows)) (f .first) _ (h .inbound) (f .inbound) (fit .inbound) (fit .sheet .rows .room) z)
-    (ap (λ i. citesOk (cond (eqb (s .groups .count) 0) (f .first) (s .start)) i (citesWith (h .cites) (s .rows .count) (f .references)))
-    (z ∙ ap (λ i. s .rows .count + i) (sym (fit .cited))) ∙ cites)))
-  where
-    cites : citesOk (cond (eqb (h .sheet .groups .count) 0) (f .first) (h .sheet .start)) (h .sheet .rows .count + length (f .references))
-        (citesWith (h .cites) (h .sheet .rows .count) (f .references)) ≡ true
-    cites =
-        let n = h .sheet .rows .count in
-        let k = cites-kept h ok in
-        cites-stay-ok (h .sheet .start) _ n (f .first) (h .cites) (f .references) (fit .cites) (sound .first) (sound .stays)
-        (cites-rows (h .sheet .start) n (h .cites) k (fit .cites .long) (omega (arith, fit .cites .room))) (cites-earlier (h .sheet .start) n (h .cites) k) (fit .earlier)
+    (edges-ok (s .rows .count) (length (f .rows)) (f .first) _ (h .inbound) (f .inbound) (fit .inbound) (fit .sheet .rows .room) z))

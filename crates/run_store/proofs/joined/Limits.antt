@@ -1,7 +1,7 @@
 -- 42 and 43 over what is held and an archive: what is left of them for the archive's first file.
 use mathlib.Core.Path.{_≡_}
 use mathlib.Core.Bool.{Bool, false, _||_}
-use mathlib.Core.List.{List, [], _∷_, _++_, map}
+use mathlib.Core.List.{List, _∷_, _++_, map}
 use mathlib.Core.Option.{none}
 use Prim.Native.Nat.{ℕ, _≤_, _+_}
 use native.Mathlib.Omega.{arith}
@@ -13,13 +13,12 @@ use Rattle.lists.specs.Lists.{sum, once, upFrom}
 use Rattle.lists.proofs.Once.{or-is-false}
 use Rattle.lists.proofs.Flat.{length-map-upFrom}
 use Rattle.columns.specs.Limits.{kinds, maxRecords, maxGroups}
-use Rattle.columns.specs.Refusal.{refuse}
-use Rattle.columns.specs.declared.refusal.Refusal.the-variants.{OverRecords, OverNumbers}
+use Rattle.columns.specs.declared.refusal.Refusal.the-variants.{OverRecords}
 use Rattle.columns.proofs.FirstBroken.{each-none, not-refused}
 use Rattle.archive.specs.File.{File}
 use Rattle.cleaning.specs.Taking.{storedRanges, storedLinkCount, filesRules}
 use Rattle.cleaning.specs.Sheet.{rowCount}
-use Rattle.cleaning.specs.Held.{recordsOver, numbersOver, lookBack, holdRules}
+use Rattle.cleaning.specs.Held.{recordsOver, lookBack, holdRules}
 use Rattle.run_state.specs.declared.Held.{Held}
 use Rattle.run_state.specs.View.{unresolvedAt, rootAt, linkAt, sheetIn, heldIn}
 
@@ -40,13 +39,11 @@ all-within m a b c d g r e =
 module _ (h : Held) (f : File) (fs : List File) (tags : h .sheet .rows .count ≤ length (h .sheet .rows .tags)) (e : holdRules kinds (heldIn h) (f ∷ fs) ≡ none) where
   kept : recordsOver (heldIn h) (f ∷ fs) ≡ false
   unfolding holdRules
-  kept = not-refused OverRecords (recordsOver (heldIn h) (f ∷ fs))
-      (each-none (refuse OverRecords (recordsOver (heldIn h) (f ∷ fs)) ∷ refuse OverNumbers (numbersOver (heldIn h) (f ∷ fs)) ∷ filesRules kinds (lookBack (heldIn h .sheet)) (f ∷ fs) ∷ []) e .0)
+  kept = not-refused OverRecords (recordsOver (heldIn h) (f ∷ fs)) (each-none _ e .1 .0)
 
   pub file-rules : filesRules kinds (lookBack (heldIn h .sheet)) (f ∷ fs) ≡ none
   unfolding holdRules
-  file-rules =
-      each-none (refuse OverRecords (recordsOver (heldIn h) (f ∷ fs)) ∷ refuse OverNumbers (numbersOver (heldIn h) (f ∷ fs)) ∷ filesRules kinds (lookBack (heldIn h .sheet)) (f ∷ fs) ∷ []) e .1 .1 .0
+  file-rules = each-none _ e .1 .1 .1 .0
 
   few : (rowCount (heldIn h .sheet) + sum (λ f. length (f .rows)) (f ∷ fs) ≤ maxRecords)
       × (length (heldIn h .sheet .roots) + sum (λ f. length (f .roots)) (f ∷ fs) ≤ maxRecords)

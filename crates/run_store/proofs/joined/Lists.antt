@@ -59,7 +59,7 @@ unfolding starts
 starts-first a [] = refl
 starts-first a (l ∷ ls) = refl
 
-pub starts-append : {A : Type 0} (a : ℕ) (ks ls : List (List A)) → starts a ks ++ drop 1 (starts (a + length (joined ks)) ls) ≡ starts a (ks ++ ls)
+starts-append : {A : Type 0} (a : ℕ) (ks ls : List (List A)) → starts a ks ++ drop 1 (starts (a + length (joined ks)) ls) ≡ starts a (ks ++ ls)
 unfolding starts joined
 starts-append a [] ls = rw (add-zero a) (sym (starts-first a ls))
 starts-append a (k ∷ ks) ls =

@@ -32,8 +32,8 @@ use Rattle.run_state.specs.declared.Edges.{Edges}
 use Rattle.run_state.specs.declared.Links.{Links}
 use Rattle.run_state.specs.declared.Sheet as sheets
 use Rattle.run_state.specs.declared.Held as holds
-use Rattle.run_state.specs.View.{flagged, listed, factsAt, labelAt, unresolvedAt, rootAt, linkAt, slotsIn, citesIn, sheetIn, heldIn}
-use Rattle.run_store.specs.parts.Grown.{rowsWith, labelsWith, edgesWith, unresolvedWith, rootsWith, linksWith, groupsWith, subjectNew, citesWith}
+use Rattle.run_state.specs.View.{flagged, listed, factsAt, labelAt, unresolvedAt, rootAt, linkAt, slotsIn, sheetIn, heldIn}
+use Rattle.run_store.specs.parts.Grown.{rowsWith, labelsWith, edgesWith, unresolvedWith, rootsWith, linksWith, groupsWith, subjectNew}
 use Rattle.run_store.specs.joined.Joined.{labelsMore, linksMore, sheetMore, heldMore}
 use Rattle.run_store.proofs.joined.Grows.{sets-take}
 use Rattle.run_store.proofs.joined.Records.{column-grown, flags-grown, unresolved-grown, roots-grown}
@@ -41,7 +41,6 @@ use Rattle.run_store.proofs.joined.LinkRecords.{links-grown}
 use Rattle.run_store.proofs.joined.GroupTable.{groups-grown, covers-stay, cover-here}
 use Rattle.run_store.proofs.joined.RowLabels.{labels-grown}
 use Rattle.run_store.proofs.joined.Lists.{slots-grown}
-use Rattle.run_store.proofs.joined.References.{cites-grown, references-are}
 use Rattle.run_store.proofs.joined.Fitting.{SetFit, LinkFit, SheetFit, HeldFit}
 
 -- ── parts that depend on the cover or on whether a group is there ────────────────────────────
@@ -159,11 +158,9 @@ module _ (s : sheets.Sheet) (f : File) (flag least greatest : ℕ) (fit : SheetF
 
 -- ── what is held ─────────────────────────────────────────────────────────────────────────────
 
-same-held : {a a′ : Sheet.Sheet} {b b′ : List Bool} {c c′ d d′ : List (List ℕ)} {e e′ : ℕ} {f f′ : List (List File.Reference)}
-    → a ≡ a′ → b ≡ b′ → c ≡ c′ → d ≡ d′ → e ≡ e′ → f ≡ f′
-    → _≡_ {A = Held.Held} (record { sheet = a; erased = b; reverse = c; inbound = d; ranges = e; references = f })
-    (record { sheet = a′; erased = b′; reverse = c′; inbound = d′; ranges = e′; references = f′ })
-same-held p q r s t u = rw (p, q, r, s, t, u)
+same-held : {a a′ : Sheet.Sheet} {b b′ : List Bool} {c c′ d d′ : List (List ℕ)} {e e′ : ℕ} → a ≡ a′ → b ≡ b′ → c ≡ c′ → d ≡ d′ → e ≡ e′
+    → _≡_ {A = Held.Held} (record { sheet = a; erased = b; reverse = c; inbound = d; ranges = e }) (record { sheet = a′; erased = b′; reverse = c′; inbound = d′; ranges = e′ })
+same-held p q r s t = rw (p, q, r, s, t)
 
 pub held-more : (h : holds.Held) (f : File) (flag least greatest : ℕ) → HeldFit h f flag least greatest
     → heldIn (heldMore h f flag least greatest) ≡ heldWith (heldIn h) (sourceOf kinds f)
@@ -177,5 +174,3 @@ held-more h f flag least greatest fit =
     (slots-more n (length (f .rows)) (f .first) _ (h .reverse) (f .reverse) (fit .reverse) room z)
     (slots-more n (length (f .rows)) (f .first) _ (h .inbound) (f .inbound) (fit .inbound) room z)
     (ap (λ i. h .ranges + i) (ranges-read (f .cover)))
-    (ap (λ i. citesIn i (citesWith (h .cites) n (f .references))) (z ∙ ap (λ i. n + i) (sym (fit .cited))) ∙ cites-grown n (h .cites) (f .references) (fit .cites)
-    ∙ ap (λ x. citesIn n (h .cites) ++ x) (sym (references-are (f .references) (length (f .rows)) (fit .cited))))

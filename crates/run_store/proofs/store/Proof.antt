@@ -42,20 +42,15 @@ store-set-requires-3 c κs = (
   refl,
 )
 
-store-cites-requires : tie.Need-store-cites-requires
-store-cites-requires c κs = accepted _ _ (c .before .before .before .before .before .before .before .before .before .before .before .held-long .ensures)
-    (c .before .before .before .before .before .before .before .before .before .before .before .before .before .pre)
-
 returns : tie.Need-returns
 returns c =
-    together-stored _ _ _ (c .before .before .before .before .before .before .before .before .before .before .before .store-names .ensures)
-    (c .before .before .before .before .before .before .before .before .store-rows .ensures) (c .before .before .before .before .before .before .before .store-set .ensures)
-    (c .before .before .before .before .before .before .store-unresolved .ensures) (c .before .before .before .before .before .store-roots .ensures)
-    (c .before .before .before .before .store-links .ensures) (c .before .before .before .store-flags .ensures) (c .before .before .store-set2 .ensures)
-    (c .before .store-set3 .ensures) (c .store-cites .ensures)
+    together-stored _ _ _ (c .before .before .before .before .before .before .before .before .before .before .store-names .ensures)
+    (c .before .before .before .before .before .before .before .store-rows .ensures) (c .before .before .before .before .before .before .store-set .ensures)
+    (c .before .before .before .before .before .store-unresolved .ensures) (c .before .before .before .before .store-roots .ensures)
+    (c .before .before .before .store-links .ensures) (c .before .before .store-flags .ensures) (c .before .store-set2 .ensures) (c .store-set3 .ensures)
 
 pub store-spec : {M : Type 1} → statement M
 store-spec =
     tie.close
     (tie.spec (λ c κs. search needs) store-names-requires store-rows-requires store-set-requires store-unresolved-requires
-    store-roots-requires store-links-requires store-flags-requires store-set-requires-2 store-set-requires-3 store-cites-requires returns)
+    store-roots-requires store-links-requires store-flags-requires store-set-requires-2 store-set-requires-3 returns)

@@ -13,7 +13,6 @@ use Rattle.lists.specs.Lists.{sum, once, add, isEmpty, upFrom, Each}
 use Rattle.lists.proofs.Once.{or-is-false}
 use Rattle.columns.specs.Limits.{kinds, maxRecords, maxNumbers, maxGroups}
 use Rattle.columns.proofs.Served.{kinds-served}
-use Rattle.columns.specs.Refusal.{refuse}
 use Rattle.columns.specs.declared.refusal.Refusal.the-variants.{OverRecords, OverNumbers}
 use Rattle.columns.proofs.FirstBroken.{each-none, not-refused}
 use Rattle.archive.specs.File.{File}
@@ -29,7 +28,7 @@ use Rattle.cleaning.specs.Held as run
 use Rattle.cleaning.proofs.HeldRows.{HeldLast, Ready, not-empty, held-with}
 use Rattle.cleaning.proofs.HeldLimits.{add-number, files-alike, there-cond}
 use Rattle.cleaning.proofs.Orderly.{orderly-taken}
-use Rattle.cleaning.proofs.HeldValid.{below-with, cites-with}
+use Rattle.cleaning.proofs.HeldValid.{below-with}
 use Rattle.cleaning.proofs.TidyHeld.{tidy-with}
 use Rattle.cleaning.proofs.Neat.{Neat}
 use Rattle.run_state.specs.declared.Groups.{Groups}
@@ -45,7 +44,6 @@ use Rattle.run_store.specs.parts.Grown.{edgesWith, unresolvedWith, roots
 use Rattle.run_store.specs.joined.Joined.{sheetMore, heldMore}
 use Rattle.run_store.proofs.joined.StaysOk.{links-count}
 use Rattle.run_store.proofs.joined.Whole.{rows-count, held-more}
-use Rattle.run_store.proofs.joined.References.{cites-count}
 use Rattle.run_store.proofs.joined.HeldOk.{held-stays-ok}
 use Rattle.run_store.proofs.joined.Next.{group-is}
 use Rattle.run_store.specs.file.Steps.{heldNext}
@@ -60,7 +58,7 @@ within m a e = omega (arith, ltb-false m a e)
 pub left-start : (h : Held) (fs : List File) → LongHeld h → heldOk h ≡ true → holdRules kinds (heldIn h) fs ≡ none → Left h fs
 unfolding holdRules manyRecords manyNumbers figures totals groupsOver heldIn
 left-start h fs long ok e =
-    let parts = each-none (refuse OverRecords (recordsOver (heldIn h) fs) ∷ refuse OverNumbers (numbersOver (heldIn h) fs) ∷ filesRules kinds (lookBack (sheetIn (h .sheet))) fs ∷ []) e in
+    let parts = each-none _ e .1 in
     let r = records-same h long ok fs ∙ not-refused OverRecords (recordsOver (heldIn h) fs) (parts .0) in
     let s = numbers-same h long ok fs ∙ not-refused OverNumbers (numbersOver (heldIn h) fs) (parts .1 .0) in
     let a = or-is-false _ (ltb maxGroups (length (once (upFrom 0 (h .sheet .groups .count) ++ map (λ f. f .group) fs)))) r in
@@ -68,8 +66,7 @@ left-start h fs long ok e =
     let c = or-is-false _ (ltb maxRecords (h .ranges + _)) (b .0) in
     let d = or-is-false _ (ltb maxRecords (h .sheet .unresolved .count + _)) (c .0) in
     let g = or-is-false (ltb maxRecords (h .sheet .rows .count + _)) (ltb maxRecords (h .sheet .roots .count + _)) (d .0) in
-    let k = or-is-false _ (ltb maxNumbers (h .cites .count + _)) s in
-    let i = or-is-false _ (ltb maxNumbers (h .inbound .count + _)) (k .0) in
+    let i = or-is-false _ (ltb maxNumbers (h .inbound .count + _)) s in
     let j = or-is-false (ltb maxNumbers (h .sheet .edges .count + _)) (ltb maxNumbers (h .reverse .count + _)) (i .0) in
     record {
       rows = within maxRecords _ (g .0);
@@ -81,7 +78,6 @@ left-start h fs long ok e =
       forward = within maxNumbers _ (j .0);
       reverse = within maxNumbers _ (j .1);
       inbound = within maxNumbers _ (i .1);
-      references = within maxNumbers _ (k .1);
       rules = parts .1 .1 .0;
     }
 
@@ -131,7 +127,6 @@ module _ (h : Held) (l : List ℕ) (f : FileAt) (fs : List File) (long : LongHel
         rows = (held-with kinds kinds-served (heldIn h) (sourceOf kinds F) ready-now d) .rows;
         tidy = tidy-with kinds kinds-served (heldIn h) (sourceOf kinds F) ready-now d o (neat .tidy);
         below = below-with kinds kinds-served (heldIn h) (sourceOf kinds F) ready-now d (neat .below);
-        cites = cites-with kinds kinds-served (heldIn h) (sourceOf kinds F) ready-now d (neat .cites);
       })
 
   rules-next : filesRules kinds (lookBack (sheetIn (more .sheet))) fs ≡ none
@@ -169,6 +164,5 @@ module _ (h : Held) (l : List ℕ) (f : FileAt) (fs : List File) (long : LongHel
         forward = omega (arith, left .forward, forward-even h l f fs long ok neat left holds u);
         reverse = omega (arith, left .reverse, reverse-even h l f fs long ok neat left holds u);
         inbound = omega (arith, left .inbound, inbound-even h l f fs long ok neat left holds u);
-        references = rw (cites-count (h .sheet .rows .count) (h .cites) (F .references)) (omega (arith, left .references));
         rules = rules-next;
       }

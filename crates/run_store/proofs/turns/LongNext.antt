@@ -21,7 +21,6 @@ use Rattle.run_state.specs.declared.Held.{Held}
 use Rattle.run_state.specs.order.Long.{LongGroups, LongRows, LongEdges, LongUnresolved, LongRoots, LongLinks, LongHeld}
 use Rattle.run_store.specs.parts.Grown.{rowsWith, labelsWith, edgesWith, unresolvedWith, rootsWith, linksWith, groupsNew, groupsJoined, groupsWith, subjectNew}
 use Rattle.run_store.specs.joined.Joined.{labelsMore, linksMore, sheetMore, heldMore}
-use Rattle.run_store.proofs.joined.References.{cites-long}
 
 long-subject : {m : ℕ} (b : Bool) (s : Subject) (ys : List ℕ) → length (s .bytes) ≡ m → length ((cond b (subjectNew s ys) s) .bytes) ≡ m
 unfolding subjectNew
@@ -80,5 +79,4 @@ long-more h f flag least greatest g =
       erased = simp length-sets (g .erased);
       reverse = long-edges (h .reverse) _ (f .first) (f .reverse) (g .reverse);
       inbound = long-edges (h .inbound) _ (f .first) (f .inbound) (g .inbound);
-      cites = cites-long _ (h .cites) (f .references) (g .cites);
     }

@@ -3,14 +3,13 @@ use mathlib.Core.Path.{_≡_}
 use mathlib.Core.Bool.{Bool, true, false}
 use mathlib.Core.List.{List}
 use Prim.Native.Nat.{ℕ, _+_, _≤_, _<_}
-use lib.ListN.{length, drop}
-use Rattle.lists.specs.Lists.{sum}
+use lib.ListN.{drop}
 use Rattle.columns.specs.Limits.{kinds}
 use Rattle.columns.specs.Readable.{Readable}
 use Rattle.archive_bytes.specs.Bytes.{be, several, column}
 use Rattle.cover.specs.Cover.{sumsFit}
 use Rattle.archive_read.specs.bodies.View.{linksPlace}
-use Rattle.archive_read.specs.Layout.{partIn, fileIn, HoldsFile}
+use Rattle.archive_read.specs.Layout.{partIn, HoldsFile}
 use Rattle.archive_read.specs.declared.records.FrontAt.{FrontAt}
 use Rattle.archive_read.specs.declared.records.TailAt.{TailAt}
 use Rattle.archive_read.specs.declared.records.FileAt.{FileAt}
@@ -49,4 +48,3 @@ pub record HeldRoom (h : Held) (l : List ℕ) (f : FileAt) : Type 0 where
   pub reverse : SetRoom (h .reverse .count) (h .sheet .rows .count) l (f .front) (f .front .edges .reverse) (f .front .edges .reverses)
   pub inbound : SetRoom (h .inbound .count) (h .sheet .rows .count) l (f .front) (f .front .edges .inbound) (f .front .edges .inbounds)
   pub ranges : h .ranges + f .tail .cover .ranges ≤ 1024
-  pub cites : h .cites .count + sum length (fileIn l f .references) ≤ 4096

@@ -22,5 +22,4 @@ pub record Left (h : Held) (fs : List File) : Type 0 where
   pub forward : h .sheet .edges .count + sum (λ f. length (f .forward .deltas)) fs ≤ 4096
   pub reverse : h .reverse .count + sum (λ f. length (f .reverse .deltas)) fs ≤ 4096
   pub inbound : h .inbound .count + sum (λ f. length (f .inbound .deltas)) fs ≤ 4096
-  pub references : h .cites .count + sum (λ f. sum length (f .references)) fs ≤ 4096
   pub rules : filesRules kinds (lookBack (sheetIn (h .sheet))) fs ≡ none

@@ -9,7 +9,7 @@ use Rattle.archive.specs.File.{CoverColumns, File}
 use Rattle.cleaning.specs.Source.{isThere}
 use Rattle.cleaning.specs.Taking.{storedRanges}
 use Rattle.run_store.specs.grow.Column.{bit}
-use Rattle.run_store.specs.parts.Grown.{rowsWith, labelsWith, edgesWith, unresolvedWith, rootsWith, linksWith, groupsWith, subjectNew, citesWith}
+use Rattle.run_store.specs.parts.Grown.{rowsWith, labelsWith, edgesWith, unresolvedWith, rootsWith, linksWith, groupsWith, subjectNew}
 use Rattle.run_state.specs.declared.Rows.{Rows}
 use Rattle.run_state.specs.declared.Links.{Links}
 use Rattle.run_state.specs.declared.Sheet.{Sheet}
@@ -45,5 +45,4 @@ heldMore h f flag least greatest = record {
   reverse = edgesWith (h .reverse) (h .sheet .rows .count) (f .first) (f .reverse);
   inbound = edgesWith (h .inbound) (h .sheet .rows .count) (f .first) (f .inbound);
   ranges = h .ranges + storedRanges (f .cover);
-  cites = citesWith (h .cites) (h .sheet .rows .count) (f .references);
 }

@@ -1,6 +1,6 @@
 -- The columns of a run with a file more: what a file adds to each is written from the column's count on.
 use mathlib.Core.Bool.{Bool, cond}
-use mathlib.Core.List.{List, [], _∷_, map}
+use mathlib.Core.List.{List, map}
 use Prim.Native.Nat.{ℕ, _+_, _*_}
 use lib.Dec.{ltb, eqb}
 use lib.ListN.{length, getD, set, drop}
@@ -21,7 +21,6 @@ use Rattle.run_state.specs.declared.Edges.{Edges}
 use Rattle.run_state.specs.declared.Unresolved as records
 use Rattle.run_state.specs.declared.Roots.{Roots}
 use Rattle.run_state.specs.declared.Links.{Links}
-use Rattle.run_state.specs.declared.Cites.{Cites}
 
 -- groups and tags of rows
 unfoldable pub rowsWith : Rows → ℕ → List File.Row → Rows
@@ -74,21 +73,6 @@ linksWith l group ds bs cs es = record {
   from = record { chains = sets (l .from .chains) (l .count) (sums 0 ds); seqs = sets (l .from .seqs) (l .count) bs };
   to = record { chains = sets (l .to .chains) (l .count) cs; seqs = sets (l .to .seqs) (l .count) es };
 }
-
--- the references of one row more, after those of n rows
-unfoldable pub citesRow : Cites → ℕ → List File.Reference → Cites
-citesRow c n rs = record {
-  count = c .count + length rs;
-  offsets = set (c .offsets) (n + 1) (c .count + length rs);
-  kinds = sets (c .kinds) (c .count) (map (λ r. r .kind) rs);
-  spaces = sets (c .spaces) (c .count) (map (λ r. r .space) rs);
-  targets = sets (c .targets) (c .count) (map (λ r. r .target) rs);
-}
-
--- row by row
-unfoldable pub citesWith : Cites → ℕ → List (List File.Reference) → Cites
-citesWith c n [] = c
-citesWith c n (rs ∷ rss) = citesWith (citesRow c n rs) (n + 1) rss
 
 abbrev pub smaller : ℕ → ℕ → ℕ
 smaller a b = cond (ltb b a) b a

@@ -17,14 +17,13 @@ use Rattle.run_state.specs.declared.Edges.{Edges}
 use Rattle.run_state.specs.declared.Unresolved.{Unresolved}
 use Rattle.run_state.specs.declared.Roots.{Roots}
 use Rattle.run_state.specs.declared.Links.{Links}
-use Rattle.run_state.specs.declared.Cites.{Cites}
 use Rattle.run_state.specs.declared.Held.{Held}
 use Rattle.run_state.specs.View.{heldIn}
 use Rattle.run_state.specs.Valid.{heldOk}
 use Rattle.run_state.specs.order.Long.{LongHeld}
 use Rattle.run_state.specs.order.Ordered.{ordered}
 use Rattle.run_store.specs.grow.Column.{bit}
-use Rattle.run_store.specs.parts.Grown.{rowsWith, edgesWith, unresolvedWith, rootsWith, citesWith}
+use Rattle.run_store.specs.parts.Grown.{rowsWith, edgesWith, unresolvedWith, rootsWith}
 use Rattle.run_store.specs.joined.Joined.{labelsMore, linksMore}
 use Rattle.run_store.specs.turns.Going.{isGot}
 
@@ -37,7 +36,6 @@ pub record Parts : Type 0 where
   pub erased : List ℕ
   pub reverse : Edges
   pub inbound : Edges
-  pub cites : Cites
 
 abbrev pub partsOf : Held → Parts
 partsOf h = record {
@@ -49,7 +47,6 @@ partsOf h = record {
   erased = h .erased;
   reverse = h .reverse;
   inbound = h .inbound;
-  cites = h .cites;
 }
 
 -- with a file more
@@ -63,7 +60,6 @@ partsMore p f = record {
   erased = sets (p .erased) (p .rows .count) (map (λ r. bit (r .erased)) (f .rows));
   reverse = edgesWith (p .reverse) (p .rows .count) (f .first) (f .reverse);
   inbound = edgesWith (p .inbound) (p .rows .count) (f .first) (f .inbound);
-  cites = citesWith (p .cites) (p .rows .count) (f .references);
 }
 
 unfoldable pub partsAfter : Parts → List File → Parts

@@ -1,5 +1,5 @@
 -- `run_state::valid::ok` meets its contract.
-use Rattle.run_state.proofs.Verdicts.{rows-kept, numbers-kept, rows-sized, children-sized, roots-sized, numbers-sized, bad-held, bad-columns, bad-reverse, bad-inbound, cites-last}
+use Rattle.run_state.proofs.Verdicts.{rows-kept, rows-sized, children-sized, roots-sized, numbers-sized, bad-held, bad-columns, bad-reverse, inbound-test}
 use borrow.Author.Needs.{needs}
 use Rattle.run_state.proofs.valid.ok.Statement.{statement}
 use Rattle.run_state.proofs.valid.ok.Tie as tie
@@ -23,18 +23,11 @@ edges-ok-requires-2 : tie.Need-edges-ok-requires-2
 edges-ok-requires-2 c κs = search (needs, rows-kept)
 
 returns-4 : tie.Need-returns-4
-returns-4 c = search bad-inbound
-
-cites-ok-requires : tie.Need-cites-ok-requires
-cites-ok-requires c κs = search (needs, rows-kept, numbers-kept)
-
-returns-5 : tie.Need-returns-5
-returns-5 c = search cites-last
+returns-4 c = search inbound-test
 
 pub ok-spec : {M : Type 1} → statement M
 ok-spec =
     tie.close
     (tie.spec (λ c κs. search needs) returns (λ c κs. search needs) (λ c κs. search needs) (λ c κs. search needs) (λ c κs. search needs)
     (λ c. search needs) (λ c. search needs) (λ c. search needs) (λ c. search needs) columns-ok-requires returns-2 (λ c κs. search needs)
-    (λ c. search needs) edges-ok-requires returns-3 (λ c κs. search needs) (λ c. search needs) edges-ok-requires-2 returns-4
-    cites-ok-requires returns-5)
+    (λ c. search needs) edges-ok-requires returns-3 (λ c κs. search needs) (λ c. search needs) edges-ok-requires-2 returns-4)
