@@ -1,4 +1,6 @@
 // Work on lent arrays of numbers: sorting them and pairs of them, binary search, and a set of numbers in buckets.
+#![tactic(auto)]
+
 pub mod pairs;
 pub mod searching;
 pub mod sorting;

@@ -6,7 +6,7 @@ ghost use Rattle.columns.specs.Answers.{kind_of, width_of};
 // How many of them a run's own files have.
 pub const KINDS: usize = 2;
 
-#[derive(Drop)]
+#[derive(Clone, Copy)]
 pub enum Kind {
     Prev,
     Auth,
@@ -22,7 +22,7 @@ pub fn slot(kind: Kind) -> usize
     }
 }
 
-#[derive(Drop)]
+#[derive(Clone, Copy)]
 pub enum Kinds {
     Two,
     Three,

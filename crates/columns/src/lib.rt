@@ -1,4 +1,6 @@
 // Edge columns of an event graph: reading, building and asking. specs/ says what each answer is.
+#![tactic(auto)]
+
 pub mod between;
 pub mod depth;
 pub mod kind;

@@ -2,7 +2,7 @@
 ghost use Rattle.std.specs.Prelude.{◌≡◌};
 ghost use Rattle.columns.specs.Refusal.{number_of};
 
-#[derive(Drop)]
+#[derive(Clone, Copy)]
 pub enum Refusal {
     SubjectLength,
     EdgeEntries,
@@ -38,14 +38,14 @@ pub enum Refusal {
 }
 
 // What rules say: all are kept, or the first that is broken.
-#[derive(Drop)]
+#[derive(Clone, Copy)]
 pub enum Ruling {
     Kept,
     Broken(Refusal),
 }
 
 // How many numbers an answer has, or why there is no answer.
-#[derive(Drop)]
+#[derive(Clone, Copy)]
 pub enum Counted {
     Entries(usize),
     Refused(Refusal),

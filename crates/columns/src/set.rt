@@ -1,6 +1,6 @@
 // The sets of a file's edges, in the order in which they are stored.
 
-#[derive(Drop)]
+#[derive(Clone, Copy)]
 pub enum Set {
     Forward,
     Reverse,

@@ -17,7 +17,6 @@ use Rattle.columns.specs.Answers.{short32, label_columns, ruling}
 use Rattle.columns_ask.specs.Views.{lent_label_rules, labelled_of}
 use Rattle.columns.specs.declared.refusal.Ruling.{Ruling}
 use Rattle.columns.specs.declared.refusal.Ruling.TheVariants.{Kept, Broken}
-use Rattle.columns.specs.declared.refusal.Counted.TheVariants.{Refused}
 use Rattle.columns_ask.specs.declared.Labelled.{Labelled}
 use Rattle.columns_ask.specs.declared.Labelled.TheVariants as labelled
 use Rattle.columns_ask.specs.declared.Labelled.TheVariants.{At, Unlabelled}

@@ -1,4 +1,6 @@
 // Questions over lent columns: parents, children and label of a number. The columns that a question uses are read first.
+#![tactic(auto)]
+
 ghost use Rattle.std.specs.Prelude.{◌≡◌, true, ◌+◌, ◌<◌, ◌≤◌, ltb, length};
 ghost use Rattle.std.proofs.lemmas.List.Edits.{sets};
 ghost use Rattle.lists.specs.Lists.{all};
@@ -17,14 +19,14 @@ use columns::set::Set;
 use columns_slots::sets;
 
 // An event's place in a chain cover.
-#[derive(Drop)]
+#[derive(Clone, Copy)]
 pub struct ChainLabel {
     pub chain: u32,
     pub seq: u32,
 }
 
 // The label of a number, none, or why there is no answer.
-#[derive(Drop)]
+#[derive(Clone, Copy)]
 pub enum Labelled {
     At(ChainLabel),
     Unlabelled,

@@ -1,5 +1,5 @@
 -- What building's functions hand back: a verdict as the answer of a call, and as the columns that the call was lent.
-use Rattle.std.specs.Prelude.{List, ◌++◌, map, ℕ, ◌+◌, ◌-◌, length, drop}
+use Rattle.std.specs.Prelude.{List, ◌++◌, map, ℕ, ◌-◌, length, drop}
 use Rattle.columns.specs.Limits.{records_room}
 use Rattle.columns.specs.Refusal.{Verdict, refused, accepted, Lent}
 use Rattle.columns_build.specs.declared.roots.Roots.{Roots}

@@ -9,7 +9,7 @@ use columns::refusal::Refusal;
 use columns_rules::records::parts::is_in_file;
 
 // How many rows were written, or why there are none.
-#[derive(Drop)]
+#[derive(Clone, Copy)]
 pub enum Roots {
     Rows(usize),
     Refused(Refusal),

@@ -1,5 +1,5 @@
 -- Inbound edges that keep 11 and 12, as facts about their columns.
-use Prim.Native.Nat.{ℕ, zero, suc, ◌+◌, ◌-◌, ◌≤◌, ◌<◌}
+use Prim.Native.Nat.{ℕ, zero, suc, ◌+◌, ◌≤◌, ◌<◌}
 use Rattle.columns.specs.Building.{has, greater, record_count, in_file, inbound_rules}
 use Rattle.columns.specs.Limits.{kinds}
 use Rattle.columns.specs.Refusal.{refuse, first_of, first_in}

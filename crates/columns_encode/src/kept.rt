@@ -11,7 +11,7 @@ use arrays::index;
 use columns::refusal::{Refusal, Ruling};
 
 // How many edges each set has, or why none was written.
-#[derive(Drop)]
+#[derive(Clone, Copy)]
 pub enum Encoded {
     Edges(Counts),
     Refused(Refusal),

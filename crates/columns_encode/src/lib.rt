@@ -1,4 +1,6 @@
 // The work of building behind its public call: limits and rules in order, then the three sets of a granule.
+#![tactic(auto)]
+
 pub mod early;
 pub mod kept;
 mod late;

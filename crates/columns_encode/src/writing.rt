@@ -10,7 +10,7 @@ ghost use Rattle.columns_encode.specs.Encoded.{counts_of, Ready, Rooms};
 use columns_sets::sets::{write_set, write_table, write_turned};
 
 // How many edges each set of a granule has.
-#[derive(Drop)]
+#[derive(Clone, Copy)]
 pub struct Counts {
     pub forward: usize,
     pub reverse: usize,

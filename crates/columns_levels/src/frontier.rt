@@ -135,7 +135,7 @@ pub fn gather(
 }
 
 // Where a level ends, and how many keys there are then.
-#[derive(Drop)]
+#[derive(Clone, Copy)]
 pub struct Step {
     pub end: usize,
     pub n: usize,

@@ -14,7 +14,7 @@ fn wide(x: usize) -> u64
 }
 
 // Where the numbers of a walk end, and how many levels there are.
-#[derive(Drop)]
+#[derive(Clone, Copy)]
 pub struct Extent {
     pub end: usize,
     pub levels: usize,
@@ -121,7 +121,7 @@ fn reach(
 }
 
 // A number of two sets, or that there is none.
-#[derive(Drop)]
+#[derive(Clone, Copy)]
 pub enum Found {
     Number(u64),
     Nothing,

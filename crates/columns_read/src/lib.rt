@@ -1,4 +1,6 @@
 // Reading a granule: its three sets of edges and, where there is a cover, its label columns, in one call.
+#![tactic(auto)]
+
 pub mod sets;
 
 ghost use Rattle.std.specs.Prelude.{◌≡◌, [], ◌∷◌, ltb, length};
@@ -19,7 +21,7 @@ use columns::set::Set;
 // What a granule is lent with besides its columns: its first number, its rows, the number past its file's last one, the edge count of each
 // set, and whether there is a cover. In the functions below `fo` and `fd` are the offsets and deltas of the forward set, `ro` and `rd` those
 // of the reverse set, `io` and `id` those of the inbound set.
-#[derive(Drop)]
+#[derive(Clone, Copy)]
 pub struct Head {
     pub first: u64,
     pub rows: usize,
@@ -31,7 +33,7 @@ pub struct Head {
 }
 
 // How many targets each set of a granule has.
-#[derive(Drop)]
+#[derive(Clone, Copy)]
 pub struct Counts {
     pub forward: usize,
     pub reverse: usize,
@@ -39,7 +41,7 @@ pub struct Counts {
 }
 
 // What reading a granule answers.
-#[derive(Drop)]
+#[derive(Clone, Copy)]
 pub enum Decoded {
     Edges(Counts),
     Refused(Refusal),

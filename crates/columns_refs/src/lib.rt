@@ -1,4 +1,6 @@
 // `resolve_graph`: parent lists and unresolved records out of the references of a file's rows.
+#![tactic(auto)]
+
 mod parents;
 mod records;
 mod refs;
@@ -15,14 +17,14 @@ use records::note_rows;
 use rules::resolve_rules;
 
 // How many targets the parent lists have, and how many unresolved records there are.
-#[derive(Drop)]
+#[derive(Clone, Copy)]
 pub struct Made {
     pub parents: usize,
     pub unresolved: usize,
 }
 
 // What was written, or why nothing was.
-#[derive(Drop)]
+#[derive(Clone, Copy)]
 pub enum Resolved {
     Written(Made),
     Refused(Refusal),

@@ -5,7 +5,7 @@ ghost use Rattle.columns_refs.specs.References.{references_of, is_unresolved};
 ghost use Rattle.columns_refs.specs.Resolved.{absent, lesser};
 
 // A reference with the answer of its lookup: whether the target is known, 0 for no, and its number.
-#[derive(Drop)]
+#[derive(Clone, Copy)]
 pub struct Reference {
     pub kind: u8,
     pub space: u8,

@@ -1,6 +1,6 @@
 -- What building's rules answer, and those of a file and its parents (1 to 5).
 use Rattle.std.specs.Prelude.{not, List, [], ◌∷◌, ℕ, length}
-use Rattle.std.proofs.Math.Option.{Option, none, some}
+use Rattle.std.proofs.Math.Option.{Option}
 use Rattle.columns.specs.Limits.{kinds}
 use Rattle.columns.specs.Refusal.{refuse, first_of}
 use Rattle.columns.specs.Building.{subject_ok, numbers_ok, slot_rules}

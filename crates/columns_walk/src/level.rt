@@ -25,7 +25,7 @@ fn least(x: usize, n: usize) -> usize
 }
 
 // A part of the keys.
-#[derive(Drop)]
+#[derive(Clone, Copy)]
 struct Part {
     from: usize,
     to: usize,

@@ -1,4 +1,6 @@
 // The walk over one file's forward columns, and the shared ancestor of two numbers there. Both first read the set, by the columns' rules.
+#![tactic(auto)]
+
 pub mod level;
 
 ghost use Rattle.std.specs.Prelude.{◌≡◌, [], ◌∷◌, ◌-◌, ◌≤◌, ◌<◌, min, length, take};
@@ -17,14 +19,14 @@ use columns::kind::{Kind, Kinds};
 use columns::refusal::{Counted, Refusal};
 
 // How many levels a walk has and how many numbers it has handed out, or why it hands out none.
-#[derive(Drop)]
+#[derive(Clone, Copy)]
 pub enum Handed {
     Levels(usize, usize),
     Refused(Refusal),
 }
 
 // A number that both reach, that there is none, or why this is not answered.
-#[derive(Drop)]
+#[derive(Clone, Copy)]
 pub enum Shared {
     Number(u64),
     Nothing,

@@ -1,6 +1,6 @@
 -- Numbers in buckets: keys in the order of arrival, each linked to the last key before it of the same bucket. Places are counted from 1,
 -- and 0 is none.
-use Rattle.std.specs.Prelude.{◌≡◌, ℕ, zero, suc, ◌+◌, ◌%◌, ◌<◌, ◌≤◌, cond, ◌||◌, List, [], ◌∷◌, ◌++◌, length, take, ◌==◌, nat_le, slice_index}
+use Rattle.std.specs.Prelude.{◌≡◌, ℕ, zero, suc, ◌%◌, ◌<◌, ◌≤◌, cond, ◌||◌, List, [], ◌∷◌, ◌++◌, length, take, ◌==◌, nat_le, slice_index}
 use Rattle.lists.specs.Lists.{mem}
 
 -- the last place of x among the first n keys

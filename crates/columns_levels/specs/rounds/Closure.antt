@@ -1,5 +1,5 @@
 -- All that a number reaches, as a list of keys that grows until it has the parents of each of its numbers.
-use Rattle.std.specs.Prelude.{◌≡◌, true, false, List, [], ◌∷◌, ℕ, ◌≤◌, ◌<◌, length, take, get_or}
+use Rattle.std.specs.Prelude.{◌≡◌, true, false, List, ◌∷◌, ℕ, ◌≤◌, ◌<◌, length, get_or}
 use Rattle.std.proofs.Math.Option.{Option, none, some}
 use Rattle.lists.specs.Lists.{mem}
 use Rattle.columns.specs.Ancestor.{Reaches, SharedAncestor}

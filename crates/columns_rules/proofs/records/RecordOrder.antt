@@ -1,5 +1,5 @@
 -- The rules of records, one after another.
-use Prim.Native.Nat.{ℕ, ◌+◌, ◌-◌}
+use Prim.Native.Nat.{ℕ, ◌+◌}
 use Rattle.columns.specs.Building.{Depth, record_count, depth_ok, labels_rules}
 use Rattle.columns.specs.Reading.{Labels}
 use Rattle.columns.specs.Refusal.{first_of}

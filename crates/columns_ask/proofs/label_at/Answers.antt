@@ -1,0 +1,17 @@
+use Rattle.columns_ask.proofs.Labels.{short-beside, short-at, label-below, label-past, label-told}
+use Rattle.columns_ask.proofs.label_at.Goals as goal
+
+pub returns-then-number-first : goal.returns-then-number-first
+returns-then-number-first c = search label-below
+
+pub returns-then-chains-row : goal.returns-then-chains-row
+returns-then-chains-row c = search label-past
+
+pub short-chain-requires : goal.short-chain-requires
+short-chain-requires c = search short-at
+
+pub short-seq-requires : goal.short-seq-requires
+short-seq-requires c = search short-beside
+
+pub returns : goal.returns
+returns c = search label-told
