@@ -2,14 +2,14 @@
 use columns::refusal::Refusal;
 
 // The window question: whether the chain may hold an event of the window.
-#[derive(Drop)]
+#[derive(Clone, Copy)]
 pub enum Window {
     Refused(Refusal),
     Holds(bool),
 }
 
 // How many records a call wrote.
-#[derive(Drop)]
+#[derive(Clone, Copy)]
 pub enum Answer {
     Refused(Refusal),
     Done(usize),

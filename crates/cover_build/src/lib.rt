@@ -1,4 +1,6 @@
 // Building a cover: the ranges of labels and the sorted links, from columns in any order.
+#![tactic(auto)]
+
 pub mod encode;
 
 ghost use Rattle.std.specs.Prelude.{◌≡◌, ◌≤◌, [], ◌∷◌, length, nat_lt};
@@ -16,7 +18,7 @@ ghost use Rattle.cover_build.specs.Built.{build_rules, built_of, ranges_after};
 use columns::refusal::{Refusal, Ruling};
 
 // How many ranges and how many links a build wrote, or why it wrote none.
-#[derive(Drop)]
+#[derive(Clone, Copy)]
 pub enum Built {
     Refused(Refusal),
     Done(usize, usize),

@@ -1,4 +1,6 @@
 // Links copied from columns to columns.
+#![tactic(auto)]
+
 ghost use Rattle.std.specs.Prelude.{◌≡◌, ◌≤◌, length, take};
 ghost use Rattle.cover.specs.Cover.{links_of};
 

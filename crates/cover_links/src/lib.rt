@@ -1,10 +1,12 @@
 // Links as a lent slice of records, for hosts: such a slice is taken apart into four columns, which the functions over a cover take and give, and
-// put together from them. The two loops are proved by hand.
+// put together from them.
+#![tactic(auto)]
+
 ghost use Rattle.std.specs.Prelude.{◌≡◌, map, min, take};
 ghost use Rattle.cover_links.specs.Links.{least, carried, over, from_chain_of, from_seq_of, to_chain_of, to_seq_of, link_in, places};
 
 #[repr(C)]
-#[derive(Drop)]
+#[derive(Clone, Copy)]
 pub struct Link {
     pub from_chain: u32,
     pub from_seq: u32,
@@ -30,8 +32,7 @@ fn least_of(a: usize, b: usize, c: usize, d: usize, e: usize) -> usize
 }
 
 // Writes links into four columns, from the start of each, as many as every column has room for; answers how many.
-#[unsafe(no_mangle)]
-pub extern "C" fn ridgeoven_links_apart(
+pub fn ridgeoven_links_apart(
     links: &[Link],
     a: &mut [u32],
     b: &mut [u32],
@@ -60,8 +61,7 @@ pub extern "C" fn ridgeoven_links_apart(
 }
 
 // Writes the links of four columns, from the start of the slice, as many as every column has and the slice has room for; answers how many.
-#[unsafe(no_mangle)]
-pub extern "C" fn ridgeoven_links_together(
+pub fn ridgeoven_links_together(
     a: &[u32],
     b: &[u32],
     c: &[u32],

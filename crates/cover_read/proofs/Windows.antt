@@ -1,5 +1,5 @@
 -- The window question's verdict, return by return.
-use mathlib.Core.Path.{◌≡◌, refl, sym, ◌∙◌, ap}
+use mathlib.Core.Path.{◌≡◌, sym, ◌∙◌}
 use mathlib.Core.Bool.{Bool, true, false, not}
 use mathlib.Core.List.{List, [], ◌∷◌}
 use Prim.Native.Nat.{ℕ}
@@ -8,12 +8,11 @@ use lib.ListN.{length}
 use borrow.Author.Tests.{not-true, not-false}
 use Rattle.lists.specs.Lists.{any}
 use Rattle.columns.specs.Limits.{max_records}
-use Rattle.columns.specs.Refusal.{Verdict, refused, accepted, short}
+use Rattle.columns.specs.Refusal.{refused, accepted}
 use Rattle.columns.specs.declared.refusal.Refusal.TheVariants.{OverRecords, CoverForm}
 use Rattle.columns.proofs.FirstBroken.{passes}
 use Rattle.cover.specs.Questions.{meets}
 use Rattle.cover.specs.Answers.{ranges_in, range_columns, range_lengths, ranges_fit, column_rules, may_hold_lent, window_answer}
-use Rattle.cover.specs.declared.answer.Window.{Window}
 use Rattle.cover.specs.declared.answer.Window.TheVariants.{Refused, Holds}
 use Rattle.cover_rows.proofs.limits.Anyone.{any-nil}
 use Rattle.cover_rows.proofs.limits.Verdicts.{limits-records, limits-none, first-refuses, next-rule, no-rule, refuse-not}

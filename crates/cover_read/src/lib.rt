@@ -1,4 +1,6 @@
 // Reading a cover: ranges and stored links, refused or answered as links.
+#![tactic(auto)]
+
 mod chosen;
 pub mod links;
 mod ranges;

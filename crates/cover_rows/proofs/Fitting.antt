@@ -2,13 +2,13 @@
 use mathlib.Core.Path.{◌≡◌, refl, sym, ◌∙◌, ap}
 use mathlib.Core.Bool.{Bool, true, false, not, ◌&&◌}
 use mathlib.Core.List.{List, [], ◌∷◌, map}
-use Prim.Native.Nat.{ℕ, suc, ◌≤◌, ◌<◌}
+use Prim.Native.Nat.{ℕ, suc, ◌≤◌}
 use native.Mathlib.Omega.{arith}
 use lib.Dec.{eqb}
 use lib.ListN.{length, take}
 use borrow.Author.Tests.{eq-eqb, ne_eqb, eqb-true, not-true, not-false}
 use Rattle.lists.proofs.Tests.{both}
-use Rattle.cover.specs.Chains.{Link, links_rise}
+use Rattle.cover.specs.Chains.{links_rise}
 use Rattle.cover.specs.Cover.{LinkColumns, links_of, even_columns, sums, sums_fit, differences, columns_of, links_ok, stored_links}
 use Rattle.cover.specs.Answers.{link_columns, over, links_over}
 use Rattle.cover.proofs.Stored.{length-sums}

@@ -1,4 +1,6 @@
 // Link columns row by row: their order, and the sums of the first one.
+#![tactic(auto)]
+
 pub mod limits;
 pub mod pick;
 

@@ -1,0 +1,6 @@
+use Rattle.cover_links.specs.Links.{least}
+use Rattle.cover_links.proofs.least_of.Goals as goal
+
+pub returns : goal.returns
+unfolding least
+returns c = cc

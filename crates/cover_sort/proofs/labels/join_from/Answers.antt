@@ -1,0 +1,18 @@
+use Rattle.std.proofs.Common.{rules}
+use Rattle.cover_sort.proofs.labels.Joining.{count_done, count_same, count_next, put-done, put_same, put_next}
+use Rattle.cover_sort.proofs.labels.join_from.Goals as goal
+
+pub loop-i-init : goal.loop-i-init
+loop-i-init c = (search rules, search rules, search rules, search rules, search rules, search rules, search rules)
+
+pub loop-i-preserved-then-key-last : goal.loop-i-preserved-then-key-last
+loop-i-preserved-then-key-last c = (search rules, search rules, search rules, search rules, search rules, search count_same, search put_same)
+
+pub loop-i-preserved : goal.loop-i-preserved
+loop-i-preserved c = (search rules, search rules, search rules, search rules, search rules, search count_next, search put_next)
+
+pub returns-clause-value : goal.returns-clause-value
+returns-clause-value c = search count_done
+
+pub returns-clause-maxima_after : goal.returns-clause-maxima_after
+returns-clause-maxima_after c = search put-done
