@@ -11,14 +11,14 @@ use archive_bytes::{load_u32, load_u64, signed, store_u8, store_u32, store_u64, 
 use columns::refusal::{Refusal, Ruling};
 
 // An unsigned number at a place, or why there is none.
-#[derive(Drop)]
+#[derive(Clone, Copy)]
 pub enum Number {
     Is(u64),
     Refused(Refusal),
 }
 
 // A signed number at a place, or why there is none.
-#[derive(Drop)]
+#[derive(Clone, Copy)]
 pub enum Delta {
     Signed(i64),
     Refused(Refusal),

@@ -11,7 +11,7 @@ ghost use Rattle.archive_read.specs.bodies.View.{head_of, HeadInside, set_of, Se
 use arrays::index;
 
 // 1 file: its numbers, and the length of the subject, which starts at place 14.
-#[derive(Drop)]
+#[derive(Clone, Copy)]
 pub struct HeadAt {
     pub first: u64,
     pub rows: u32,
@@ -22,20 +22,20 @@ pub struct HeadAt {
     pub greatest: u64,
 }
 
-#[derive(Drop)]
+#[derive(Clone, Copy)]
 pub enum HeadRead {
     HeadIs(HeadAt),
     NoHead,
 }
 
-#[derive(Drop)]
+#[derive(Clone, Copy)]
 pub enum SetRead {
     SetIs { count: usize, end: usize },
     NoSet,
 }
 
 // 2 edges: the number of deltas of each set, and where the second and the third set start.
-#[derive(Drop)]
+#[derive(Clone, Copy)]
 pub struct EdgesAt {
     pub forwards: usize,
     pub reverse: usize,
@@ -44,27 +44,27 @@ pub struct EdgesAt {
     pub inbounds: usize,
 }
 
-#[derive(Drop)]
+#[derive(Clone, Copy)]
 pub enum EdgesRead {
     EdgesIs(EdgesAt),
     NoEdges,
 }
 
 // 4 unresolved and 5 roots: how many there are, from place 4 on.
-#[derive(Drop)]
+#[derive(Clone, Copy)]
 pub enum Counted {
     CountIs(usize),
     NoCount,
 }
 
 // 6 cover: the number of ranges and of links.
-#[derive(Drop)]
+#[derive(Clone, Copy)]
 pub struct CoverAt {
     pub ranges: usize,
     pub links: usize,
 }
 
-#[derive(Drop)]
+#[derive(Clone, Copy)]
 pub enum CoverRead {
     CoverIs(CoverAt),
     NoCover,

@@ -9,7 +9,7 @@ use crate::records::{FileAt, FileRead, file_at};
 use columns::refusal::Refusal;
 
 // How many files there are, and the sums of their counts.
-#[derive(Drop)]
+#[derive(Clone, Copy)]
 pub struct Totals {
     pub files: usize,
     pub events: usize,
@@ -23,7 +23,7 @@ pub struct Totals {
     pub references: usize,
 }
 
-#[derive(Drop)]
+#[derive(Clone, Copy)]
 pub enum Summed {
     Sums(Totals),
     Refused(Refusal),

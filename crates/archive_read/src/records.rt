@@ -14,19 +14,19 @@ use crate::references::references_body;
 use arrays::index;
 
 // The body of a record: the bytes from `at` up to `end`.
-#[derive(Drop)]
+#[derive(Clone, Copy)]
 pub struct Part {
     pub at: usize,
     pub end: usize,
 }
 
-#[derive(Drop)]
+#[derive(Clone, Copy)]
 pub enum Body {
     BodyAt(Part),
     NoBody,
 }
 
-#[derive(Drop)]
+#[derive(Clone, Copy)]
 pub enum Optional {
     Covered { cover: CoverAt, part: Part },
     Uncovered,
@@ -34,7 +34,7 @@ pub enum Optional {
 }
 
 // Records 1 and 2.
-#[derive(Drop)]
+#[derive(Clone, Copy)]
 pub struct FrontAt {
     pub head: HeadAt,
     pub file: Part,
@@ -42,28 +42,28 @@ pub struct FrontAt {
     pub sets: Part,
 }
 
-#[derive(Drop)]
+#[derive(Clone, Copy)]
 pub enum FrontRead {
     FrontIs(FrontAt),
     NoFront,
 }
 
 // Records 3 and 4, and how many unresolved references there are.
-#[derive(Drop)]
+#[derive(Clone, Copy)]
 pub struct MiddleAt {
     pub rows: Part,
     pub count: usize,
     pub unresolved: Part,
 }
 
-#[derive(Drop)]
+#[derive(Clone, Copy)]
 pub enum MiddleRead {
     MiddleIs(MiddleAt),
     NoMiddle,
 }
 
 // How many references record 7 has, where there is one.
-#[derive(Drop)]
+#[derive(Clone, Copy)]
 pub enum Cites {
     Cited { count: usize, part: Part },
     Uncited,
@@ -72,7 +72,7 @@ pub enum Cites {
 
 // Record 5 and how many roots there are; record 6 where there is one; record 7 where there is one, and how many references it has; the place
 // after them.
-#[derive(Drop)]
+#[derive(Clone, Copy)]
 pub struct TailAt {
     pub count: usize,
     pub roots: Part,
@@ -85,27 +85,27 @@ pub struct TailAt {
     pub end: usize,
 }
 
-#[derive(Drop)]
+#[derive(Clone, Copy)]
 pub enum TailRead {
     TailIs(TailAt),
     NoTail,
 }
 
-#[derive(Drop)]
+#[derive(Clone, Copy)]
 pub enum RestRead {
     RestIs { middle: MiddleAt, tail: TailAt },
     NoRest,
 }
 
 // Where a file's parts lie, and its counts.
-#[derive(Drop)]
+#[derive(Clone, Copy)]
 pub struct FileAt {
     pub front: FrontAt,
     pub middle: MiddleAt,
     pub tail: TailAt,
 }
 
-#[derive(Drop)]
+#[derive(Clone, Copy)]
 pub enum FileRead {
     FileIs(FileAt),
     NoFile,

@@ -9,7 +9,7 @@ use archive_bytes::number_columns::store_bytes;
 use archive_bytes::{long, store_u8, store_u32, store_u64};
 
 // The numbers of record 1: whether the depth is known, and from where to where it goes.
-#[derive(Drop)]
+#[derive(Clone, Copy)]
 pub struct HeadOut {
     pub first: u64,
     pub rows: u32,

@@ -1,5 +1,7 @@
 // The parts of an archive's records stored in lent bytes, each from a place on, and how many bytes they have. Whoever calls has seen that
 // there is room.
+#![tactic(auto)]
+
 pub mod covers;
 pub mod edges;
 pub mod heads;

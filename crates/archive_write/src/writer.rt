@@ -18,7 +18,7 @@ use archive_store::records::{
 use archive_store::references::record_references;
 use columns::refusal::{Refusal, Ruling};
 
-#[derive(Drop)]
+#[derive(Clone, Copy)]
 pub enum Wrote {
     Ends(usize),
     Refused(Refusal),

@@ -1,9 +1,9 @@
 -- Record 7: one turn of each loop over a row's references and over the rows, and each answer of the functions that read them.
 use mathlib.Core.Path.{◌≡◌, refl, sym, ◌∙◌, ap}
-use mathlib.Core.Bool.{Bool, true, false, cond, not, ◌&&◌}
+use mathlib.Core.Bool.{Bool, true, false, cond, not}
 use mathlib.Core.List.{List, [], ◌∷◌}
 use Prim.Native.Nat.{ℕ, zero, suc, ◌≤◌, ◌<◌, ◌+◌, ◌-◌, ◌*◌}
-use native.Mathlib.Nat.{sub-zero, add_assoc}
+use native.Mathlib.Nat.{sub-zero}
 use native.Mathlib.Omega.{arith}
 use lib.Dec.{leb, eqb}
 use lib.ListN.{length, get_or, drop}
@@ -11,7 +11,6 @@ use lib.Seq.{get_or-drop, drop-drop}
 use borrow.Author.Tests.{le-leb, lt-leb, le-ltb, lt-ltb, eq-eqb, ne_eqb, not-true, not-false}
 use Rattle.archive.proofs.References.{any-counted}
 use Rattle.lists.specs.Lists.{all, sum}
-use Rattle.lists.proofs.Tests.{not-both}
 use Rattle.archive_bytes.proofs.Several.{be-front, several-none, several-cons}
 use Rattle.archive.proofs.Back.{length-several}
 use Rattle.archive.specs.Bytes.{be, several}
@@ -19,7 +18,7 @@ use Rattle.archive.specs.File.{Reference, any_reference}
 use Rattle.archive.specs.Reader.{Parsed, broken, got, and_then, ◌>>=◌, table, whole}
 use Rattle.archive.specs.Parse
 use Rattle.archive.specs.Parse.{reference_at, reference_ok, of_kind, references_ok, row_references, rows_references}
-use Rattle.archive_read.specs.bodies.View.{row_cited, RowInside, references_from, cited_of, CitedInside}
+use Rattle.archive_read.specs.bodies.View.{row_cited, RowInside, references_from}
 use Rattle.archive_read.specs.declared.bodies.Counted.{Counted}
 use Rattle.archive_read.specs.declared.bodies.Counted.TheVariants.{CountIs, NoCount}
 

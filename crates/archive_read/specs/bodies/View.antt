@@ -8,7 +8,6 @@ use Rattle.archive_bytes.specs.Bytes.{column}
 use Rattle.archive.specs.Bytes.{be, signed_of, several}
 use Rattle.archive.specs.Reader.{Parsed, broken, got}
 use Rattle.archive.specs.File.{Row, Unresolved, Root, CoverColumns, Reference}
-use Rattle.archive.specs.Parse
 use Rattle.archive.specs.Parse.{Head, depth_read, Sets, row_at, unresolved_at, root_at, range_at, reference_at}
 use Rattle.archive_read.specs.declared.bodies.HeadAt.{HeadAt}
 use Rattle.archive_read.specs.declared.bodies.HeadRead.{HeadRead}

@@ -1,0 +1,6 @@
+use Rattle.archive_store.proofs.records.Whole.{unresolved-record}
+use Rattle.std.proofs.Common.{rules}
+use Rattle.archive_store.proofs.records.record_unresolved.Goals as goal
+
+pub returns-clause-out_after : goal.returns-clause-out_after
+returns-clause-out_after c = search (rules, unresolved-record)

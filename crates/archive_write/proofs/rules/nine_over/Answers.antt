@@ -1,0 +1,11 @@
+use Rattle.cover_rows.proofs.limits.Anyone.{any_here, any-on}
+use Rattle.archive_write.proofs.rules.nine_over.Goals as goal
+
+pub returns-then-a-gt1024 : goal.returns-then-a-gt1024
+returns-then-a-gt1024 c = search any_here
+
+pub returns-then-b-gt1024 : goal.returns-then-b-gt1024
+returns-then-b-gt1024 c = search (any-on, any_here)
+
+pub returns : goal.returns
+returns c = search any-on
