@@ -32,7 +32,7 @@ use Rattle.run_list.specs.Listed.{Ready}
 use Rattle.run_state.specs.declared.Writing.{Writing}
 use Rattle.run_state.specs.declared.Writing.TheVariants as writing
 use Rattle.run.specs.View.{view, phased, holdable, grouped, writable, is_taking, is_resolved}
-use Rattle.run.specs.Contracts.{Steps, written_from, listed_from, Writes, Lists, Maps, Counts}
+use Rattle.run.specs.Promises.{Steps, written_from, listed_from, Writes, Lists, Maps, Counts}
 use Rattle.run.specs.declared.Run.{Run}
 use Rattle.run.specs.declared.Reply.TheVariants.{Done, Refused}
 use Rattle.run.specs.declared.Number.TheVariants as number

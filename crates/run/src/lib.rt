@@ -1,4 +1,6 @@
 // A cleaning run: it takes sources, resolves once, then writes. specs/ says what a run stands for; the steps are those of cleaning.
+#![tactic(auto)]
+
 pub mod listing;
 mod turns;
 
@@ -6,7 +8,7 @@ ghost use Rattle.std.specs.Prelude.{◌≡◌};
 ghost use Rattle.cleaning.specs.Step.{takes, resolves};
 ghost use Rattle.cleaning.specs.Runs.{fresh_run};
 ghost use Rattle.run.specs.View.{view};
-ghost use Rattle.run.specs.Contracts.{Steps, Writes, Maps, Counts};
+ghost use Rattle.run.specs.Promises.{Steps, Writes, Maps, Counts};
 
 use columns::refusal::{Refusal, Ruling};
 use run_resolve::asked::Mapped;
@@ -14,7 +16,7 @@ use run_state::{Held, Sheet, Writing};
 
 // The sources taken, and once resolved the survivors.
 #[repr(C)]
-#[derive(Drop)]
+#[derive(Clone, Copy)]
 pub struct Run {
     phase: u64,
     held: Held,
@@ -22,21 +24,21 @@ pub struct Run {
 }
 
 // That a taking or a resolving is done, or why not.
-#[derive(Drop)]
+#[derive(Clone, Copy)]
 pub enum Reply {
     Done,
     Refused(Refusal),
 }
 
 // The run after a call, and the answer. A refused call gives back the run that it was given.
-#[derive(Drop)]
+#[derive(Clone, Copy)]
 pub struct Stepped {
     pub run: Run,
     pub reply: Reply,
 }
 
 // The new number of an event; nothing where it is erased or no event has the number.
-#[derive(Drop)]
+#[derive(Clone, Copy)]
 pub enum Number {
     To(u64),
     Nothing,
@@ -44,7 +46,7 @@ pub enum Number {
 }
 
 // How many survivors are reparented.
-#[derive(Drop)]
+#[derive(Clone, Copy)]
 pub enum Count {
     Of(usize),
     Refused(Refusal),

@@ -1,5 +1,5 @@
 // The listing of a resolved run.
-ghost use Rattle.run.specs.Contracts.{Lists};
+ghost use Rattle.run.specs.Promises.{Lists};
 
 use crate::{Run, turns};
 use columns::refusal::Refusal;

@@ -24,9 +24,9 @@ use Rattle.cleaning.specs.History.{did, archive_of_bytes, history, files_in, too
 use Rattle.cleaning.specs.Listing.{afterwards, writing, writing_from, cleaning, cleaned_bytes}
 use Rattle.cleaning.specs.Held.{held_of}
 use Rattle.cleaning.proofs.Invariant.{Inv, step_after}
-use Rattle.cleaning.proofs.Holding.{hold, run_step}
+use Rattle.cleaning.proofs.Holding.{hold, run_step_lem}
 use Rattle.cleaning.proofs.Claim.{cleaned-alike, claim}
-use Rattle.run.specs.Contracts.{written_from}
+use Rattle.run.specs.Promises.{written_from}
 use Rattle.run_clean.specs.Cleans.{after, resolved_from, cleaned_from}
 use Rattle.run_claim.specs.Cleanings.{CleanedTo, gave, CleaningsClaimed, ClaimOfCleanings, CleaningComputes}
 
@@ -50,10 +50,10 @@ unfolding cleaned_from resolved_from written_from hold held_of Inv
 over-steps b room =
     let i = step_after kinds kinds-served fresh (takes b) [] (refl, tt) in
     let k = step_after kinds kinds-served (first b).state resolves _ i in
-    ap (λ o. after o.answer (resolved_from o.state room)) (run_step kinds kinds-served fresh (takes b) [] (refl, tt))
+    ap (λ o. after o.answer (resolved_from o.state room)) (run_step_lem kinds kinds-served fresh (takes b) [] (refl, tt))
     ∙ ap (after (first b).answer)
-    (ap (λ o. after o.answer (written_from o.state room)) (run_step kinds kinds-served (first b).state resolves _ i)
-    ∙ ap (λ o. after (second b).answer o.answer) (run_step kinds kinds-served (second b).state (writes room) _ k))
+    (ap (λ o. after o.answer (written_from o.state room)) (run_step_lem kinds kinds-served (first b).state resolves _ i)
+    ∙ ap (λ o. after (second b).answer o.answer) (run_step_lem kinds kinds-served (second b).state (writes room) _ k))
 
 -- ── an accepted cleaning ─────────────────────────────────────────────────────────────────────
 

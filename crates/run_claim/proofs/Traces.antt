@@ -16,7 +16,7 @@ use Rattle.cleaning.proofs.NewParents.{parents-written}
 use Rattle.cleaning.proofs.Written.{accepted}
 use Rattle.cleaning.proofs.SameBytes.{idempotent}
 use Rattle.run.specs.View.{view}
-use Rattle.run.specs.Contracts.{replied, numbered, counted_as, written_from, listed_from}
+use Rattle.run.specs.Promises.{replied, numbered, counted_as, written_from, listed_from}
 use Rattle.run_claim.specs.Traces.{Link, took, resolved, wrote, mapped, counted, listed, Trace, ended, linked, Fresh, call_of, ClaimOfRuns, ParentsWrittenByRuns, AcceptedByRuns, SameAgain}
 use Rattle.run.specs.declared.Run.{Run}
 use Rattle.run_write.specs.Answers.{answer_of}

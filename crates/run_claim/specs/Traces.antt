@@ -15,7 +15,7 @@ use Rattle.cleaning.specs.Accepted.{Cleanable}
 use Rattle.run_write.specs.Answers.{answer_of}
 use Rattle.run_state.specs.declared.Writing.{Writing}
 use Rattle.run.specs.View.{view}
-use Rattle.run.specs.Contracts.{replied, numbered, counted_as, Steps, Writes, Lists, Maps, Counts}
+use Rattle.run.specs.Promises.{replied, numbered, counted_as, Steps, Writes, Lists, Maps, Counts}
 use Rattle.run.specs.declared.Run.{Run}
 use Rattle.run.specs.declared.Stepped.{Stepped}
 use Rattle.run.specs.declared.Number.{Number}

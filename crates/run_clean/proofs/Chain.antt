@@ -17,7 +17,7 @@ use Rattle.archive.specs.Parse.{parse}
 use Rattle.cleaning.specs.Step.{Call, takes, resolves, Bytes, Answer, refused, done, wrote}
 use Rattle.cleaning.specs.Held.{nothing, hold_more}
 use Rattle.cleaning.specs.History.{files_in}
-use Rattle.cleaning.specs.Runs.{RunState, taking, resolved, run_outcome, fresh_run, run_step}
+use Rattle.cleaning.specs.Runs.{RunState, taking, run_outcome, fresh_run, run_step}
 use Rattle.run_state.specs.declared.Held.{Held}
 use Rattle.run_state.specs.Blank.{blank}
 use Rattle.run_state.specs.View.{sheet_in, held_in}
@@ -31,7 +31,7 @@ use Rattle.run_resolve.specs.declared.Resolution.{Resolution}
 use Rattle.run_write.specs.Answers.{Gives, Wrote}
 use Rattle.run_state.specs.declared.Writing.{Writing}
 use Rattle.run_state.specs.declared.Writing.TheVariants.{Refused}
-use Rattle.run.specs.Contracts.{written_from}
+use Rattle.run.specs.Promises.{written_from}
 use Rattle.run.proofs.OverHeld.{resolving-refused, resolving-done}
 use Rattle.run.proofs.Views.{fresh-order}
 use Rattle.run_clean.specs.Cleans.{after, resolved_from, cleaned_from}

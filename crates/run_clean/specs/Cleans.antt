@@ -3,7 +3,7 @@ use Rattle.std.specs.Prelude.{List, ℕ}
 use Rattle.columns.specs.Limits.{kinds}
 use Rattle.cleaning.specs.Step.{takes, resolves, Answer, refused, done, wrote, told, counted, printed}
 use Rattle.cleaning.specs.Runs.{RunState, fresh_run, run_step}
-use Rattle.run.specs.Contracts.{written_from}
+use Rattle.run.specs.Promises.{written_from}
 
 -- what follows an answer: nothing where it is a refusal
 abbrev pub after : Answer → Answer → Answer

@@ -1,5 +1,7 @@
 // A whole cleaning in one call: an archive taken alone by a fresh run, resolved and written. The columns of what is taken are filled and renewed in
 // place in one function, without the sets that no step reads, and no run is made.
+#![tactic(auto)]
+
 mod parts;
 
 ghost use Rattle.std.specs.Prelude.{◌≡◌};
@@ -162,6 +164,8 @@ fn gathered(h: Held, bytes: &[u8]) -> Resolution
 }
 
 // The survivors of an archive that a fresh run takes, or why there are none.
+// Not inlined, so that its columns and those of the steps beside it do not stand on the stack at once.
+#[inline(never)]
 fn survivors(bytes: &[u8]) -> Resolution
     ensures { Survived bytes.now result }
 {

@@ -7,9 +7,9 @@ use native.Mathlib.Omega.{arith}
 use lib.IntN.{ℤ}
 use lib.ListN.{length, take}
 use lib.Seq.{sets}
-use Rattle.lists.specs.Lists.{joined, part}
+use Rattle.lists.specs.Lists.{part}
 use Rattle.lists.proofs.Slices.{take-sets}
-use Rattle.columns.specs.Limits.{kinds, end64, max_numbers, offsets_room}
+use Rattle.columns.specs.Limits.{kinds, max_numbers, offsets_room}
 use Rattle.columns.specs.EdgeSet.{EdgeSet, from_to, cut, set_of}
 use Rattle.columns.specs.Building.{rows_within, deltas_fit}
 use Rattle.columns.proofs.Offsets.{form-climbs, form-length}

@@ -1,21 +1,17 @@
 -- The files of the groups from one on: their lines and what those take. All are those from group 0 on; one turn of each loop goes from g to g + 1.
 use mathlib.Core.Path.{◌≡◌, refl, sym, ap, ◌∙◌}
-use mathlib.Core.Bool.{true}
 use mathlib.Core.List.{List, [], ◌++◌}
-use Prim.Native.Nat.{ℕ, suc, ◌+◌, ◌-◌, ◌*◌, ◌≤◌, ◌<◌}
+use Prim.Native.Nat.{ℕ, suc, ◌+◌, ◌-◌, ◌≤◌, ◌<◌}
 use native.Mathlib.Numerals.{add-one}
 use native.Mathlib.Omega.{arith}
-use lib.ListN.{length}
 use Rattle.lists.specs.Lists.{flat, up_from, sum}
 use Rattle.run_section.specs.declared.Counts.{Counts}
 use Rattle.run_section.specs.declared.Span.{Span}
-use Rattle.run_section.specs.Rules.{spans_in}
 use Rattle.run_section.specs.Sections.{SpanAt}
 use Rattle.run_text.specs.numbers.Wrote.{Wrote}
 use Rattle.run_text.proofs.lines.Columns.{Going}
 use Rattle.run_list.specs.Groups.{lines_over, need_over, Shown, lines_at, need_at, lines_of, need_of, Tabled, Spanned}
 use Rattle.run_list.proofs.Along.{part-more, parts_end}
-use Rattle.run_list.proofs.OneFile.{same_length}
 
 module _ (z : Counts) (n : ℕ) (rows offsets targets starts kids : List ℕ) where
   -- ── the rest ───────────────────────────────────────────────────────────────────────────────

@@ -1,5 +1,5 @@
 -- The three parts of a listing, one after the other: each has room, and together they are the text.
-use mathlib.Core.Path.{◌≡◌, refl, ap, ◌∙◌}
+use mathlib.Core.Path.{◌≡◌}
 use mathlib.Core.List.{List, [], ◌∷◌}
 use Prim.Native.Nat.{ℕ, ◌+◌, ◌*◌, ◌≤◌}
 use native.Mathlib.Omega.{arith}
@@ -10,7 +10,7 @@ use Rattle.cleaning.specs.Lines.{decimal, line}
 use Rattle.run_state.specs.declared.Held.{Held}
 use Rattle.run_resolve.specs.Outcome.{archive_in}
 use Rattle.run_text.specs.numbers.Wrote.{Wrote}
-use Rattle.run_text.proofs.numbers.Joined.{then, renamed}
+use Rattle.run_text.proofs.numbers.Joined.{then}
 use Rattle.run_list.specs.Rows.{maps_text}
 use Rattle.run_list.specs.Listed.{text_with}
 use Rattle.run_list.proofs.OneFile.{same_length}

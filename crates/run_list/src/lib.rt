@@ -1,5 +1,7 @@
 // The listing of a resolved run, in lent bytes: a line for each event, the lines of each output file, and how many survivors were reparented. It goes
 // over the tables that the archive is written from, and is refused where that is.
+#![tactic(auto)]
+
 mod files;
 mod maps;
 

@@ -26,7 +26,7 @@ use Rattle.run_write.specs.Answers.{Gives}
 use Rattle.run_state.specs.declared.Writing.{Writing}
 use Rattle.run_state.specs.declared.Writing.TheVariants.{Refused}
 use Rattle.run_list.specs.Listed.{Ready, Lists}
-use Rattle.run.specs.Contracts.{listed_from}
+use Rattle.run.specs.Promises.{listed_from}
 use Rattle.run.proofs.OverHeld.{taking-refused, taking-done, resolving-refused, resolving-done}
 use Rattle.run_clean.proofs.Chain.{stops, goes}
 use Rattle.run_print.specs.Whole.{resolved_list, taken_list, listing_from}

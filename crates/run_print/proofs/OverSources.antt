@@ -33,11 +33,11 @@ use Rattle.cleaning.specs.Listed.{listing_need, listed}
 use Rattle.cleaning.specs.Listing.{afterwards, writing, writing_from, cleaning, listing}
 use Rattle.cleaning.proofs.Taken.{Followed, taken-followed}
 use Rattle.cleaning.proofs.Invariant.{Inv}
-use Rattle.cleaning.proofs.Holding.{hold, run_step}
+use Rattle.cleaning.proofs.Holding.{hold, run_step_lem}
 use Rattle.cleaning.proofs.Fitting.{Fitting, Limited, fitting-taken, limited-taken}
 use Rattle.cleaning.specs.History.{files_in}
 use Rattle.run_text.specs.files.Files.{listing_room}
-use Rattle.run.specs.Contracts.{listed_from}
+use Rattle.run.specs.Promises.{listed_from}
 use Rattle.run_clean.specs.Cleans.{after}
 use Rattle.run_print.specs.Whole.{resolved_list, taken_list, listing_from, said}
 use Rattle.run_print.proofs.Room.{room-enough}
@@ -74,7 +74,7 @@ module _ (room : ℕ) where
         let some_source = not-refused GroupOrder (is_empty t.sources) rules.0 in
         let few = ltb-false max_numbers (entries ts) (not-refused OverNumbers (ltb max_numbers (entries ts)) rules.1.0) in
         let survive = not-false (groups_survive A) (not-refused NoSurvivor (not (groups_survive A)) rules.1.1.0) in
-        ap (λ o. said o.answer) (run_step kinds kinds-served (resolved t ts) (lists room) t.sources (refl, f, refl))
+        ap (λ o. said o.answer) (run_step_lem kinds kinds-served (resolved t ts) (lists room) t.sources (refl, f, refl))
         ∙ said-listed A (tabled A ts) (omega (arith, room-enough t f h l some_source few survive))
 
     taken-by : (x : Option Refusal) → resolve_rules t (archive_of kinds t) (tables kinds (archive_of kinds t)) ≡ x
@@ -87,7 +87,7 @@ module _ (room : ℕ) where
         ≡ afterwards refused_line (step kinds (taking t) resolves).answer (writing_from kinds refused_line lines (step kinds (taking t) resolves).state)
     unfolding resolved_list Inv step resolve
     taken-says =
-        ap (λ o. said (after o.answer (listed_from o.state room))) (run_step kinds kinds-served (taking t) resolves t.sources (refl, f))
+        ap (λ o. said (after o.answer (listed_from o.state room))) (run_step_lem kinds kinds-served (taking t) resolves t.sources (refl, f))
         ∙ said-after (step kinds (taking t) resolves).answer (listed_from (hold kinds (step kinds (taking t) resolves).state) room)
         ∙ taken-by (resolve_rules t (archive_of kinds t) (tables kinds (archive_of kinds t))) refl
 
@@ -122,7 +122,7 @@ module _ (room : ℕ) where
     bytes-say : (b : List ℕ) → Each (FileFits kinds) (files_in (parse kinds b)) → said (taken_list b room) ≡ cleaning kinds refused_line lines b
     unfolding taken_list cleaning Inv hold held_of
     bytes-say b h =
-        ap (λ o. said (after o.answer (resolved_list o.state room))) (run_step kinds kinds-served fresh (takes b) [] (refl, tt)) ∙ step-says b h
+        ap (λ o. said (after o.answer (resolved_list o.state room))) (run_step_lem kinds kinds-served fresh (takes b) [] (refl, tt)) ∙ step-says b h
 
     -- the whole output of the listing program
     pub listing-said : (b : List ℕ) → Each (FileFits kinds) (files_in (parse kinds b)) → said (listing_from b room) ≡ listing kinds b

@@ -6,7 +6,7 @@ use Rattle.columns.specs.declared.refusal.Refusal.TheVariants.{SliceShort}
 use Rattle.cleaning.specs.Lines.{refused_line}
 use Rattle.cleaning.specs.Step.{takes, resolves, Answer, refused, done, wrote, told, counted, printed}
 use Rattle.cleaning.specs.Runs.{RunState, fresh_run, run_step}
-use Rattle.run.specs.Contracts.{listed_from}
+use Rattle.run.specs.Promises.{listed_from}
 use Rattle.run_clean.specs.Cleans.{after}
 
 -- resolving, then listing

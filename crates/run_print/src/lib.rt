@@ -1,4 +1,6 @@
 // The listing of an archive's bytes. The steps are made on what a run holds, and no run is made.
+#![tactic(auto)]
+
 ghost use Rattle.std.specs.Prelude.{◌≡◌, true};
 ghost use Rattle.cleaning.specs.Runs.{taking};
 ghost use Rattle.run_state.specs.View.{held_in};

@@ -8,19 +8,15 @@ use native.Mathlib.Omega.{arith}
 use mir.Syntax.{w64}
 use mir.Val.{Fits}
 use lib.ListN.{length, length-append}
-use lib.Seq.{sets}
 use Rattle.columns.specs.Limits.{kinds}
 use Rattle.lists.specs.Lists.{up_from}
-use Rattle.lists.proofs.Slices.{sets-append}
 use Rattle.columns.specs.Refusal.{first_of, first_in}
 use Rattle.columns.specs.Building.{build_rules}
 use Rattle.columns.specs.declared.refusal.Refusal.{Refusal}
 use Rattle.archive.specs.Encode.{file_bytes, encode}
-use Rattle.archive_store.specs.sizes.FileSize.{max_file_size}
 use Rattle.cleaning.specs.Sheet.{Sheet}
 use Rattle.cleaning.specs.Sections.{section_graph, section_file, section_rules, section_bytes}
 use Rattle.columns.specs.Answers.{ruling}
-use Rattle.columns.specs.declared.refusal.Ruling.{Ruling}
 use Rattle.columns.specs.declared.refusal.Ruling.TheVariants.{Kept, Broken}
 use Rattle.columns.proofs.Told.{last-rule, told, told-kept}
 use Rattle.run_section.specs.declared.measures.Measured.{Measured}

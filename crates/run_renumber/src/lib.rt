@@ -1,4 +1,6 @@
 // The inner loops of resolving, over flat columns: new numbers, new lists slot by slot, the count of reparented survivors. specs/ says what each is.
+#![tactic(auto)]
+
 ghost use Rattle.std.specs.Prelude.{◌≡◌, true, ◌+◌, ◌-◌, ◌*◌, ◌%◌, ◌^◌, ◌≤◌, ◌<◌, length, take, get_or};
 ghost use mathlib.Core.List.{[], ◌∷◌, ◌++◌, foldl};
 ghost use Rattle.std.proofs.Math.Seq.{slice};
@@ -16,7 +18,7 @@ use arrays::searching::among;
 use columns::kind::KINDS;
 
 // How far a column is filled, or that it has no room for what belongs there.
-#[derive(Drop)]
+#[derive(Clone, Copy)]
 pub enum Grown {
     Upto(usize),
     Full,

@@ -11,7 +11,7 @@ ghost use Rattle.run_resolve.specs.Map.{mapped_of, row_number};
 use run_state::Held;
 
 // The new number of an event, or that there is none.
-#[derive(Drop)]
+#[derive(Clone, Copy)]
 pub enum Mapped {
     To(u64),
     Nothing,

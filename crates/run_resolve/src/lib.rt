@@ -1,4 +1,6 @@
 // Resolving what a run holds: the sheet of its survivors, or the first refusal; and new numbers.
+#![tactic(auto)]
+
 pub mod asked;
 pub mod links;
 pub mod parents;
@@ -17,7 +19,7 @@ use columns::refusal::{Refusal, Ruling};
 use run_state::{Edges, Held, Sheet};
 
 // The sheet of the survivors where no rule is broken; otherwise the sheet as it was.
-#[derive(Drop)]
+#[derive(Clone, Copy)]
 pub struct Resolution {
     pub sheet: Sheet,
     pub ruling: Ruling,
@@ -34,6 +36,8 @@ fn new_lists(h: Held) -> Renewed
 }
 
 // The sheet of the survivors, with their lists.
+// Not inlined, so that its columns and those of the steps beside it do not stand on the stack at once.
+#[inline(never)]
 fn survivors(h: Held, e: Edges) -> Sheet
     requires h_value { (held_ok h ≡ true) × (ordered h.sheet ≡ true) }
     requires edges_kept { EdgesKept (flags_in h) (new_in h) e }

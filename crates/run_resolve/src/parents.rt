@@ -13,7 +13,7 @@ use run_renumber::Grown;
 use run_state::Edges;
 
 // Lists, or that they hold more numbers than there is room for: then there are none.
-#[derive(Drop)]
+#[derive(Clone, Copy)]
 pub struct Renewed {
     pub edges: Edges,
     pub over: bool,

@@ -10,7 +10,7 @@ use Rattle.lists.specs.Lists.{joined, filter, part}
 use Rattle.columns.specs.Limits.{kinds, max_numbers}
 use Rattle.columns.proofs.Served.{kinds-served}
 use Rattle.columns.specs.EdgeSet.{from_to, offsets_form, cut, set_of}
-use Rattle.columns.specs.Building.{in_file, within, rows_within}
+use Rattle.columns.specs.Building.{in_file, rows_within}
 use Rattle.columns.proofs.Offsets.{form-climbs, form-length, starts-at, ordered, inside}
 use Rattle.cleaning.proofs.Within.{count-within}
 use Rattle.run_section.specs.declared.Counts.{Counts}

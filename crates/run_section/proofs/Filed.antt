@@ -1,27 +1,19 @@
 -- The file of a group, by the tables: its sets out of the lists of parents and of children.
-use mathlib.Core.Path.{◌≡◌, refl, sym, ap, ap₂, ◌∙◌}
-use mathlib.Core.Bool.{Bool, true, ◌&&◌, not}
-use mathlib.Core.List.{List, [], ◌∷◌, map}
-use mathlib.Core.Option.{Option, none, some}
-use Prim.Native.Nat.{ℕ, suc, ◌+◌, ◌-◌, ◌*◌, ◌≤◌, ◌<◌}
-use native.Mathlib.Omega.{arith}
-use lib.ListN.{length, get_or, drop}
-use Rattle.lists.specs.Lists.{joined, part}
-use Rattle.columns.specs.Limits.{kinds, end64}
+use mathlib.Core.Path.{◌≡◌, ◌∙◌}
+use mathlib.Core.List.{List}
+use Prim.Native.Nat.{ℕ, ◌+◌, ◌<◌}
+use Rattle.columns.specs.Limits.{kinds}
 use Rattle.columns.proofs.Served.{kinds-served}
-use Rattle.columns.specs.EdgeSet.{EdgeSet, cut, set_of}
-use Rattle.columns.specs.Building.{Built, slot_rules, built_of, within}
-use Rattle.archive.specs.File.{File}
-use Rattle.archive_bytes.specs.Bytes.{several}
-use Rattle.cleaning.specs.Sheet.{Sheet, row_count}
-use Rattle.cleaning.specs.Sections.{section_start, section_rows, section_first, section_end, sheet_end, section_lists, section_children, child_lists, section_graph, section_file}
-use Rattle.cleaning.specs.Sections.{section_file_of, unerased_row, cover_where, section_labels}
+use Rattle.columns.specs.Building.{built_of}
+use Rattle.cleaning.specs.Sheet.{Sheet}
+use Rattle.cleaning.specs.Sections.{section_first, section_end, sheet_end, section_lists, section_children, section_graph, section_file}
+use Rattle.cleaning.specs.Sections.{cover_where, section_labels}
 use Rattle.cleaning.proofs.SectionSets.{section-built}
 use Rattle.run_state.specs.declared.Groups.{Groups}
 use Rattle.run_state.specs.View.{facts_at}
 use Rattle.run_section.specs.declared.Counts.{Counts}
 use Rattle.run_section.specs.declared.Section.{Section}
-use Rattle.run_section.specs.Tables.{field, unresolved_in, root_in, link_in, sheet_of}
+use Rattle.run_section.specs.Tables.{sheet_of}
 use Rattle.run_section.specs.Sections.{SectionAt}
 use Rattle.run_section.specs.Ready.{Ready, Children}
 use Rattle.run_section.specs.Files.{lists_at, links_at, sets_at, sets_over, file_at}

@@ -1,22 +1,18 @@
 -- One group measured: its rules are building's, the length is that of its file.
-use mathlib.Core.Path.{◌≡◌, refl, sym, ap, ◌∙◌}
-use mathlib.Core.Bool.{Bool, true, false, cond}
+use mathlib.Core.Path.{◌≡◌, sym, ap, ◌∙◌}
+use mathlib.Core.Bool.{true, cond}
 use mathlib.Core.List.{List, []}
-use mathlib.Core.Option.{none}
 use Prim.Native.Nat.{ℕ, suc, ◌+◌, ◌-◌, ◌*◌, ◌≤◌, ◌<◌}
-use native.Mathlib.Numerals.{add-one}
 use native.Mathlib.Omega.{arith}
-use lib.ListN.{length, get_or, drop}
+use lib.ListN.{length, drop}
 use Rattle.columns.specs.Limits.{kinds, max_subject}
 use Rattle.columns.specs.Building.{build_rules}
 use Rattle.columns.specs.Answers.{ruling}
 use Rattle.columns.specs.declared.refusal.Ruling.TheVariants.{Kept}
-use Rattle.cover.specs.Chains.{ranges_of}
 use Rattle.archive.specs.Encode.{file_bytes}
 use Rattle.archive.proofs.Back.{length-several}
-use Rattle.archive_store.specs.sizes.FileSize.{max_file_size}
 use Rattle.cleaning.specs.Sheet.{Sheet}
-use Rattle.cleaning.specs.Sections.{place, section_graph, section_file, section_labels}
+use Rattle.cleaning.specs.Sections.{section_graph, section_file, section_labels}
 use Rattle.run_state.specs.declared.Groups.{Groups}
 use Rattle.run_state.specs.View.{has_cover, facts_at}
 use Rattle.run_section.specs.declared.Counts.{Counts}
@@ -24,14 +20,13 @@ use Rattle.run_section.specs.declared.Section.{Section}
 use Rattle.run_section.specs.declared.facts.Facts.{Facts}
 use Rattle.run_section.specs.declared.covers.Covers.{Covers}
 use Rattle.run_section.specs.declared.measures.Measured.{Measured}
-use Rattle.run_section.specs.Tables.{sheet_of, keys}
+use Rattle.run_section.specs.Tables.{sheet_of}
 use Rattle.run_section.specs.Sections.{SectionAt}
 use Rattle.run_section.specs.Facts.{FactsAt}
 use Rattle.run_section.specs.Rules.{Lists}
 use Rattle.run_section.specs.Ready.{Ready, Children}
 use Rattle.run_section.specs.Covers.{CoversCounted, ranges_at, labels_at, labels_from, label_here, start_at, rows_at}
-use Rattle.run_section.specs.Files.{many, sets_at}
-use Rattle.run_section.specs.Sizes.{size_at}
+use Rattle.run_section.specs.Files.{many}
 use Rattle.run_section.specs.Measures.{Inside, faults_at, size_by, SectionMeasured, MeasuredGroup}
 use Rattle.run_section.proofs.Sectioned.{rules-are}
 use Rattle.run_section.proofs.Filed.{file-is}

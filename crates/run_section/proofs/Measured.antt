@@ -1,18 +1,16 @@
 -- The file of a group is as long as the counts of its section say.
 use mathlib.Core.Path.{◌≡◌, refl, sym, ap₂, ◌∙◌}
-use mathlib.Core.Bool.{Bool, true, false, cond}
-use mathlib.Core.List.{List, [], map}
-use mathlib.Core.Option.{Option}
-use Prim.Native.Nat.{ℕ, suc, ◌+◌, ◌-◌, ◌*◌, ◌≤◌, ◌<◌}
+use mathlib.Core.Bool.{Bool, true, false}
+use mathlib.Core.List.{List, map}
+use Prim.Native.Nat.{ℕ, ◌+◌, ◌-◌, ◌*◌, ◌≤◌}
 use native.Mathlib.Omega.{arith}
-use lib.ListN.{length, get_or, drop, length-map}
-use Rattle.lists.specs.Lists.{joined}
+use lib.ListN.{length, drop, length-map}
 use Rattle.lists.proofs.Flat.{length-starts, length-joined}
 use Rattle.columns.specs.Limits.{kinds}
 use Rattle.columns.proofs.Served.{kinds-served}
-use Rattle.columns.specs.EdgeSet.{EdgeSet, offsets_form, set_of}
+use Rattle.columns.specs.EdgeSet.{offsets_form, set_of}
 use Rattle.columns.specs.Reading.{Label}
-use Rattle.columns.specs.Building.{rows_within, Built}
+use Rattle.columns.specs.Building.{rows_within}
 use Rattle.columns.proofs.Offsets.{form-length}
 use Rattle.columns.proofs.Within.{section-long}
 use Rattle.cover.specs.Chains.{Link, ranges_of}
@@ -20,10 +18,9 @@ use Rattle.cover.specs.Cover.{columns_of}
 use Rattle.archive_bytes.specs.Bytes.{several}
 use Rattle.archive.proofs.Back.{length-several}
 use Rattle.archive.proofs.References.{no_record}
-use Rattle.archive.specs.File.{CoverColumns}
 use Rattle.archive.specs.Encode.{file_bytes}
 use Rattle.archive_store.specs.sizes.FileSize.{file_size}
-use Rattle.archive_store.proofs.sizes.Sized.{SetHas, CoverCounts, CoverHas, bare, covered, length-file}
+use Rattle.archive_store.proofs.sizes.Sized.{SetHas, CoverHas, bare, covered, length-file}
 use Rattle.cleaning.specs.Sections.{cover_where, unerased_row}
 use Rattle.cleaning.specs.Writing.{label_columns}
 use Rattle.cleaning.proofs.ArchiveSize.{length-differences}
@@ -33,7 +30,7 @@ use Rattle.run_section.specs.declared.Counts.{Counts}
 use Rattle.run_section.specs.declared.Section.{Section}
 use Rattle.run_section.specs.Tables.{field, unresolved_in, root_in, link_in}
 use Rattle.run_section.specs.Rules.{Lists}
-use Rattle.run_section.specs.Files.{many, tags_at, unresolved_at, roots_at, links_at, sets_at, sets_over, file_at}
+use Rattle.run_section.specs.Files.{many, tags_at, links_at, sets_at, sets_over, file_at}
 use Rattle.run_section.specs.declared.sizes.Edges.{Edges}
 use Rattle.run_section.specs.Sizes.{EdgesOf, size_at}
 use Rattle.run_section.specs.Measures.{size_by}

@@ -1,11 +1,11 @@
 -- What measuring answers, by the calls that make it.
-use mathlib.Core.Path.{◌≡◌, refl, sym, ◌∙◌}
+use mathlib.Core.Path.{◌≡◌, sym, ◌∙◌}
 use mathlib.Core.Bool.{Bool, ◌&&◌}
 use mathlib.Core.List.{List}
 use Prim.Native.Nat.{ℕ, ◌-◌, ◌*◌, ◌≤◌}
 use native.Mathlib.Omega.{arith}
 use lib.Dec.{ltb}
-use lib.ListN.{length, drop}
+use lib.ListN.{drop}
 use Rattle.lists.specs.Lists.{all}
 use Rattle.columns.specs.Building.{Built, depth_ok}
 use Rattle.columns.specs.Answers.{ruling}
@@ -18,7 +18,6 @@ use Rattle.run_section.specs.declared.Counts.{Counts}
 use Rattle.run_section.specs.declared.Section.{Section}
 use Rattle.run_section.specs.declared.rules.Known.{Known}
 use Rattle.run_section.specs.declared.sizes.Edges.{Edges}
-use Rattle.run_section.specs.declared.measures.Measured.{Measured}
 use Rattle.run_section.specs.Tables.{unresolved_in}
 use Rattle.run_section.specs.Rules.{kind_fits, depth_in, faults, spans_in}
 use Rattle.run_section.specs.Files.{sets_at}

@@ -1,16 +1,16 @@
 -- The section of a group in the tables is the section of the sheet that they stand for.
-use mathlib.Core.Path.{◌≡◌, refl, sym, ap, ap₂, ◌∙◌}
+use mathlib.Core.Path.{◌≡◌, refl, sym, ap, ◌∙◌}
 use mathlib.Core.Bool.{Bool, true, false, ◌&&◌, not}
 use mathlib.Core.List.{List, [], ◌∷◌, map}
 use mathlib.Core.Option.{Option, none, some}
-use Prim.Native.Nat.{ℕ, suc, ◌+◌, ◌-◌, ◌*◌, ◌≤◌, ◌<◌}
+use Prim.Native.Nat.{ℕ, suc, ◌+◌, ◌-◌, ◌*◌, ◌<◌}
 use native.Mathlib.Omega.{arith}
 use native.Mathlib.Nat.{zero-add}
 use native.Mathlib.Numerals.{add-one}
-use lib.Dec.{ltb, leb}
-use lib.ListN.{length, get_or, drop}
+use lib.Dec.{ltb}
+use lib.ListN.{length, drop}
 use borrow.Author.Tests.{le-leb}
-use Rattle.lists.specs.Lists.{all, part, up_from}
+use Rattle.lists.specs.Lists.{all}
 use Rattle.lists.proofs.Flat.{length-map-up_from, get_d-map-up_from}
 use Rattle.columns.specs.Limits.{kinds, end64, max_subject}
 use Rattle.columns.proofs.Served.{kinds-served}
@@ -22,12 +22,12 @@ use Rattle.columns.specs.declared.refusal.Refusal.TheVariants.{DeltaRange}
 use Rattle.archive_bytes.specs.Bytes.{several}
 use Rattle.archive.proofs.Back.{length-several}
 use Rattle.cleaning.specs.Sheet.{Sheet, row_count}
-use Rattle.cleaning.specs.Sections.{place, between, section_start, section_rows, section_first, section_end, section_tags, section_lists, section_labels, section_unresolved}
+use Rattle.cleaning.specs.Sections.{place, between, section_start, section_rows, section_first, section_tags, section_lists, section_labels, section_unresolved}
 use Rattle.cleaning.specs.Sections.{section_roots, section_links, section_children, child_lists, facts_of, section_graph, section_faults}
 use Rattle.cleaning.specs.Held.{no_facts}
 use Rattle.cleaning.proofs.SectionRules.{section-rules}
 use Rattle.run_state.specs.declared.Groups.{Groups}
-use Rattle.run_state.specs.View.{facts_at, has_cover}
+use Rattle.run_state.specs.View.{facts_at}
 use Rattle.run_section.specs.declared.Counts.{Counts}
 use Rattle.run_section.specs.declared.Section.{Section}
 use Rattle.run_section.specs.declared.Span.{Span}

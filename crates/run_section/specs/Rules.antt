@@ -1,5 +1,5 @@
 -- Document 01, 1, 7, 8, 10 and 15: the rules of building that a run's survivors can break, by what is tested of one group.
-use Rattle.std.specs.Prelude.{◌≡◌, Bool, true, ◌&&◌, not, List, [], ◌∷◌, ℕ, ◌+◌, ◌*◌, ◌≤◌, ltb, length}
+use Rattle.std.specs.Prelude.{◌≡◌, Bool, true, not, List, [], ◌∷◌, ℕ, ◌+◌, ◌*◌, ◌≤◌, ltb, length}
 use Rattle.std.proofs.Math.Option.{Option}
 use Rattle.lists.specs.Lists.{part}
 use Rattle.columns.specs.Limits.{kinds}

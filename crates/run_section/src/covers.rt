@@ -16,21 +16,21 @@ use cover_sort::labels::ranges_of;
 use run_state::Groups;
 
 // Where the ranges of each group start in the table and those of the last end, and whether each group's seqs rise along each chain.
-#[derive(Drop)]
+#[derive(Clone, Copy)]
 pub struct Covers {
     pub ends: [usize; 17],
     pub rises: [bool; 16],
 }
 
 // The labels of rows, a column for each part.
-#[derive(Drop)]
+#[derive(Clone, Copy)]
 struct Labels {
     chains: [u32; 1024],
     seqs: [u32; 1024],
 }
 
 // The ranges of labels, a column for each part.
-#[derive(Drop)]
+#[derive(Clone, Copy)]
 struct Ranges {
     count: usize,
     ids: [u32; 1024],
@@ -39,7 +39,7 @@ struct Ranges {
 }
 
 // How many ranges a group has, and whether its seqs rise.
-#[derive(Drop)]
+#[derive(Clone, Copy)]
 struct Added {
     count: usize,
     rises: bool,

@@ -7,7 +7,7 @@ use crate::rules::{Known, known_of};
 use run_state::Groups;
 
 // Its depth and whether it has a cover, rule 10, and its ranges: from record `from` of their table up to record `to`.
-#[derive(Drop)]
+#[derive(Clone, Copy)]
 pub struct Facts {
     pub known: Known,
     pub rises: bool,

@@ -1,5 +1,7 @@
 // Survivors as tables: records of one width, one after the other in a slice. The section of a group in them: where its rows and records stand, which
 // of building's rules it breaks, and how long its file is.
+#![tactic(auto)]
+
 pub mod covers;
 pub mod facts;
 pub mod measures;
@@ -10,7 +12,7 @@ pub mod sizes;
 pub mod tables;
 
 // Where survivors start, and how many rows, unresolved records, roots and links there are.
-#[derive(Drop)]
+#[derive(Clone, Copy)]
 pub struct Counts {
     pub start: u64,
     pub rows: usize,
@@ -20,14 +22,14 @@ pub struct Counts {
 }
 
 // Where the records of a group stand in a table: from one place up to another.
-#[derive(Drop)]
+#[derive(Clone, Copy)]
 pub struct Span {
     pub from: usize,
     pub to: usize,
 }
 
 // The section of a group in every table.
-#[derive(Drop)]
+#[derive(Clone, Copy)]
 pub struct Section {
     pub rows: Span,
     pub unresolved: Span,

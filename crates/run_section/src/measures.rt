@@ -12,7 +12,7 @@ use crate::{Counts, Section};
 use columns::refusal::Ruling;
 
 // The first broken rule, or how long what is measured is.
-#[derive(Drop)]
+#[derive(Clone, Copy)]
 pub struct Measured {
     pub ruling: Ruling,
     pub length: usize,

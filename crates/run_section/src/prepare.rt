@@ -13,7 +13,7 @@ use run_state::order::long::sheet_long;
 use run_state::{Edges, Links, Roots, Rows, Sheet, Unresolved};
 
 // How many survivors there are, the covers of their groups, and how many children their rows have.
-#[derive(Drop)]
+#[derive(Clone, Copy)]
 pub struct Prepared {
     pub counts: Counts,
     pub covers: Covers,

@@ -14,7 +14,7 @@ use columns_rules::spans::reach::slots_fit;
 use run_state::Groups;
 
 // What is known of a group: its depth, and whether it has a cover.
-#[derive(Drop)]
+#[derive(Clone, Copy)]
 pub struct Known {
     pub deep: bool,
     pub least: u64,

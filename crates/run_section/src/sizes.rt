@@ -15,7 +15,7 @@ use archive_store::sizes::file_size;
 use arrays::index;
 
 // How many edges each set has.
-#[derive(Drop)]
+#[derive(Clone, Copy)]
 pub struct Edges {
     pub forward: usize,
     pub reverse: usize,

@@ -5,7 +5,6 @@ use Rattle.lists.specs.Lists.{up_from}
 use Rattle.columns.specs.Limits.{kinds}
 use Rattle.columns.specs.EdgeSet.{cut}
 use Rattle.columns.specs.Reading.{Label}
-use Rattle.columns.specs.Building.{Depth}
 use Rattle.archive.specs.File
 use Rattle.cleaning.specs.Sheet
 use Rattle.cleaning.specs.Held

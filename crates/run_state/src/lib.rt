@@ -1,5 +1,7 @@
 // What a run holds, as columns of fixed length: the rows and records of its sources, and those of its survivors. specs/ says what they stand for.
 // A run crosses to C and Rust by value, so that the layout of each struct is C's.
+#![tactic(auto)]
+
 pub mod empty;
 pub mod order;
 pub mod tests;
@@ -9,7 +11,7 @@ use columns::refusal::Refusal;
 
 // The bytes that name the room.
 #[repr(C)]
-#[derive(Drop)]
+#[derive(Clone, Copy)]
 pub struct Subject {
     pub length: usize,
     pub bytes: [u8; 255],
@@ -17,7 +19,7 @@ pub struct Subject {
 
 // Groups by rising number: whether the depth is known and what it is, whether there is a cover.
 #[repr(C)]
-#[derive(Drop)]
+#[derive(Clone, Copy)]
 pub struct Groups {
     pub count: usize,
     pub known: [u8; 16],
@@ -28,7 +30,7 @@ pub struct Groups {
 
 // Rows in the order of their numbers: group, tag and label of each.
 #[repr(C)]
-#[derive(Drop)]
+#[derive(Clone, Copy)]
 pub struct Rows {
     pub count: usize,
     pub groups: [u8; 1024],
@@ -39,7 +41,7 @@ pub struct Rows {
 
 // Lists of numbers, two for each row: where each starts, and the numbers of all.
 #[repr(C)]
-#[derive(Drop)]
+#[derive(Clone, Copy)]
 pub struct Edges {
     pub count: usize,
     pub offsets: [u64; 2049],
@@ -48,7 +50,7 @@ pub struct Edges {
 
 // Unresolved references: the child, the kind, the host's handle of the parent.
 #[repr(C)]
-#[derive(Drop)]
+#[derive(Clone, Copy)]
 pub struct Unresolved {
     pub count: usize,
     pub children: [u64; 1024],
@@ -58,7 +60,7 @@ pub struct Unresolved {
 
 // State roots: a row and the host's handle.
 #[repr(C)]
-#[derive(Drop)]
+#[derive(Clone, Copy)]
 pub struct Roots {
     pub count: usize,
     pub rows: [u64; 1024],
@@ -67,7 +69,7 @@ pub struct Roots {
 
 // One side of the links between chains.
 #[repr(C)]
-#[derive(Drop)]
+#[derive(Clone, Copy)]
 pub struct Ends {
     pub chains: [u32; 1024],
     pub seqs: [u32; 1024],
@@ -75,7 +77,7 @@ pub struct Ends {
 
 // Links, and the group of each.
 #[repr(C)]
-#[derive(Drop)]
+#[derive(Clone, Copy)]
 pub struct Links {
     pub count: usize,
     pub groups: [u8; 1024],
@@ -85,7 +87,7 @@ pub struct Links {
 
 // Rows, and what belongs to them and to their groups. Of each column the entries up to its count are held.
 #[repr(C)]
-#[derive(Drop)]
+#[derive(Clone, Copy)]
 pub struct Sheet {
     pub start: u64,
     pub subject: Subject,
@@ -99,7 +101,7 @@ pub struct Sheet {
 
 // What is held of sources: their rows, which of them are erased, the lists of their other two sets, the number of their ranges.
 #[repr(C)]
-#[derive(Drop)]
+#[derive(Clone, Copy)]
 pub struct Held {
     pub sheet: Sheet,
     pub erased: [u8; 1024],
@@ -109,7 +111,7 @@ pub struct Held {
 }
 
 // How many bytes were written, or why none.
-#[derive(Drop)]
+#[derive(Clone, Copy)]
 pub enum Writing {
     Length(usize),
     Refused(Refusal),

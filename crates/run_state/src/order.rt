@@ -81,7 +81,7 @@ fn reaches_all(groups: &[u8], n: usize, count: usize) -> bool
 }
 
 // The numbers that the tests of a sheet's columns go by.
-#[derive(Drop)]
+#[derive(Clone, Copy)]
 struct Counts {
     groups: usize,
     rows: usize,

@@ -8,7 +8,7 @@ use crate::tests::{are_below, are_in_file, once_ok, order_ok, table_ok};
 use crate::{Edges, Held, Roots, Sheet, Unresolved};
 
 // The numbers that the tests of a sheet's columns go by.
-#[derive(Drop)]
+#[derive(Clone, Copy)]
 struct Sizes {
     start: u64,
     rows: usize,

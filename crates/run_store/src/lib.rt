@@ -1,4 +1,6 @@
 // A taking's last step: the files of an accepted archive are appended to what a run holds, part by part: each part is grown in place over all files.
+#![tactic(auto)]
+
 pub mod grow;
 pub mod links;
 pub mod names;
@@ -30,6 +32,8 @@ use run_state::order::long::held_long;
 use run_state::{Held, Sheet};
 
 // What is held, with the files of an archive more whose rules are kept.
+// Not inlined, so that its columns and those of the steps beside it do not stand on the stack at once.
+#[inline(never)]
 pub fn store(h: Held, bytes: &[u8]) -> Held
     requires h_value { (held_ok h ≡ true) × (ordered h.sheet ≡ true) }
     requires bytes_value { (is_got (parse kinds bytes.now) ≡ true) × Each (FileFits kinds) (files_in (parse kinds bytes.now)) }

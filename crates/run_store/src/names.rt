@@ -12,7 +12,7 @@ use archive_read::records::{FileAt, FileRead, Part, file_at};
 use run_state::{Groups, Held, Subject};
 
 // Start and subject of a run, the facts of its groups, and the number of its ranges.
-#[derive(Drop)]
+#[derive(Clone, Copy)]
 pub struct Names {
     pub start: u64,
     pub subject: Subject,

@@ -23,7 +23,7 @@ use archive_read::records::{FileRead, FrontAt, Part, file_at};
 use run_state::{Edges, Held};
 
 // One of the three sets of a file.
-#[derive(Drop)]
+#[derive(Clone, Copy)]
 pub enum Side {
     Forward,
     Reverse,
@@ -31,7 +31,7 @@ pub enum Side {
 }
 
 // Where a set starts in the edges record, and how many deltas it has.
-#[derive(Drop)]
+#[derive(Clone, Copy)]
 pub struct SetPlace {
     pub at: usize,
     pub count: usize,

@@ -1,4 +1,6 @@
 // A taking, whole: 23 over the archive's bytes, 42 and 43 over the run and the archive, the rules of the archive's files, and the files stored.
+#![tactic(auto)]
+
 ghost use Rattle.std.specs.Prelude.{◌≡◌, true, take};
 ghost use Rattle.columns.specs.Limits.{kinds};
 ghost use Rattle.columns.specs.Answers.{ruling};
@@ -27,7 +29,7 @@ use run_state::{Held, Sheet, Subject};
 use run_store::store;
 
 // What is held after a taking, and the first rule that is broken, if one is.
-#[derive(Drop)]
+#[derive(Clone, Copy)]
 pub struct Taken {
     pub held: Held,
     pub ruling: Ruling,
@@ -60,7 +62,7 @@ fn look_back(s: Sheet) -> Back
 }
 
 // What the rules of an archive look at of what is held: its figures, the number of its groups, what the first file looks back at, and the subject.
-#[derive(Drop)]
+#[derive(Clone, Copy)]
 pub struct Known {
     pub figures: Totals,
     pub groups: usize,
@@ -120,6 +122,8 @@ fn hold_rules(h: Held, k: Known, bytes: &[u8], t: Totals) -> Ruling
 }
 
 // 23, then the others, by what is known of what is held, which itself is not read.
+// Not inlined, so that its columns and those of the steps beside it do not stand on the stack at once.
+#[inline(never)]
 pub fn rules_by(h: Held, k: Known, bytes: &[u8]) -> Ruling
     requires { (held_ok h ≡ true) × (KnownOf h k) }
     ensures { result ≡ ruling (archive_rules (held_in h) (parse kinds bytes.now)) }

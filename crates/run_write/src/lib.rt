@@ -1,4 +1,6 @@
 // The cleaned archive of a run's survivors: one file for each group, groups rising.
+#![tactic(auto)]
+
 ghost use Rattle.std.specs.Prelude.{◌≡◌, true};
 ghost use Rattle.cleaning.specs.Sections.{Filled};
 ghost use Rattle.run_state.specs.View.{sheet_in};

@@ -1,12 +1,12 @@
 -- What the tests of the limits answer, test after test.
 use mathlib.Core.Path.{◌≡◌, refl, sym}
-use mathlib.Core.Bool.{Bool, true, false, ◌||◌}
+use mathlib.Core.Bool.{Bool, true, false}
 use Prim.Native.Nat.{ℕ, ◌+◌, ◌-◌, ◌≤◌, ◌<◌}
 use native.Mathlib.Omega.{arith}
 use lib.Dec.{ltb}
 use borrow.Author.Tests.{lt-ltb, le-ltb, ltb-true, ltb-false}
 use Rattle.columns.specs.Limits.{max_records, max_numbers}
-use Rattle.columns.specs.Refusal.{refuse, first_of}
+use Rattle.columns.specs.Refusal.{first_of}
 use Rattle.columns.specs.declared.refusal.Refusal.TheVariants.{OverRecords, OverNumbers, RecordBroken}
 use Rattle.archive_read.specs.declared.files.Totals.{Totals}
 use Rattle.columns.specs.Answers.{ruling}

@@ -1,5 +1,5 @@
 -- The figures that the code adds up are those of what is held and of the archive's files: 42 and 43 are the definitions'.
-use mathlib.Core.Path.{◌≡◌, refl, sym, ap, ◌∙◌}
+use mathlib.Core.Path.{◌≡◌, sym, ap, ◌∙◌}
 use mathlib.Core.Bool.{true, false≢true}
 use mathlib.Core.List.{List, [], ◌∷◌}
 use Prim.Native.Nat.{ℕ, ◌+◌, ◌-◌, ◌*◌, ◌≤◌}
@@ -16,7 +16,6 @@ use Rattle.columns.specs.Limits.{kinds, max_numbers}
 use Rattle.columns.specs.EdgeSet.{from_to, offsets_form, cut_from, cut}
 use Rattle.columns.proofs.Offsets.{low-high}
 use Rattle.archive.specs.File.{File}
-use Rattle.archive_read.specs.declared.files.Totals.{Totals}
 use Rattle.archive_read.specs.Sums.{totals}
 use Rattle.archive_groups.specs.Groups.{groups_over}
 use Rattle.cleaning.specs.Held.{records_over, numbers_over}

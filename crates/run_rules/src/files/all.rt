@@ -17,7 +17,7 @@ use archive_read::records::{FileAt, FileRead, FrontAt, file_at};
 use columns::refusal::Ruling;
 
 // What the next file looks back at, with the subject.
-#[derive(Drop)]
+#[derive(Clone, Copy)]
 pub struct Seen {
     pub back: Back,
     pub length: usize,

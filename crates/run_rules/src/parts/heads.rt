@@ -12,7 +12,7 @@ ghost use Rattle.run_rules.specs.parts.Back.{back_of, own_rules, back_rules, gro
 use columns::refusal::{Refusal, Ruling};
 
 // What a file looks back at, besides the subject: the last group and its number, where the rows end, whether there is a cover.
-#[derive(Drop)]
+#[derive(Clone, Copy)]
 pub struct Back {
     pub known: bool,
     pub group: u64,

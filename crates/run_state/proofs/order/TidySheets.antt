@@ -2,17 +2,17 @@
 use mathlib.Core.Path.{◌≡◌, refl, sym, ap, ap₂, ◌∙◌}
 use mathlib.Core.Bool.{Bool, true, false, cond, ◌&&◌, beq}
 use mathlib.Core.List.{List, [], ◌∷◌, map, map-map}
-use mathlib.Core.Option.{Option, none, some}
+use mathlib.Core.Option.{none, some}
 use Prim.Native.Nat.{ℕ, zero, suc, ◌+◌, ◌*◌, ◌≤◌, ◌<◌}
 use native.Mathlib.Omega.{arith}
-use lib.Dec.{ltb, leb, eqb}
+use lib.Dec.{ltb, leb}
 use lib.ListN.{length, get_or, take, length-map}
 use lib.Seq.{slice, slice-cons, length-take-le, get_or-take}
 use borrow.Author.Tests.{ltb-true, leb-true, eq-eqb}
-use Rattle.lists.specs.Lists.{all, up_from, Each}
+use Rattle.lists.specs.Lists.{all, up_from}
 use Rattle.lists.specs.Order.{rising, not_falling}
-use Rattle.lists.proofs.Tests.{both, all-each, all-of}
-use Rattle.lists.proofs.Each.{each_map, each-imp}
+use Rattle.lists.proofs.Tests.{both, all-each}
+use Rattle.lists.proofs.Each.{each-imp}
 use Rattle.lists.proofs.Filters.{map-places}
 use Rattle.lists.proofs.From.{EachFrom}
 use Rattle.lists.proofs.Flat.{length-map-up_from, get_d-map-up_from}

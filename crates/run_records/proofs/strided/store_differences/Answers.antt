@@ -1,0 +1,28 @@
+use native.Mathlib.Nat.{sub-zero}
+use Rattle.run_records.proofs.Columns.{column-starts, number-there, place-fits, byte_fits, next_fits, number_small, column-on, differences-done, difference-next}
+use borrow.Author.Rules.{rules}
+use Rattle.run_records.proofs.strided.store_differences.Goals as goal
+
+pub loop-i-init : goal.loop-i-init
+loop-i-init c = (search rules, search rules, search rules, search rules, search (rules, column-starts), rw sub-zero)
+
+pub overflow_add-x : goal.overflow_add-x
+overflow_add-x c = search (rules, place-fits)
+
+pub offset_bounds-table-k : goal.offset_bounds-table-k
+offset_bounds-table-k c = search (rules, byte_fits)
+
+pub bounds-table-k : goal.bounds-table-k
+bounds-table-k c = search (rules, number-there)
+
+pub wrapping_less-requires : goal.wrapping_less-requires
+wrapping_less-requires c = (search (rules, number_small), search rules)
+
+pub overflow_add-k : goal.overflow_add-k
+overflow_add-k c = search (rules, next_fits)
+
+pub loop-i-preserved : goal.loop-i-preserved
+loop-i-preserved c = (search rules, search rules, search (rules, number_small), search rules, search (rules, column-on), search (rules, difference-next))
+
+pub returns : goal.returns
+returns c = search (rules, differences-done)

@@ -1,0 +1,15 @@
+use Rattle.run_rules.proofs.parts.RecordTurns.{records-start, records-done, records-stop, records-on}
+use borrow.Author.Rules.{rules}
+use Rattle.run_rules.proofs.parts.tables.children_rules.Goals as goal
+
+pub loop-i-init : goal.loop-i-init
+loop-i-init c = (search rules, search rules, search records-start)
+
+pub returns-in-Broken : goal.returns-in-Broken
+returns-in-Broken c = search (rules, records-stop)
+
+pub loop-i-preserved : goal.loop-i-preserved
+loop-i-preserved c = search (rules, records-on)
+
+pub returns : goal.returns
+returns c = search (rules, records-done)
