@@ -6,7 +6,7 @@ use columns::refusal::{Refusal, number};
 
 // How many there are, or how many entries were written.
 #[repr(C)]
-#[derive(Drop)]
+#[derive(Clone, Copy)]
 pub struct Answer {
     pub refusal: u64,
     pub length: usize,

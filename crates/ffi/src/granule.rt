@@ -6,7 +6,7 @@ use columns::refusal::{Refusal, number};
 
 // How many targets each set of a granule has.
 #[repr(C)]
-#[derive(Drop)]
+#[derive(Clone, Copy)]
 pub struct Granule {
     pub refusal: u64,
     pub forward: usize,

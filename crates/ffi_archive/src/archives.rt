@@ -19,7 +19,7 @@ use ffi::answer::{Answer, no_entries, some_entries};
 
 // How many files an archive has, and the sums of their counts; `refusal` is 23 where the bytes are no archive.
 #[repr(C)]
-#[derive(Drop)]
+#[derive(Clone, Copy)]
 pub struct Sums {
     pub refusal: u64,
     pub files: usize,
@@ -68,8 +68,7 @@ fn sums_of(summed: Summed) -> Sums
 }
 
 // An archive, read in one pass.
-#[unsafe(no_mangle)]
-pub extern "C" fn ridgeoven_sums(bytes: &[u8]) -> Sums
+pub fn ridgeoven_sums(bytes: &[u8]) -> Sums
     ensures { result ≡ sums_of (totals_of (parse kinds bytes.now)) }
 {
     sums_of(sum_up(bytes))
@@ -86,8 +85,7 @@ fn wrote_of(wrote: Wrote) -> Answer
 }
 
 // 2: the forward, reverse and inbound sets, each of offsets and deltas.
-#[unsafe(no_mangle)]
-pub extern "C" fn ridgeoven_write_edges(
+pub fn ridgeoven_write_edges(
     out: &mut [u8],
     at: usize,
     fo: &[u64],
@@ -109,13 +107,7 @@ pub extern "C" fn ridgeoven_write_edges(
 }
 
 // 3: rows, each of a flag and a tag.
-#[unsafe(no_mangle)]
-pub extern "C" fn ridgeoven_write_rows(
-    out: &mut [u8],
-    at: usize,
-    flags: &[u8],
-    tags: &[u64],
-) -> Answer
+pub fn ridgeoven_write_rows(out: &mut [u8], at: usize, flags: &[u8], tags: &[u64]) -> Answer
     ensures value { result ≡ wrote_of (wrote (rows_rules (length flags.now) (length tags.now) (length out.old) at)
         (at + length (record_bytes 3 (flat row_bytes (zip2 row_from flags.now tags.now))))) }
     ensures out_after { out.new ≡ left (rows_rules (length flags.now) (length tags.now) (length out.old) at) out.old
@@ -125,8 +117,7 @@ pub extern "C" fn ridgeoven_write_rows(
 }
 
 // 7: references, each of a kind, a space and a target. Row r has those from place offsets[r] up to offsets[r + 1].
-#[unsafe(no_mangle)]
-pub extern "C" fn ridgeoven_write_references(
+pub fn ridgeoven_write_references(
     out: &mut [u8],
     at: usize,
     offsets: &[u64],

@@ -1,2 +1,4 @@
 // Archive records for programs in C or Rust, answered by numbers.
+#![tactic(auto)]
+
 pub mod archives;

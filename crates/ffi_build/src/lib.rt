@@ -1,4 +1,6 @@
 // Building the three sets of a granule, for programs in C or Rust, answered by numbers.
+#![tactic(auto)]
+
 ghost use Rattle.std.specs.Prelude.{◌≡◌, length};
 ghost use Rattle.columns_encode.specs.Answered.{encoded_of, offsets_laid, deltas_laid};
 ghost use Rattle.columns_encode.specs.Lent.{build_lent, slices_of};
@@ -31,8 +33,7 @@ fn depth_at(deep: u64, low: u64, high: u64) -> Depth
 }
 
 // The sets of `n` rows from row `from` on: offsets and deltas of each. Labels are read where `labelled` is not 0.
-#[unsafe(no_mangle)]
-pub extern "C" fn ridgeoven_build(
+pub fn ridgeoven_build(
     subject: &[u8],
     first: u64,
     rows: usize,

@@ -27,7 +27,7 @@ use Rattle.cleaning.specs.Runs.{RunState, taking, spoiled, run_outcome, fresh_ru
 use Rattle.cleaning.specs.History.{Did, did}
 use Rattle.run_state.specs.declared.Writing.TheVariants as writing
 use Rattle.run.specs.View.{view}
-use Rattle.run.specs.Contracts.{replied, Kept, written_from}
+use Rattle.run.specs.Promises.{replied, Kept, written_from}
 use Rattle.run.specs.declared.Run.{Run}
 use Rattle.run.specs.declared.Reply.{Reply}
 use Rattle.run.specs.declared.Reply.TheVariants as reply

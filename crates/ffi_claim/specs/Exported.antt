@@ -7,7 +7,7 @@ use Rattle.cleaning.specs.Runs.{RunState, run_step}
 use Rattle.cleaning.specs.History.{Did, did}
 use Rattle.cleaning.specs.Claim.{Claimed}
 use Rattle.run.specs.View.{view}
-use Rattle.run.specs.Contracts.{written_from}
+use Rattle.run.specs.Promises.{written_from}
 use Rattle.run.specs.declared.Run.{Run}
 use Rattle.run_clean.specs.Cleans.{cleaned_from}
 use Rattle.run_claim.specs.Traces.{Fresh}

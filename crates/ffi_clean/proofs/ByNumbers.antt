@@ -6,7 +6,7 @@ use Prim.Native.Nat.{ℕ, ◌≤◌, ◌<◌}
 use native.Mathlib.Omega.{arith}
 use lib.Dec.{ltb}
 use borrow.Author.Tests.{lt-ltb, le-ltb}
-use lib.ListN.{length, get_or, take, drop}
+use lib.ListN.{length, get_or, take}
 use Rattle.columns.specs.declared.refusal.Refusal.TheVariants.{SliceShort}
 use Rattle.cleaning.specs.Step as step
 use Rattle.run_state.specs.declared.Writing.{Writing}

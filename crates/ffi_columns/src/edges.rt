@@ -21,8 +21,7 @@ use ffi::given::flag_at;
 use ffi::granule::{Granule, no_edges, some_edges};
 
 // One set of edges: 0 forward, 1 reverse, 2 inbound; another number is 12.
-#[unsafe(no_mangle)]
-pub extern "C" fn ridgeoven_read_set(
+pub fn ridgeoven_read_set(
     set: u64,
     first: u64,
     rows: usize,
@@ -63,8 +62,7 @@ fn granule_of(decoded: Decoded) -> Granule
 }
 
 // The three sets of a granule, each a count, offsets and deltas, and, where `cover` is not 0, its labels.
-#[unsafe(no_mangle)]
-pub extern "C" fn ridgeoven_read_granule(
+pub fn ridgeoven_read_granule(
     first: u64,
     rows: usize,
     end: u64,
@@ -124,8 +122,7 @@ pub extern "C" fn ridgeoven_read_granule(
 }
 
 // The parents of a number by a kind: 0 prev, 1 auth; another number is 12, here and below.
-#[unsafe(no_mangle)]
-pub extern "C" fn ridgeoven_parents(
+pub fn ridgeoven_parents(
     first: u64,
     rows: usize,
     end: u64,
@@ -158,8 +155,7 @@ pub extern "C" fn ridgeoven_parents(
     ))
 }
 
-#[unsafe(no_mangle)]
-pub extern "C" fn ridgeoven_children(
+pub fn ridgeoven_children(
     first: u64,
     rows: usize,
     end: u64,
@@ -202,7 +198,7 @@ pub extern "C" fn ridgeoven_children(
 
 // The label of a number, where `found` is 1.
 #[repr(C)]
-#[derive(Drop)]
+#[derive(Clone, Copy)]
 pub struct Label {
     pub refusal: u64,
     pub found: u64,
@@ -235,14 +231,7 @@ fn label_of(labelled: Labelled) -> Label
     }
 }
 
-#[unsafe(no_mangle)]
-pub extern "C" fn ridgeoven_label(
-    first: u64,
-    rows: usize,
-    chains: &[u64],
-    seqs: &[u64],
-    number: u64,
-) -> Label
+pub fn ridgeoven_label(first: u64, rows: usize, chains: &[u64], seqs: &[u64], number: u64) -> Label
     ensures { result ≡ label_of (labelled_of (asked.label first rows (label_columns chains.now seqs.now) number)) }
 {
     label_of(columns_ask::label(first, rows, chains, seqs, number))
@@ -258,13 +247,7 @@ fn roots_of(roots: Roots) -> Answer
 }
 
 // The rows of the events that have a state root.
-#[unsafe(no_mangle)]
-pub extern "C" fn ridgeoven_roots(
-    first: u64,
-    rows: usize,
-    events: &[u64],
-    list: &mut [u64],
-) -> Answer
+pub fn ridgeoven_roots(first: u64, rows: usize, events: &[u64], list: &mut [u64]) -> Answer
     ensures value { result ≡ roots_of (roots_answer (root_entries first rows events.now (records list.old ∷ []))) }
     ensures list_after { list.new ≡ over (root_entries first rows events.now (records list.old ∷ [])) list.old }
 {

@@ -18,7 +18,7 @@ use ffi::answer::Answer;
 
 // How many levels a walk has, and how many numbers it has handed out.
 #[repr(C)]
-#[derive(Drop)]
+#[derive(Clone, Copy)]
 pub struct Walked {
     pub refusal: u64,
     pub levels: usize,
@@ -43,8 +43,7 @@ fn walked_of(handed: Handed) -> Walked
 }
 
 // The numbers of all levels, and where each level ends among them.
-#[unsafe(no_mangle)]
-pub extern "C" fn ridgeoven_walk(
+pub fn ridgeoven_walk(
     first: u64,
     rows: usize,
     end: u64,
@@ -87,8 +86,7 @@ pub extern "C" fn ridgeoven_walk(
 }
 
 // The level after a frontier, of which at most `limit` numbers are handed out.
-#[unsafe(no_mangle)]
-pub extern "C" fn ridgeoven_next(
+pub fn ridgeoven_next(
     first: u64,
     rows: usize,
     end: u64,
@@ -129,7 +127,7 @@ pub extern "C" fn ridgeoven_next(
 
 // A number that both reach, where `found` is 1.
 #[repr(C)]
-#[derive(Drop)]
+#[derive(Clone, Copy)]
 pub struct Ancestor {
     pub refusal: u64,
     pub found: u64,
@@ -158,8 +156,7 @@ fn ancestor_of(shared: Shared) -> Ancestor
     }
 }
 
-#[unsafe(no_mangle)]
-pub extern "C" fn ridgeoven_ancestor(
+pub fn ridgeoven_ancestor(
     first: u64,
     rows: usize,
     end: u64,

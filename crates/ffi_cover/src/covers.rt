@@ -23,8 +23,7 @@ fn records_of(answer: cover::answer::Answer) -> Answer
 }
 
 // The stored columns of links, the first of differences.
-#[unsafe(no_mangle)]
-pub extern "C" fn ridgeoven_cover_store(
+pub fn ridgeoven_cover_store(
     fc: &[u32],
     fs: &[u32],
     tc: &[u32],
@@ -46,8 +45,7 @@ pub extern "C" fn ridgeoven_cover_store(
 }
 
 // The links of stored columns, whose ranges are read too.
-#[unsafe(no_mangle)]
-pub extern "C" fn ridgeoven_cover_read(
+pub fn ridgeoven_cover_read(
     ids: &[u32],
     minima: &[u32],
     maxima: &[u32],
@@ -74,7 +72,7 @@ pub extern "C" fn ridgeoven_cover_read(
 
 // Whether the chain may hold an event of the window: 1 or 0.
 #[repr(C)]
-#[derive(Drop)]
+#[derive(Clone, Copy)]
 pub struct Held {
     pub refusal: u64,
     pub holds: u64,
@@ -103,8 +101,7 @@ fn held_of(window: Window) -> Held
     }
 }
 
-#[unsafe(no_mangle)]
-pub extern "C" fn ridgeoven_window(
+pub fn ridgeoven_window(
     ids: &[u32],
     minima: &[u32],
     maxima: &[u32],
@@ -118,8 +115,7 @@ pub extern "C" fn ridgeoven_window(
 }
 
 // The links from some chains, of stored columns.
-#[unsafe(no_mangle)]
-pub extern "C" fn ridgeoven_chain_links(
+pub fn ridgeoven_chain_links(
     differences: &[u32],
     fs: &[u32],
     tc: &[u32],
@@ -142,7 +138,7 @@ pub extern "C" fn ridgeoven_chain_links(
 
 // How many ranges and links a cover has.
 #[repr(C)]
-#[derive(Drop)]
+#[derive(Clone, Copy)]
 pub struct Covered {
     pub refusal: u64,
     pub ranges: usize,
@@ -167,8 +163,7 @@ fn covered_of(built: Built) -> Covered
 }
 
 // The ranges of labels, and links in any order sorted with repeats dropped.
-#[unsafe(no_mangle)]
-pub extern "C" fn ridgeoven_cover_build(
+pub fn ridgeoven_cover_build(
     chains: &[u32],
     seqs: &[u32],
     fc: &[u32],

@@ -4,7 +4,7 @@ use mathlib.Core.List.{List, [], ◌∷◌}
 use Prim.Native.Nat.{ℕ, ◌≤◌, ◌<◌, ◌^◌}
 use native.Mathlib.Omega.{arith}
 use lib.Dec.{lit<}
-use lib.ListN.{length, replicate, length-replicate}
+use lib.ListN.{length}
 use mir.Val.{Val}
 use denote.Laws.{Is}
 use denote.Builtin.{u32}
@@ -14,7 +14,7 @@ use denote.Struct.Laws as LL
 use Rattle.ffi.specs.declared.answer.Answer.{Answer}
 use Rattle.ffi.specs.contracts.answer.Answer as Q
 use Rattle.ffi.proofs.answer.Answer.TheLaws as Q'
-use Rattle.ffi_links.proofs.Four.{Quad, quad, Long}
+pub use Rattle.ffi_links.proofs.Four.{zeros, even}
 
 module _ (r : Answer) (v : Val) (is : Is Q.the_row r (v ∷ [])) where
   pub answer-spelled : v ≡ Q'.lowered r
@@ -22,12 +22,6 @@ module _ (r : Answer) (v : Val) (is : Is Q.the_row r (v ∷ [])) where
 
   pub answer-is : Is Q.the_row r (LL.vals Q.the_type Q'.the_laws r)
   answer-is = subst (Is Q.the_row r) (LL.tells Q.the_type Q'.the_laws r (v ∷ []) is) is
-
-abbrev pub zeros : Quad (List ℕ)
-zeros = quad (replicate 1024 0) (replicate 1024 0) (replicate 1024 0) (replicate 1024 0)
-
-pub even : Long 1024 zeros
-even = let long : length {A = ℕ} (replicate 1024 0) ≡ 1024 = length-replicate {A = ℕ} 1024 0 in (long, (long, (long, long)))
 
 pub full : Room u32 1024
 full = (lit< tt, lit< tt)

@@ -16,7 +16,7 @@ use Rattle.columns.specs.declared.refusal.Refusal.TheVariants.{OverRecords, Over
 use Rattle.cover.specs.Chains.{Link}
 use Rattle.cover.specs.Cover.{LinkColumns, differences, even_columns, columns_of, encode}
 use Rattle.cover.specs.Questions.{chain_links}
-use Rattle.cover.specs.Answers.{link_columns, for_records, over, counted, links_after, columns_over, columns_after}
+use Rattle.cover.specs.Answers.{link_columns, for_records, counted, links_after, columns_over, columns_after}
 use Rattle.cover.proofs.Stored.{length-differences}
 use Rattle.cover_rows.proofs.Columned.{take-over}
 use Rattle.cover_rows.proofs.Fitting.{length-links}

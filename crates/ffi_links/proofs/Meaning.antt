@@ -6,12 +6,12 @@
 --     Done, Answered, done-few, done-answered      from what a call over columns does to what the call over records does
 use mathlib.Core.Path.{◌≡◌, refl, sym, ◌∙◌, ap, subst}
 use mathlib.Core.Bool.{Bool, true, false}
-use mathlib.Core.List.{List, [], ◌∷◌, ◌++◌, map, map-append}
+use mathlib.Core.List.{List, [], ◌∷◌, map, map-append}
 use Prim.Native.Nat.{ℕ, zero, suc, ◌≤◌, ◌<◌, zero-le}
 use native.Mathlib.Nat.{not-suc-le-zero, le_of_suc-le-suc}
 use native.Mathlib.Omega.{arith}
 use lib.Dec.{ltb}
-use lib.ListN.{length, get_or, take, drop, length-append, length-map, length-drop, get_or-append, get_or-map}
+use lib.ListN.{length, get_or, take, drop, length-append, length-map, get_or-append, get_or-map}
 use lib.Seq.{length-take-le, take-length, take-append-le, get_or-take, ext_get_or}
 use borrow.Author.Tests.{ltb-true, ltb-false}
 use Rattle.columns.specs.Limits.{max_records}

@@ -1,18 +1,18 @@
 -- The calls of `ridgeoven_links_apart` and `ridgeoven_links_together` in a walk that owns the four columns.
 --     Apart, Together          the contracts that are cited
 --     lend-apart, back-apart   the columns and a `&[Link]` become what the call asks; after it the columns are back, with what is ensured of them (`Taken`)
---     lend-together, back-together     the same of the columns, of the first its first k numbers, and a `&mut [Link]` that is given away (`Put`)
+--     lend-together, back-together     the same of the columns, of the first its first k numbers, and a `&mut [Link]` that is given away (`Put`): its borrow comes back, closed
 -- Assume `Logic`.
-use mathlib.Core.Path.{◌≡◌, refl}
+use mathlib.Core.Path.{◌≡◌}
 use Prim.Native.Nat.{ℕ, ◌≤◌}
 use mathlib.Core.List.{List, [], ◌∷◌, map}
 use lib.ListN.{length, take}
 use seplogic.Ra.Ura.{Ura}
-use seplogic.Ra.TreeShare.{full_share}
+use base.Fraction.{full_share}
 use mir.Syntax.{named}
 use mir.Val.{Val}
 use base.Logic.{SProp, ent, id⊢}
-use base.Fml.{ftrue, flft}
+use base.Fml.{ftrue, flft, fbor}
 use prog.Memory.{Memory}
 use prog.Routine.{Routine}
 use types.Logic.{Logic}
@@ -20,13 +20,14 @@ use contract.Monad.{Fun, fact}
 use types.Kit.{Item, ‵, raw, some, later, ◌⊛◌, ⋆, Goal, Soaks, Seq, ◌$◌, ◌∵◌, !, qed, cut, move, drop, use1, split, join, pick, fsplit, fjoin, feq_l, frame, await, done}
 use denote.Builtin.{u32, usize}
 use denote.Slice.{slice_val, MutSlice, ShrSlice, Room, finally}
+use denote.Lend.{Held}
 use denote.Steps.{heard, nothing}
 use denote.Triple.Statement.{Contract}
 use denote.Triple.Clauses.{ensured, lasts}
 use denote.Triple.Spec.{triple_of}
 use Rattle.cover_links.specs.Links.{over, carried, from_chain_of, from_seq_of, to_chain_of, to_seq_of, link_in, places}
 use Rattle.cover_links.specs.declared.Link.{Link}
-use Rattle.cover_links.proofs.Elements.{Lent, ref}
+use Rattle.cover_links.proofs.Elements.{Lent, ref, ref-shr}
 use Rattle.cover_links.specs.contracts.Link as T
 use Rattle.cover_links.specs.contracts.ridgeoven_links_apart as apart
 use Rattle.cover_links.specs.contracts.ridgeoven_links_together as together
@@ -62,7 +63,7 @@ module _ {M : Type 1} {𝓤 : Ura M} (𝓛 : Logic 𝓤) (mem : Memory → SProp
         (s.lft, (life z.a, (life z.b, (life z.c, (life z.d, tt))))),
         (s.share, (full_share, (full_share, (full_share, (full_share, tt))))),
         tt,
-        (ref s ys, (ref (by z.a l.a 0) x.a, (ref (by z.b l.b 0) x.b, (ref (by z.c l.c 0) x.c, (ref (by z.d l.d 0) x.d, tt))))),
+        (ref-shr s ys, (ref (by z.a l.a 0) x.a, (ref (by z.b l.b 0) x.b, (ref (by z.c l.c 0) x.c, (ref (by z.d l.d 0) x.d, tt))))),
         (slice_val (s.block, s.from) (length ys) ∷ [], (slice_val (l.a, 0) n ∷ [], (slice_val (l.b, 0) n ∷ [], (slice_val (l.c, 0) n ∷ [], (slice_val (l.d, 0) n ∷ [], tt))))),
       ),
       tt,
@@ -74,7 +75,7 @@ module _ {M : Type 1} {𝓤 : Ura M} (𝓛 : Logic 𝓤) (mem : Memory → SProp
         (life z.a, (life z.b, (life z.c, (life z.d, (s.lft, tt))))),
         (full_share, (full_share, (full_share, (full_share, (s.share, tt))))),
         tt,
-        (ref (by z.a l.a 0) (take k x.a), (ref (by z.b l.b 0) x.b, (ref (by z.c l.c 0) x.c, (ref (by z.d l.d 0) x.d, (ref s ys, tt))))),
+        (ref-shr (by z.a l.a 0) (take k x.a), (ref-shr (by z.b l.b 0) x.b, (ref-shr (by z.c l.c 0) x.c, (ref-shr (by z.d l.d 0) x.d, (ref s ys, tt))))),
         (slice_val (l.a, 0) k ∷ [], (slice_val (l.b, 0) n ∷ [], (slice_val (l.c, 0) n ∷ [], (slice_val (l.d, 0) n ∷ [], (slice_val (s.block, s.from) (length ys) ∷ [], tt))))),
       ),
       tt,
@@ -82,7 +83,7 @@ module _ {M : Type 1} {𝓤 : Ura M} (𝓛 : Logic 𝓤) (mem : Memory → SProp
 
     -- what each call asks, of items in order
     abbrev links-seen : Item 𝓤
-    links-seen = ‵ ((ShrSlice (named 0) s.lft T.the_row).own_val (ref s ys) (slice_val (s.block, s.from) (length ys) ∷ []))
+    links-seen = ‵ ((ShrSlice (named 0) s.lft T.the_row).own_val (ref-shr s ys) (slice_val (s.block, s.from) (length ys) ∷ []))
 
     abbrev links-had : Item 𝓤
     links-had = ‵ ((MutSlice (named 4) s.lft T.the_row).own_val (ref s ys) (slice_val (s.block, s.from) (length ys) ∷ []))
@@ -119,7 +120,7 @@ module _ {M : Type 1} {𝓤 : Ura M} (𝓛 : Logic 𝓤) (mem : Memory → SProp
           use1 𝓛 (some (λ (ws : Unit {0} × (List ℕ × (List ℕ × (List ℕ × (List ℕ × Unit {0}))))). ‵ (lasts apart.ended (to-apart z).0.0 (to-apart z).0.3 ws) ⊛ raw
           (fact 𝓤 (Taken ys x r (left ws)))))
           (id⊢ 𝓤 _) $ pick t (λ ws. split t $ move t (1 ∷ []) $ heard t (Taken ys x r (left ws)) (λ e.
-          fsplit t $ drop t $ open-lasts t z x (left ws) $
+          fsplit t $ drop t $ open-lasts t z l x (left ws) $
           -- [the last lists; the tokens and the answer; what is kept]
           move t (4 ∷ []) $ split t $ split t $ move t (1 ∷ []) $ open-tokens t z $ move t (0 ∷ 1 ∷ 2 ∷ 3 ∷ 7 ∷ 8 ∷ 9 ∷ 10 ∷ 11 ∷ []) $ back-four t so n z l (left ws) (λ long.
           move t (1 ∷ []) $ drop t $ move t (2 ∷ 0 ∷ 1 ∷ []) $ k r (left ws) e long))))
@@ -135,7 +136,8 @@ module _ {M : Type 1} {𝓤 : Ura M} (𝓛 : Logic 𝓤) (mem : Memory → SProp
 
       pub back-together : K → Soaks G → (k : ℕ) (z : Quad Loan) (v : Val)
           → ((r : ℕ) (zs : List Link) → Put k x ys r zs → length zs ≡ length ys
-          → Seq K 𝓛 (‵ (usize.own_val r (v ∷ [])) ∷ ‵ (Four l x) ∷ ‵ (finally T.the_row s.name zs) ∷ ‵ (flft s.lft s.share) ∷ Γ) G)
+          → Seq K 𝓛 (‵ (usize.own_val r (v ∷ [])) ∷ ‵ (Four l x) ∷ ‵ (finally T.the_row s.name zs) ∷ ‵ (flft s.lft s.share)
+          ∷ ‵ (fbor s.lft (Held T.the_row (length ys) s.block s.from s.name)) ∷ Γ) G)
           → Seq K 𝓛 (raw (Together.post (to-together k z) v) ∷ ‵ (Fronted k z l x) ∷ Γ) G
       back-together t so k z v go =
           use1 𝓛 (later (some (λ (r : ℕ). (TokensOf z (‵ (flft s.lft s.share) ⊛ ‵ ftrue) ⊛ ‵ (usize.own_val r (v ∷ []))) ⊛ raw
@@ -143,8 +145,8 @@ module _ {M : Type 1} {𝓤 : Ura M} (𝓛 : Logic 𝓤) (mem : Memory → SProp
           (id⊢ 𝓤 _) $ await t so $ pick t (λ r. split t $ move t (1 ∷ []) $
           use1 𝓛 (some (λ (ws : Unit {0} × (Unit {0} × (Unit {0} × (Unit {0} × (List Link × Unit {0}))))). ‵ (lasts together.ended (to-together k z).0.0 (to-together k z).0.3 ws)
           ⊛ raw (fact 𝓤 (Put k x ys r ws.1.1.1.1.0)))) (id⊢ 𝓤 _) $ pick t (λ ws. split t $ move t (1 ∷ []) $ heard t (Put k x ys r ws.1.1.1.1.0) (λ e.
-          fsplit t $ drop t $ fsplit t $ drop t $ fsplit t $ drop t $ fsplit t $ drop t $ fsplit t $ fsplit t $ move t (1 ∷ []) $ feq_l t (λ long.
-          -- [the last list; true; the tokens and the answer; what is kept]
-          move t (2 ∷ []) $ split t $ open-tokens t z $ move t (0 ∷ 1 ∷ 2 ∷ 3 ∷ 8 ∷ []) $ back-fronts t so k z l x $
-          -- [the columns; the links' token; the answer; the last list; true]
-          move t (1 ∷ []) $ split t $ move t (1 ∷ []) $ drop t $ move t (4 ∷ []) $ drop t $ move t (2 ∷ 1 ∷ 3 ∷ 0 ∷ []) $ go r ws.1.1.1.1.0 e long))))
+          fsplit t $ drop t $ fsplit t $ drop t $ fsplit t $ drop t $ fsplit t $ drop t $ fsplit t $ fsplit t $ fsplit t $ move t (1 ∷ []) $ feq_l t (λ long.
+          -- [the last list; the borrow; true; the tokens and the answer; what is kept]
+          move t (3 ∷ []) $ split t $ open-tokens t z $ move t (0 ∷ 1 ∷ 2 ∷ 3 ∷ 9 ∷ []) $ back-fronts t so k z l x $
+          -- [the columns; the links' token and true; the answer; the last list; the borrow; true]
+          move t (1 ∷ []) $ split t $ move t (1 ∷ []) $ drop t $ move t (5 ∷ []) $ drop t $ move t (2 ∷ 1 ∷ 3 ∷ 0 ∷ 4 ∷ []) $ go r ws.1.1.1.1.0 e long))))

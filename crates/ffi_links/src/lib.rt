@@ -1,5 +1,7 @@
 // Links as lent records, sorted in place. The exported function takes its links apart into columns of its own, calls a function over columns and puts
-// the answer together; it is proved by hand, and the steps of its walk serve those of `ffi_links_ask`, `ffi_links_store` and `ffi_links_build`.
+// the answer together; the laws of its proof serve `ffi_links_ask`, `ffi_links_store` and `ffi_links_build`.
+#![tactic(auto)]
+
 ghost use Rattle.std.specs.Prelude.{◌≡◌, map, ◌≤◌, length, take};
 ghost use Rattle.cover.specs.Chains.{sort_links};
 ghost use Rattle.cover.specs.Answers.{link_columns, counted, links_over, links_after};
@@ -91,8 +93,7 @@ fn sort_taken(n: usize, a: &mut [u32], b: &mut [u32], c: &mut [u32], d: &mut [u3
 }
 
 // Puts links in order, repeats dropped, from the start of their slice on, and answers how many they are; what stands behind them stays.
-#[unsafe(no_mangle)]
-pub extern "C" fn ridgeoven_links_sort(links: &mut [Link]) -> Answer
+pub fn ridgeoven_links_sort(links: &mut [Link]) -> Answer
     ensures { (result ≡ records_of (counted (λ x. x) (sort_lent (map meant links.old))))
         × (map meant links.new ≡ records_after (sort_lent (map meant links.old)) (map meant links.old)) }
 {

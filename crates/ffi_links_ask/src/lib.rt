@@ -1,4 +1,6 @@
-// The links of some chains, asked for over lent records: taken apart into columns, asked, put together. Proved by hand, by the steps of `ffi_links`.
+// The links of some chains, asked for over lent records: taken apart into columns, asked, put together. Proved by the laws of `ffi_links`.
+#![tactic(auto)]
+
 ghost use Rattle.std.specs.Prelude.{◌≡◌, [], ◌∷◌, map, ◌≤◌, length, take};
 ghost use Rattle.cover.specs.Cover.{columns_of};
 ghost use Rattle.cover.specs.Questions.{chain_links};
@@ -49,9 +51,9 @@ fn ask_part(
     requires x_len { (length x.now ≡ 1024) × ((length y.now ≡ 1024) × ((length z.now ≡ 1024) × (length w.now ≡ 1024))) }
     requires a_len { (length a.old ≡ 1024) × ((length b.old ≡ 1024) × ((length c.old ≡ 1024) × (length d.old ≡ 1024))) }
     ensures { (result ≡ records_of (counted (λ x. x) (chain_links
-        (link_columns (take n x.entry.now) (take n y.now) (take n z.now) (take n w.now)) chains.now
+        (link_columns (take n x.now) (take n y.now) (take n z.now) (take n w.now)) chains.now
         (for_records (1024 ∷ 1024 ∷ 1024 ∷ 1024 ∷ []))))) × (link_columns a.new b.new c.new d.new
-        ≡ links_after (λ x. x) (chain_links (link_columns (take n x.entry.now) (take n y.now) (take n z.now) (take n w.now))
+        ≡ links_after (λ x. x) (chain_links (link_columns (take n x.now) (take n y.now) (take n z.now) (take n w.now))
         chains.now (for_records (1024 ∷ 1024 ∷ 1024 ∷ 1024 ∷ []))) (link_columns a.old b.old c.old d.old)) }
 {
     ffi_cover::covers::ridgeoven_chain_links(&x[..n], &y[..n], &z[..n], &w[..n], chains, a, b, c, d)
@@ -138,8 +140,7 @@ fn ask_taken(
 
 // Writes those links that are from one of the chains, in their order, from the start of `out` on, and answers how many they are; what stands behind
 // them stays. The links rise.
-#[unsafe(no_mangle)]
-pub extern "C" fn ridgeoven_links_from(links: &[Link], chains: &[u32], out: &mut [Link]) -> Answer
+pub fn ridgeoven_links_from(links: &[Link], chains: &[u32], out: &mut [Link]) -> Answer
     ensures { (result ≡ records_of (counted (λ x. x) (chain_lent (map meant links.now) chains.now (length out.old))))
         × (map meant out.new ≡ records_after (chain_lent (map meant links.now) chains.now (length out.old)) (map meant out.old)) }
 {

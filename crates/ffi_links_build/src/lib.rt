@@ -1,5 +1,7 @@
-// A cover built of labels and of links as lent records: the links taken apart into columns, built, put together. Proved by hand, by the steps of
+// A cover built of labels and of links as lent records: the links taken apart into columns, built, put together. Proved by the laws of
 // `ffi_links`.
+#![tactic(auto)]
+
 ghost use Rattle.std.specs.Prelude.{◌≡◌, [], ◌∷◌, map, ◌≤◌, length};
 ghost use Rattle.columns.specs.Refusal.{refused};
 ghost use Rattle.columns.specs.Answers.{label_columns};
@@ -164,8 +166,7 @@ fn build_taken(
 
 // Writes the ranges of labels into three columns, by rising chain id, and links in order, repeats dropped, from the start of `out` on; answers how
 // many of each, and what stands behind them stays.
-#[unsafe(no_mangle)]
-pub extern "C" fn ridgeoven_links_build(
+pub fn ridgeoven_links_build(
     chains: &[u32],
     seqs: &[u32],
     links: &[Link],

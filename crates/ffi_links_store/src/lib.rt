@@ -1,4 +1,6 @@
-// Links as lent records into their stored columns: taken apart, stored. Proved by hand, by the steps of `ffi_links`.
+// Links as lent records into their stored columns: taken apart, stored. Proved by the laws of `ffi_links`.
+#![tactic(auto)]
+
 ghost use Rattle.std.specs.Prelude.{◌≡◌, [], ◌∷◌, map, length};
 ghost use Rattle.cover.specs.Answers.{link_columns, counted, columns_after};
 ghost use Rattle.cover_links.specs.Links.{meant};
@@ -23,10 +25,10 @@ fn store_taken(
 ) -> Answer
     requires { (length x.now ≡ 1024) × ((length y.now ≡ 1024) × ((length z.now ≡ 1024) × (length w.now ≡ 1024))) }
     ensures { (result ≡ records_of (counted (λ x. x.from_chains)
-        (given n (store_lent (first_links n (link_columns x.entry.now y.now z.now w.now))
+        (given n (store_lent (first_links n (link_columns x.now y.now z.now w.now))
         (length a.old ∷ length b.old ∷ length c.old ∷ length d.old ∷ [])))))
         × (link_columns a.new b.new c.new d.new
-        ≡ columns_after (given n (store_lent (first_links n (link_columns x.entry.now y.now z.now w.now))
+        ≡ columns_after (given n (store_lent (first_links n (link_columns x.now y.now z.now w.now))
         (length a.old ∷ length b.old ∷ length c.old ∷ length d.old ∷ [])))
         (link_columns a.old b.old c.old d.old)) }
 {
@@ -37,8 +39,7 @@ fn store_taken(
 }
 
 // Writes the stored columns of links, the first of differences.
-#[unsafe(no_mangle)]
-pub extern "C" fn ridgeoven_links_store(
+pub fn ridgeoven_links_store(
     links: &[Link],
     a: &mut [u32],
     b: &mut [u32],

@@ -1,4 +1,6 @@
 // Parent lists and unresolved records out of references, for programs in C or Rust, answered by numbers.
+#![tactic(auto)]
+
 ghost use Rattle.std.specs.Prelude.{◌≡◌, length};
 ghost use Rattle.columns_refs.specs.References.{resolve_graph};
 ghost use Rattle.columns_refs.specs.Resolved.{referred, slices_of};
@@ -8,7 +10,7 @@ use columns::refusal::number;
 
 // How many targets the parent lists have, and how many unresolved records there are.
 #[repr(C)]
-#[derive(Drop)]
+#[derive(Clone, Copy)]
 pub struct Resolved {
     pub refusal: u64,
     pub parents: usize,
@@ -34,8 +36,7 @@ fn told_of(resolved: columns_refs::Resolved) -> Resolved
 
 // The parent lists of a file's rows as slot offsets and targets, and the unresolved records in three columns. Row r has the references from place
 // starts[r] up to starts[r + 1]; beside each stands the answer of its lookup, whether it is known, 0 for no, and its number.
-#[unsafe(no_mangle)]
-pub extern "C" fn ridgeoven_resolve_graph(
+pub fn ridgeoven_resolve_graph(
     first: u64,
     rows: usize,
     starts: &[u64],

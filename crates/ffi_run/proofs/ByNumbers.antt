@@ -4,7 +4,7 @@ use Prim.Native.Nat.{ℕ}
 use Rattle.columns.specs.Limits.{kinds}
 use Rattle.cleaning.specs.Step.{Call, Answer}
 use Rattle.cleaning.specs.Runs.{RunState, run_outcome, run_step}
-use Rattle.run.specs.Contracts.{replied, Steps}
+use Rattle.run.specs.Promises.{replied, Steps}
 use Rattle.run.specs.declared.Run.{Run}
 use Rattle.run.specs.declared.Reply.{Reply}
 use Rattle.run.specs.declared.Reply.TheVariants.{Done, Refused}

@@ -1,10 +1,12 @@
 // A run for programs in C or Rust, step by step and answered by numbers: a run is a value, given and given back.
+#![tactic(auto)]
+
 ghost use Rattle.std.specs.Prelude.{◌≡◌};
 ghost use Rattle.columns.specs.Limits.{kinds};
 ghost use Rattle.cleaning.specs.Step.{takes, resolves, maps, counts};
 ghost use Rattle.cleaning.specs.Runs.{fresh_run, run_step};
 ghost use Rattle.run.specs.View.{view};
-ghost use Rattle.run.specs.Contracts.{replied, numbered, counted_as};
+ghost use Rattle.run.specs.Promises.{replied, numbered, counted_as};
 ghost use Rattle.ffi.specs.Numbers.{refusal_of};
 ghost use Rattle.ffi_run.specs.Steps.{StepsBy, told_of, count_of};
 
@@ -14,7 +16,7 @@ use run::{Count, Number, Reply, Run};
 
 // The run after a call.
 #[repr(C)]
-#[derive(Drop)]
+#[derive(Clone, Copy)]
 pub struct Step {
     pub run: Run,
     pub refusal: u64,
@@ -22,7 +24,7 @@ pub struct Step {
 
 // The new number of an event: `known` is 0 where it is erased or no event has the number.
 #[repr(C)]
-#[derive(Drop)]
+#[derive(Clone, Copy)]
 pub struct Renumbered {
     pub refusal: u64,
     pub known: u64,
@@ -70,16 +72,14 @@ fn reparented_of(answer: Count) -> Answer
 }
 
 // A run that has taken nothing.
-#[unsafe(no_mangle)]
-pub extern "C" fn ridgeoven_new() -> Run
+pub fn ridgeoven_new() -> Run
     ensures { view result ≡ fresh_run }
 {
     run::new()
 }
 
 // Takes the files of an archive, after those taken before. After a refusal the run is the one that was given.
-#[unsafe(no_mangle)]
-pub extern "C" fn ridgeoven_take(run: Run, bytes: &[u8]) -> Step
+pub fn ridgeoven_take(run: Run, bytes: &[u8]) -> Step
     ensures { StepsBy (takes bytes.now) run result }
 {
     let q = run::take(run, bytes);
@@ -92,8 +92,7 @@ pub extern "C" fn ridgeoven_take(run: Run, bytes: &[u8]) -> Step
 }
 
 // Ends the taking of sources.
-#[unsafe(no_mangle)]
-pub extern "C" fn ridgeoven_resolve(run: Run) -> Step
+pub fn ridgeoven_resolve(run: Run) -> Step
     ensures { StepsBy resolves run result }
 {
     let q = run::resolve(run);
@@ -106,16 +105,14 @@ pub extern "C" fn ridgeoven_resolve(run: Run) -> Step
 }
 
 // The new number of an old one, in a resolved run.
-#[unsafe(no_mangle)]
-pub extern "C" fn ridgeoven_new_number(run: Run, old: u64) -> Renumbered
+pub fn ridgeoven_new_number(run: Run, old: u64) -> Renumbered
     ensures { result ≡ told_of (run_step kinds (view run) (maps old)).answer }
 {
     renumbered_of(run::new_number(run, old))
 }
 
 // How many survivors name an erased parent, in a resolved run.
-#[unsafe(no_mangle)]
-pub extern "C" fn ridgeoven_reparented(run: Run) -> Answer
+pub fn ridgeoven_reparented(run: Run) -> Answer
     ensures { result ≡ count_of (run_step kinds (view run) counts).answer }
 {
     reparented_of(run::reparented(run))

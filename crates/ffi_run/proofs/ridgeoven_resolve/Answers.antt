@@ -1,0 +1,6 @@
+use borrow.Author.Rules.{rules}
+use Rattle.ffi_run.proofs.ByNumbers.{steps-by}
+use Rattle.ffi_run.proofs.ridgeoven_resolve.Goals as goal
+
+pub returns : goal.returns
+returns c = search (rules, steps-by)
