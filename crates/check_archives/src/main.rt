@@ -1,12 +1,20 @@
 // Opens every archive that its arguments name and says of each, in a line, whether it is accepted: taken, resolved and written. It goes on after a
 // bad one, and ends with how many were accepted, refused and not read.
+#![tactic(auto)]
+
+ghost use Rattle.io.specs.Counts.{IsPrefixLen};
+
 use archive_read::files::{Summed, sum_up};
 use columns::refusal::Refusal;
-use libc::STDOUT_FILENO;
-use messages::input::read_whole;
+use messages::STANDARD_OUTPUT;
+use messages::input::{Reading, read_whole};
 use run_state::Writing;
+use std::env::FillError;
+use std::io::Read;
+use std::rt::{Env, Files};
+use std::{fs, str};
 
-#[derive(Drop)]
+#[derive(Clone, Copy)]
 enum Outcome {
     Accepted,
     Refused,
@@ -41,11 +49,11 @@ fn less(a: usize, b: usize) -> usize {
 fn tell_accepted(bytes: &[u8], cleaned: &[u8]) {
     let events = events_of(bytes);
     let survivors = events_of(cleaned);
-    messages::tell_count(STDOUT_FILENO, b"accepted: files ", files_of(bytes));
-    messages::tell_count(STDOUT_FILENO, b", events ", events);
-    messages::tell_count(STDOUT_FILENO, b", erased ", less(events, survivors));
-    messages::tell_count(STDOUT_FILENO, b", survivors ", survivors);
-    io::write_all(STDOUT_FILENO, b"\n");
+    messages::tell_count(STANDARD_OUTPUT, b"accepted: files ", files_of(bytes));
+    messages::tell_count(STANDARD_OUTPUT, b", events ", events);
+    messages::tell_count(STANDARD_OUTPUT, b", erased ", less(events, survivors));
+    messages::tell_count(STANDARD_OUTPUT, b", survivors ", survivors);
+    io::write_all(STANDARD_OUTPUT, b"\n");
 }
 
 fn check_bytes(bytes: &[u8]) -> Outcome {
@@ -53,7 +61,7 @@ fn check_bytes(bytes: &[u8]) -> Outcome {
     let r = run_clean::clean(bytes, &mut out);
     match r {
         Writing::Refused(x) => {
-            messages::tell_refusal(STDOUT_FILENO, x);
+            messages::tell_refusal(STANDARD_OUTPUT, x);
             Outcome::Refused
         }
         Writing::Length(n) => {
@@ -65,49 +73,69 @@ fn check_bytes(bytes: &[u8]) -> Outcome {
 }
 
 fn unread() -> Outcome {
-    io::write_all(STDOUT_FILENO, b"cannot be read\n");
+    io::write_all(STANDARD_OUTPUT, b"cannot be read\n");
     Outcome::Unread
 }
 
+// Reads an open file, and closes it.
+fn read_file<F: Read + Drop>(file: F, input: &mut [u8]) -> Reading
+    ensures { IsPrefixLen result.count input.new }
+{
+    let mut file = file;
+    read_whole(&mut file, input)
+}
+
 // Reads an open file, of at most 655,360 bytes, and checks it.
-fn check_file(fd: i32) -> Outcome {
+fn check_file<F: Read + Drop>(file: F) -> Outcome {
     let mut input = messages::input_room();
-    let r = read_whole(fd, &mut input);
-    libc::close(fd);
+    let r = read_file(file, &mut input);
     if r.is_failed {
         return unread();
     }
     let n = r.count;
     if 655360 < n {
-        messages::tell_refusal(STDOUT_FILENO, Refusal::SliceShort);
+        messages::tell_refusal(STANDARD_OUTPUT, Refusal::SliceShort);
         return Outcome::Refused;
     }
     check_bytes(&input[..n])
 }
 
-fn check_named(path: &[u8]) -> Outcome {
-    io::write_all(STDOUT_FILENO, path);
-    io::write_all(STDOUT_FILENO, b": ");
-    let fd = os::open_read(path);
-    if fd < 0 {
-        return unread();
+fn check_named(rt: &impl Files, path: &[u8]) -> Outcome {
+    io::write_all(STANDARD_OUTPUT, path);
+    io::write_all(STANDARD_OUTPUT, b": ");
+    match str::from_utf8(path) {
+        Ok(name) => match fs::open(rt, name) {
+            Ok(file) => check_file(file),
+            Err(_) => unread(),
+        },
+        Err(_) => unread(),
     }
-    check_file(fd)
 }
 
-// The archive that argument i names.
-fn check_argument(i: usize) -> Outcome {
+// The archive that argument i names, or nothing where there are no more arguments.
+fn check_argument(rt: &(impl Files + Env), i: usize) -> Option<Outcome> {
     let mut path = io::buffer();
-    let n = os::arg(i, &mut path);
-    if os::errno() != 0 {
-        io::write_all(STDOUT_FILENO, b"an argument cannot be read\n");
-        return Outcome::Unread;
+    match rt.arg(i, &mut path) {
+        Ok(n) => Some(check_named(rt, &path[..n])),
+        Err(FillError::TooLong) => {
+            io::write_all(STANDARD_OUTPUT, b"an argument cannot be read\n");
+            Some(Outcome::Unread)
+        }
+        Err(FillError::NotPresent) => None,
     }
-    check_named(&path[..n])
+}
+
+fn has_arguments(rt: &impl Env) -> bool {
+    let mut path = io::buffer();
+    match rt.arg(1, &mut path) {
+        Ok(_) => true,
+        Err(FillError::TooLong) => true,
+        Err(FillError::NotPresent) => false,
+    }
 }
 
 // The three counts, and how many arguments are left.
-#[derive(Drop)]
+#[derive(Clone, Copy)]
 struct Tally {
     accepted: u64,
     refused: u64,
@@ -138,34 +166,34 @@ fn counted(t: Tally, o: Outcome) -> Tally {
     }
 }
 
-fn check_all(n: usize) -> Tally {
+fn check_all(rt: &(impl Files + Env)) -> Tally {
     let mut t = Tally {
         accepted: 0,
         refused: 0,
         unread: 0,
     };
-    let mut i = 1;
-    while i < n {
-        t = counted(t, check_argument(i));
-        i += 1;
+    for i in 1..usize::MAX {
+        match check_argument(rt, i) {
+            Some(o) => t = counted(t, o),
+            None => break,
+        }
     }
     t
 }
 
-fn main() {
-    let n = os::arg_count();
-    if n < 2 {
+fn main(rt: HostRuntime) {
+    if !has_arguments(&rt) {
         io::write_all(
-            STDOUT_FILENO,
+            STANDARD_OUTPUT,
             b"check_archives ARCHIVE..: says of each archive whether it is accepted\n",
         );
         return;
     }
-    let t = check_all(n);
-    io::print_decimal(STDOUT_FILENO, t.accepted);
-    io::write_all(STDOUT_FILENO, b" accepted, ");
-    io::print_decimal(STDOUT_FILENO, t.refused);
-    io::write_all(STDOUT_FILENO, b" refused, ");
-    io::print_decimal(STDOUT_FILENO, t.unread);
-    io::write_all(STDOUT_FILENO, b" not read\n");
+    let t = check_all(&rt);
+    io::print_decimal(STANDARD_OUTPUT, t.accepted);
+    io::write_all(STANDARD_OUTPUT, b" accepted, ");
+    io::print_decimal(STANDARD_OUTPUT, t.refused);
+    io::write_all(STANDARD_OUTPUT, b" refused, ");
+    io::print_decimal(STANDARD_OUTPUT, t.unread);
+    io::write_all(STANDARD_OUTPUT, b" not read\n");
 }

@@ -1,38 +1,41 @@
 // Cleans an archive: its bytes come on standard input, the cleaned archive goes to standard output. A refusal writes nothing there, and one line to
 // standard error; an input that cannot be read to its end is told so there too, and nothing is cleaned of it.
+#![tactic(auto)]
+
 use columns::refusal::Refusal;
-use libc::{STDERR_FILENO, STDIN_FILENO, STDOUT_FILENO};
+use messages::STANDARD_ERROR;
+use messages::failures::tell_failure;
 use messages::input::read_whole;
 use run_state::Writing;
 
 // Cleans bytes, and writes what they are cleaned to.
-fn clean(bytes: &[u8]) {
+fn clean(rt: &impl Print, bytes: &[u8]) {
     let mut out = messages::output_room();
     let r = run_clean::clean(bytes, &mut out);
     match r {
-        Writing::Refused(x) => messages::tell_refusal(STDERR_FILENO, x),
+        Writing::Refused(x) => messages::tell_refusal(STANDARD_ERROR, x),
         Writing::Length(n) => {
             let m = messages::within(n, &out);
-            let is_written = io::write_all(STDOUT_FILENO, &out[..m]);
-            if !is_written {
-                os::fail(b"standard output");
+            match rt.write_all(&out[..m]) {
+                Ok(()) => {}
+                Err(e) => tell_failure(STANDARD_ERROR, b"standard output", Some(e)),
             }
         }
     }
 }
 
 // An archive of more than 655,360 bytes is refused with 41.
-fn main() {
+fn main(rt: HostRuntime) {
     let mut input = messages::input_room();
-    let r = read_whole(STDIN_FILENO, &mut input);
+    let r = read_whole(&mut rt.stdin(), &mut input);
     if r.is_failed {
-        os::fail(b"standard input cannot be read");
+        tell_failure(STANDARD_ERROR, b"standard input cannot be read", r.error);
         return;
     }
     let n = r.count;
     if 655360 < n {
-        messages::tell_refusal(STDERR_FILENO, Refusal::SliceShort);
+        messages::tell_refusal(STANDARD_ERROR, Refusal::SliceShort);
         return;
     }
-    clean(&input[..n]);
+    clean(&rt, &input[..n]);
 }

@@ -1,9 +1,12 @@
 // Document 01's listing program: an archive of at most 65,536 bytes on standard input, its listing or the one line `refused N` on standard output. An
 // input that cannot be read to its end is told so on standard error, and nothing is printed of it.
+#![tactic(auto)]
+
 ghost use Rattle.std.specs.Prelude.{◌≤◌, length};
 ghost use Rattle.listing.specs.Printed.{Printed};
 
-use libc::{STDIN_FILENO, STDOUT_FILENO};
+use messages::STANDARD_ERROR;
+use messages::failures::tell_failure;
 use messages::input::read_whole;
 use run_state::Writing;
 use run_text::lines::put_refused;
@@ -20,23 +23,23 @@ fn print(bytes: &[u8], out: &mut [u8]) -> usize
     }
 }
 
-fn list(bytes: &[u8]) {
+fn list(rt: &impl Print, bytes: &[u8]) {
     let mut out = messages::text_room();
     let n = print(bytes, &mut out);
-    let is_written = io::write_all(STDOUT_FILENO, &out[..n]);
-    if !is_written {
-        os::fail(b"standard output");
+    match rt.write_all(&out[..n]) {
+        Ok(()) => {}
+        Err(e) => tell_failure(STANDARD_ERROR, b"standard output", Some(e)),
     }
 }
 
 // One byte more is read than is listed, by which a longer input is told.
-fn main() {
+fn main(rt: HostRuntime) {
     let mut input = [0u8; 65537];
-    let r = read_whole(STDIN_FILENO, &mut input);
+    let r = read_whole(&mut rt.stdin(), &mut input);
     if r.is_failed {
-        os::fail(b"standard input cannot be read");
+        tell_failure(STANDARD_ERROR, b"standard input cannot be read", r.error);
         return;
     }
     let n = r.count;
-    list(&input[..n]);
+    list(&rt, &input[..n]);
 }

@@ -1,4 +1,7 @@
-// What the programs share: room for an archive and how it is read, and what they tell of a refusal and of a count.
+// What the programs share: room for an archive and how it is read, and what they tell of a refusal, of a failure and of a count.
+#![tactic(auto)]
+
+pub mod failures;
 pub mod input;
 pub mod words;
 
@@ -6,6 +9,11 @@ ghost use Rattle.std.specs.Prelude.{◌≡◌, length};
 ghost use Rattle.io.specs.Counts.{IsPrefixLen};
 
 use columns::refusal::{Refusal, number};
+
+// Where a program answers, and where it tells what went wrong.
+pub const STANDARD_OUTPUT: i32 = 1;
+
+pub const STANDARD_ERROR: i32 = 2;
 
 // Room for an archive as it is read, and one byte more by which a longer one is told. An archive with a row in every file has at most 606,208
 // bytes.

@@ -1,5 +1,7 @@
 // Tries the reader on a good archive, on every truncation of it and on every change of one of its bytes: the counts of the archive,
 // and how many of the others are accepted.
+#![tactic(auto)]
+
 ghost use Rattle.std.specs.Prelude.{◌≤◌, ◌<◌, length};
 
 use archive_read::files::{Summed, Totals, sum_up};
@@ -31,7 +33,7 @@ fn truncations(bytes: &[u8]) -> usize
 
 // How many values of the byte at `i` are accepted; the byte is put back.
 fn changes_at(bytes: &mut [u8], i: usize) -> usize
-    requires* { do ⌜ i < (← ⟦bytes.len()⟧) ⌝ }
+    requires { i < length bytes.old }
     ensures { result ≤ 256 }
 {
     let old = bytes[i];

@@ -1,7 +1,7 @@
 // What a replay has seen of a question.
 
 // How many cases there were, how many of them agree, and the place of the first that does not.
-#[derive(Drop)]
+#[derive(Clone, Copy)]
 pub struct Tally {
     pub cases: u64,
     pub agree: u64,

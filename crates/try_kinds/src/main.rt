@@ -1,4 +1,6 @@
 // Asks the column functions for two kinds and for three: the same events with and without a third list, read, asked for parents and children, and walked.
+#![tactic(auto)]
+
 use columns::kind::{Kind, Kinds};
 use columns::refusal::{Counted, number};
 use columns::set::Set;

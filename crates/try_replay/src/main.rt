@@ -1,5 +1,7 @@
 // The original's kept answers, asked of the proved functions: a line for each question. A case is how many words of 64 bits follow, the
 // number of its question, the parts of its input, and the answer. Behind the last case are words 0, cases of no question.
+#![tactic(auto)]
+
 mod builds;
 mod covers;
 mod refs;
