@@ -21,11 +21,11 @@ def text_of(crate, below):
         if names and path.stem not in LEFT_OUT:
             modules[path.stem] = names
     lines = ["-- One name that opens every definition of this crate and of those below it, for whoever computes with them: `unfolding computes`."]
-    lines += [f"use Rattle·{crate}·specs.specs.{module}" for module in modules]
-    lines += [f"use Rattle·{other}.specs.Computes.{{computes as {other}Opens}}" for other in below]
+    lines += [f"use Rattle.{crate}.specs.{module}" for module in modules]
+    lines += [f"use Rattle.{other}.specs.Computes.{{computes as {other}_opens}}" for other in below]
     opened = [" ".join(f"{module}.{name}" for name in names) for module, names in modules.items()]
     lines += ["", "unfoldable pub computes : Unit {0}", "unfolding"]
-    lines += ["    " + line for line in ([" ".join(f"{other}Opens" for other in below)] if below else []) + opened]
+    lines += ["    " + line for line in ([" ".join(f"{other}_opens" for other in below)] if below else []) + opened]
     return "\n".join(lines + ["computes = tt", ""])
 
 
@@ -34,7 +34,7 @@ def main():
     for crate, below in BELOW.items():
         path = ROOT / crate / "specs" / "Computes.antt"
         text = text_of(crate, below)
-        if not path.exists() or path.read_text().split() != text.split():
+        if not path.exists() or sorted(path.read_text().split()) != sorted(text.split()):
             stale.append(str(path.relative_to(ROOT.parent)))
             if "--check" not in sys.argv:
                 path.write_text(text)

@@ -5,10 +5,10 @@
 
 Doors: a function of one storey is called from another only if README's table of doors lists it; the boundary, the programs and the tries
 may also call every public function. Promises: a public function of README's table has an `ensures` and no `requires`, and as many must-fail
-edits as the table says; every exported function is in the table, and no function that can be called from outside a crate with public
-functions has a `requires`. Edits: the first line of each names a public function, a definition, or the function of a near miss, and the
-wrong answer that it rules out; the text that it changes stands in its file once. Lines: none of a definition, a law or a function is over
-200 characters, but for one with a text in it."""
+edits as the table says; every exported function is in the table, or has in a crate NAME_c the name and the clauses of one of NAME that is; and no
+function that can be called from outside a crate with public functions has a `requires`. Edits: the first line of each names a public function, a
+definition, or the function of a near miss, and the wrong answer that it rules out; the text that it changes stands in its file once. Lines: none
+of a definition, a law or a function is over 210 characters, but for an import or one with a text in it."""
 import pathlib
 import re
 import sys
@@ -28,7 +28,7 @@ def storey(crate):
 def crates():
     """The crates of crates.txt."""
     lines = (line.split("#")[0] for line in (ROOT / "crates.txt").read_text().splitlines())
-    return [line.split(":")[0].strip() for line in lines if ":" in line]
+    return [line.split(":")[0].split()[0] for line in lines if ":" in line]
 
 
 def rows(heading):
@@ -47,11 +47,19 @@ def functions(cell):
 
 # ── doors ────────────────────────────────────────────────────────────────────────────────────
 
+def imported(code):
+    """The paths that a file imports: `a::b::{c, d}` stands for two."""
+    for path in re.findall(r"^(?:pub(?:\(crate\))? )?use ([^;]*);", code, re.M):
+        head, _, names = path.partition("{")
+        yield from (head + name.strip() for name in names.rstrip("}\n ").split(",") if name.strip()) if names else [path]
+
+
 def calls(crate, known):
     """The functions of other crates that a crate's code calls, by their paths."""
     for file in sorted((CRATES / crate / "src").rglob("*.rt")):
-        code = "\n".join(line for line in re.sub(r"//.*", "", file.read_text()).splitlines() if not line.startswith("ghost"))
-        used = {path.split("::")[-1]: path for path in re.findall(r"^use ([a-z_0-9]+(?:::\w+)+);", code, re.M)}
+        code = re.sub(r"^ghost use [^;]*;", "", re.sub(r"//.*", "", file.read_text()), flags=re.M)
+        code = "\n".join(line for line in code.splitlines() if not line.startswith("ghost"))
+        used = {path.split("::")[-1]: path for path in imported(code)}
         for head, rest in re.findall(r"(?<![\w:])([a-z_0-9]+)((?:::[a-z_0-9]+)*)\(", code):
             path = used.get(head, head) + rest
             if "::" in path and path.split("::")[0] in known - {crate}:
@@ -77,6 +85,11 @@ def doors(public):
 
 # ── promises ─────────────────────────────────────────────────────────────────────────────────
 
+def has(kind, text):
+    """Whether a contract has a clause of a kind, named or not."""
+    return re.search(rf"\b{kind}(?: \w+)? \{{", text) is not None
+
+
 def contract(path):
     """The contract of a function: what stands between its parameters and its body, or nothing if there is no such public function."""
     crate, *modules, name = path.split("::")
@@ -99,12 +112,27 @@ def open_functions(crate, modules=()):
 
 
 def exported():
-    """The functions that programs in C or Rust can call."""
+    """The functions that programs in C or Rust can call, by their paths."""
     for crate in crates():
         for file in sorted((CRATES / crate / "src").rglob("*.rt")):
             modules = file.relative_to(CRATES / crate / "src").with_suffix("").parts
             for name in re.findall(r"^pub extern \"C\" fn (\w+)", file.read_text(), re.M):
                 yield "::".join((crate, *(m for m in modules if m != "lib"), name))
+
+
+def bare(text):
+    return re.sub(r",?\s+|,(?=[)}])", "", text)
+
+
+def exports(public):
+    """Exported functions that README doesn't list. One of a crate NAME_c stands for the function of its name in NAME, with the same clauses."""
+    for path in exported():
+        crate, name = path.split("::")[0], path.split("::")[-1]
+        under = [listed for listed in public if listed.split("::")[0] + "_c" == crate and listed.split("::")[-1] == name]
+        if under and bare(contract(path)) != bare(contract(under[0]) or ""):
+            yield f"{path} promises something else than {under[0]}"
+        elif not under and path not in public:
+            yield f"{path} is exported and not in the table of public functions"
 
 
 def defined(crate, rest):
@@ -154,10 +182,10 @@ def promises(table):
         text = contract(path)
         if text is None:
             wrong.append(f"{path} is in the table of public functions and not in the code")
-        elif "ensures {" not in text or "requires {" in text:
+        elif not has("ensures", text) or has("requires", text):
             wrong.append(f"{path}: a public function has an `ensures` and no `requires`")
     for crate in sorted({path.split("::")[0] for path in public}):
-        wrong += [f"{path} has a `requires` and can be called from outside" for path, text in open_functions(crate) if "requires {" in text and path not in public]
+        wrong += [f"{path} has a `requires` and can be called from outside" for path, text in open_functions(crate) if has("requires", text) and path not in public]
     for row in table:
         least, unit = row[2].split(" ", 1)
         paths = list(functions(row[1]))
@@ -165,18 +193,18 @@ def promises(table):
             wrong += [f"{path}: {count.get(path, 0)} must-fail edits, {least} are due" for path in paths if count.get(path, 0) < int(least)]
         elif sum(count.get(path, 0) for path in paths) < int(least):
             wrong.append(f"{row[0]}: fewer than {least} must-fail edits in all")
-    return wrong + [f"{path} is exported and not in the table of public functions" for path in exported() if path not in public]
+    return wrong + list(exports(public))
 
 
 # ── lines ────────────────────────────────────────────────────────────────────────────────────
 
 def lines():
-    """Lines that are too long to be read. Answers of a walk, lists of what computes and archives with known answers are not looked at."""
-    for file in sorted([*CRATES.rglob("*.rt"), *CRATES.rglob("*.antt")]):
-        if file.name in ("Proof.antt", "Computes.antt") or file.parts[len(CRATES.parts)] == "try_known":
+    """Lines that are too long to be read. Imports, proofs of functions, lists of what computes and archives with known answers are not looked at."""
+    for file in sorted(file for part in ("src", "specs", "proofs") for file in CRATES.glob(f"*/{part}/**/*") if file.suffix in (".rt", ".antt")):
+        if file.name in ("Proof.antt", "Answers.antt", "Invariants.antt", "Computes.antt") or file.parts[len(CRATES.parts)] == "try_known":
             continue
         for number, line in enumerate(file.read_text().splitlines(), 1):
-            if len(line) > 200 and '"' not in line:
+            if len(line) > 210 and '"' not in line and not re.match(r" *(pub |ghost )?use ", line):
                 yield f"{file.relative_to(ROOT)}:{number}: a line of {len(line)} characters"
 
 

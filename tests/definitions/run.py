@@ -1,5 +1,5 @@
 #!/usr/bin/env python3
-"""Compute the definitions `listing` and `cleanedBytes` on archives whose answers are known.
+"""Compute the definitions `listing` and `cleaned_bytes` on archives whose answers are known.
 
     tests/definitions/run.py [--most N] [--bytes N] [--keep] [FOLDER]
 
@@ -15,11 +15,9 @@ sys.path.insert(0, str(pathlib.Path(__file__).resolve().parents[1]))
 import scratch  # noqa: E402
 
 COMMENT = "Archives with known answers, computed by the definitions. There is no code here."
-HEAD = """use mathlib.Core.Path.{_≡_, refl}
-use mathlib.Core.List.{List, [], _∷_}
-use Prim.Native.Nat.{ℕ}
-use Rattle·columns.specs.Limits.{kinds}
-use Rattle·cleaning.specs.Listing.{listing, cleanedBytes}
+HEAD = """use Rattle.std.specs.Prelude.{◌≡◌, refl, List, [], ◌∷◌, ℕ}
+use Rattle.columns.specs.Limits.{kinds}
+use Rattle.cleaning.specs.Listing.{listing, cleaned_bytes}
 
 input : List ℕ
 input = %s
@@ -28,8 +26,8 @@ listed : listing kinds input ≡ %s
 unfolding listing input
 listed = refl
 
-written : cleanedBytes kinds input ≡ %s
-unfolding cleanedBytes input
+written : cleaned_bytes kinds input ≡ %s
+unfolding cleaned_bytes input
 written = refl
 """
 

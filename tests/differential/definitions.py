@@ -22,38 +22,34 @@ REFUSALS = {
     13: "InboundTwice", 14: "GranuleRows", 15: "DeltaRange", 16: "RootOutside", 17: "OffsetsForm", 18: "DeltaCount",
     19: "TargetSide", 20: "LabelColumns", 21: "LabelRange", 22: "CoverForm",
 }
-HEAD = """use mathlib.Core.Path.{_≡_, refl}
-use mathlib.Core.Bool.{Bool, true, false}
-use mathlib.Core.List.{List, [], _∷_, map}
-use mathlib.Core.Option.{Option, none, some}
-use Prim.Native.Nat.{ℕ}
-use lib.IntN.{ℤ, pos, negsuc}
-use Rattle·columns.specs.Limits.{kinds}
-use Rattle·columns.specs.Refusal.{Verdict, refused, accepted}
-use Rattle·columns.specs.declared.refusal.Refusal.the-variants.{%s}
-use Rattle·columns.specs.EdgeSet.{EdgeSet}
-use Rattle·columns.specs.Reading.{Label, Labels, GranuleColumns, Granule, readGranule}
-use Rattle·columns.specs.Building.{Depth, Graph, Built, build}
-use Rattle·columns.specs.Questions.{parents, children, label}
-use Rattle·columns.specs.Roots.{rootEntries}
-use Rattle·columns.specs.Walk.{Walked, walk}
-use Rattle·cover.specs.Chains.{Range, Link}
-use Rattle·cover.specs.Cover.{LinkColumns, Cover, buildCover, columnsOf, readCover}
-use Rattle·cover.specs.Questions.{mayHoldChain, chainLinks}
-use Rattle·cover.specs.Computes.{computes}
-use Rattle·columns_refs.specs.References.{Referred, Resolution, resolveGraph}
-use Rattle·columns_refs.specs.Resolved.{offsetsColumn, parentsColumn, childrenColumn, kindsColumn, handlesColumn}
-use Rattle·columns_refs.specs.Computes.{computes as referencesOpen}
+HEAD = """use Rattle.std.specs.Prelude.{◌≡◌, refl, Bool, true, false, List, [], ◌∷◌, map, ℕ, ℤ, pos, negsuc}
+use Rattle.std.proofs.Math.Option.{Option, none, some}
+use Rattle.columns.specs.Limits.{kinds}
+use Rattle.columns.specs.Refusal.{Verdict, refused, accepted}
+use Rattle.columns.specs.declared.refusal.Refusal.TheVariants.{%s}
+use Rattle.columns.specs.EdgeSet.{EdgeSet}
+use Rattle.columns.specs.Reading.{Label, Labels, GranuleColumns, Granule, read_granule}
+use Rattle.columns.specs.Building.{Depth, Graph, Built, build}
+use Rattle.columns.specs.Questions.{parents, children, label}
+use Rattle.columns.specs.Roots.{root_entries}
+use Rattle.columns.specs.Walk.{Walked, walk}
+use Rattle.cover.specs.Chains.{Range, Link}
+use Rattle.cover.specs.Cover.{LinkColumns, Cover, build_cover, columns_of, read_cover}
+use Rattle.cover.specs.Questions.{may_hold_chain, chain_links}
+use Rattle.cover.specs.Computes.{computes}
+use Rattle.columns_refs.specs.References.{Referred, Resolution, resolve_graph}
+use Rattle.columns_refs.specs.Resolved.{offsets_column, parents_column, children_column, kinds_column, handles_column}
+use Rattle.columns_refs.specs.Computes.{computes as references_open}
 
 -- what building makes of references, for a subject of one byte, without depth, labels and inbound edges, all rows
 abbrev handed : Referred → Verdict Resolution → Verdict Built
 handed g (refused r) = refused r
 handed g (accepted x) =
     build kinds (record {
-      subject = 97 ∷ []; first = g .first; rows = g .rows; offsets = offsetsColumn x; targets = parentsColumn x;
-      unresolved = record { children = childrenColumn x; kindsGiven = kindsColumn x; flags = map (λ u. 0) (handlesColumn x) };
-      depth = none; labels = none; inbound = record { children = []; parents = []; kindsGiven = [] };
-      granuleFirst = 0; granuleRows = g .rows;
+      subject = 97 ∷ []; first = g.first; rows = g.rows; offsets = offsets_column x; targets = parents_column x;
+      unresolved = record { children = children_column x; kinds_given = kinds_column x; flags = map (λ u. 0) (handles_column x) };
+      depth = none; labels = none; inbound = record { children = []; parents = []; kinds_given = [] };
+      granule_first = 0; granule_rows = g.rows;
     }) []
 """ % ", ".join(REFUSALS.values())
 EACH = 8
@@ -90,11 +86,11 @@ def label_list(chains, seqs):
 
 
 def link_columns(a, b, c, d):
-    return record(fromChains=column(a), fromSeqs=column(b), toChains=column(c), toSeqs=column(d))
+    return record(from_chains=column(a), from_seqs=column(b), to_chains=column(c), to_seqs=column(d))
 
 
 def link_list(a, b, c, d):
-    return column(record(fromChain=w, fromSeq=x, toChain=y, toSeq=z) for w, x, y, z in zip(a, b, c, d))
+    return column(record(from_chain=w, from_seq=x, to_chain=y, to_seq=z) for w, x, y, z in zip(a, b, c, d))
 
 
 def range_list(ids, least, greatest):
@@ -110,16 +106,16 @@ def slots(offsets, targets):
 def graph(subject, first, rows, offsets, targets, children, kinds, flags, depth, covered, chains, seqs, into, parents, by, at, count):
     return record(
         subject=column(subject), first=first, rows=rows, offsets=column(offsets), targets=column(targets),
-        unresolved=record(children=column(children), kindsGiven=column(kinds), flags=column(flags)),
+        unresolved=record(children=column(children), kinds_given=column(kinds), flags=column(flags)),
         depth=optional(depth, record(least=depth[0], greatest=depth[1]) if depth else ""),
         labels=optional(covered, labels(chains, seqs)),
-        inbound=record(children=column(into), parents=column(parents), kindsGiven=column(by)),
-        granuleFirst=at, granuleRows=count)
+        inbound=record(children=column(into), parents=column(parents), kinds_given=column(by)),
+        granule_first=at, granule_rows=count)
 
 
 def references(first, rows, starts, kinds, spaces, targets, known, numbers):
     return record(
-        first=first, rows=rows, starts=column(starts), kindsGiven=column(kinds), spaces=column(spaces), targets=column(targets),
+        first=first, rows=rows, starts=column(starts), kinds_given=column(kinds), spaces=column(spaces), targets=column(targets),
         known=column(known), numbers=column(numbers))
 
 
@@ -128,7 +124,7 @@ def asked(name, p):
         return f"build kinds {graph(*p)} []"
     if name == "read":
         columns = record(forward=edge_set(*p[3:6]), reverse=edge_set(*p[6:9]), inbound=edge_set(*p[9:12]), labels=optional(p[12], labels(*p[13:15])))
-        return f"readGranule kinds {p[0]} {p[1]} {p[2]} {columns} []"
+        return f"read_granule kinds {p[0]} {p[1]} {p[2]} {columns} []"
     if name == "parents":
         return f"parents kinds {p[0]} {p[1]} {p[2]} {edge_set(*p[3:6])} {p[6]} {p[7]} []"
     if name == "children":
@@ -136,20 +132,20 @@ def asked(name, p):
     if name == "label":
         return f"label {p[0]} {p[1]} {labels(p[2], p[3])} {p[4]}"
     if name == "roots":
-        return f"rootEntries {p[0]} {p[1]} {column(p[2])} []"
+        return f"root_entries {p[0]} {p[1]} {column(p[2])} []"
     if name == "walk":
         return f"walk kinds {p[0]} {p[1]} {p[2]} {edge_set(*p[3:6])} {p[6]} {p[7]} {p[8]} []"
     if name == "cover":
-        return f"buildCover {labels(p[0], p[1])} {link_columns(*p[2:6])} []"
+        return f"build_cover {labels(p[0], p[1])} {link_columns(*p[2:6])} []"
     if name == "stored":
-        return f"columnsOf {link_list(*p)}"
+        return f"columns_of {link_list(*p)}"
     if name == "decode":
-        return f"readCover {range_list(*p[0:3])} {link_columns(*p[3:7])} []"
+        return f"read_cover {range_list(*p[0:3])} {link_columns(*p[3:7])} []"
     if name == "window":
-        return f"mayHoldChain {range_list(*p[0:3])} {p[3]} {p[4]} {p[5]}"
+        return f"may_hold_chain {range_list(*p[0:3])} {p[3]} {p[4]} {p[5]}"
     if name == "links":
-        return f"chainLinks {link_columns(*p[0:4])} {column(p[4])} []"
-    resolved = f"resolveGraph {references(*p)} []"
+        return f"chain_links {link_columns(*p[0:4])} {column(p[4])} []"
+    resolved = f"resolve_graph {references(*p)} []"
     return resolved if name == "resolve" else f"handed {references(*p)} ({resolved})"
 
 
@@ -212,7 +208,7 @@ def modules(lines):
         for i, line in enumerate(lines[start:start + EACH]):
             text += "\n"
             places.append(text.count("\n") + 1)
-            text += f"case{i} : {equation(line)}\nunfolding computes referencesOpen\ncase{i} = refl\n"
+            text += f"case{i} : {equation(line)}\nunfolding computes references_open\ncase{i} = refl\n"
         yield text, places
 
 
