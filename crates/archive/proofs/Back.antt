@@ -13,7 +13,7 @@ use Rattle.lists.proofs.Tests.{both}
 use Rattle.archive.specs.Bytes.{be, bytes_of, several}
 use Rattle.archive.specs.Reader.{Parsed, broken, got, Reader, and_then, ◌>>=◌, byte, number, bytes, table, numbers, checked, ahead}
 use Rattle.archive.specs.Encode.{column_bytes}
-use Rattle.archive_bytes.proofs.Numbers.{AllBytes, be-small, bytes_of-be, get_d-small}
+use Rattle.archive_bytes.proofs.Numbers.{AllBytes, be-small, bytes_of-be, get_or-small}
 
 -- the bytes from place p up to place q
 abbrev pub span : ℕ → ℕ → List ℕ → List ℕ
@@ -112,7 +112,7 @@ number-back w = leaf-back w (λ l p. true) (λ l p. be w l p) (λ l h p i u. rec
 pub byte-back : Back byte (Said (λ b. b ∷ []) (λ b. b < 256))
 byte-back = leaf-back 1 (λ l p. true) (λ l p. get_or l p 0) (λ l h p i u. record {
   bytes = rw (take-suc (drop p l) 0 0 (rw (length-drop p l) (omega arith)), get_or-drop, add-zero p);
-  fits = get_d-small l p h;
+  fits = get_or-small l p h;
 })
 
 pub bytes_back : (n : ℕ) → Back (bytes n) (Said (λ b. b) (λ b. (length b ≡ n) × AllBytes b))

@@ -17,7 +17,7 @@ use Rattle.archive.specs.Parse
 use Rattle.archive.specs.Parse.{Head, depth_flag_ok, depth_read, head_end, edge_set, Sets, row_at, unresolved_at, root_at, range_at}
 use Rattle.archive.specs.Encode.{depth_bytes, set_bytes, flag_of, row_bytes, unresolved_bytes, root_bytes, range_bytes, links_bytes, cover_bytes, counted_bytes, cover_record}
 use Rattle.archive.specs.Fits.{DepthFits, SetFits, UnresolvedFits, RootFits, RangeFits, LinksFit, CoverFits, CoverFitsIn, Short, Wide}
-use Rattle.archive_bytes.proofs.Numbers.{AllBytes, be-small, bytes_of-be, get_d-small, unsigned-all-back}
+use Rattle.archive_bytes.proofs.Numbers.{AllBytes, be-small, bytes_of-be, get_or-small, unsigned-all-back}
 use Rattle.archive.proofs.Back.{Back, Said, then-back, end_back, weaker-back, number-back, byte-back, bytes_back, Things, tested_table-back, table-back, numbers-back}
 use Rattle.archive.proofs.Framed.{record-back, optionally-back}
 
@@ -124,7 +124,7 @@ unresolved-said : (l : List ℕ) → AllBytes l → 13 ≤ length l → Said unr
 unfolding unresolved_bytes unresolved_at
 unresolved-said l h k = record {
   bytes = rw (take-add 8 5 l, drop-cons l 8 0 (omega arith), bytes_of-be l h 0 8 (omega arith), bytes_of-be l h 9 4 (omega arith));
-  fits = (be-small l h 0 8, get_d-small l 8 h, be-small l h 9 4);
+  fits = (be-small l h 0 8, get_or-small l 8 h, be-small l h 9 4);
 }
 
 root_said : (l : List ℕ) → AllBytes l → 16 ≤ length l → Said root_bytes RootFits (root_at l) (take 16 l)

@@ -4,7 +4,7 @@ pub use Rattle.archive_bytes.proofs.Numbers.{
   be-skip,
   be-at,
   AllBytes,
-  get_d-small,
+  get_or-small,
   be-small,
   bytes_of-be,
   signed_back,

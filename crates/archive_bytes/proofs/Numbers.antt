@@ -60,22 +60,22 @@ be-at w n pre post h =
 abbrev pub AllBytes : List ℕ → Type 0
 AllBytes l = Each (λ b. b < 256) l
 
-pub get_d-small : (l : List ℕ) (i : ℕ) → AllBytes l → get_or l i 0 < 256
-get_d-small [] i h = omega arith
-get_d-small (b ∷ l) zero h = h.0
-get_d-small (b ∷ l) (suc i) h = get_d-small l i h.1
+pub get_or-small : (l : List ℕ) (i : ℕ) → AllBytes l → get_or l i 0 < 256
+get_or-small [] i h = omega arith
+get_or-small (b ∷ l) zero h = h.0
+get_or-small (b ∷ l) (suc i) h = get_or-small l i h.1
 
 module _ (l : List ℕ) (h : AllBytes l) (p : ℕ) where
   pub be-small : (w : ℕ) → be w l p < 256 ^ w
   unfolding be
   be-small zero = omega arith
-  be-small (suc w) = rw (pow-suc 256 w) (omega (arith, be-small w, get_d-small l (p + w) h))
+  be-small (suc w) = rw (pow-suc 256 w) (omega (arith, be-small w, get_or-small l (p + w) h))
 
   pub bytes_of-be : (w : ℕ) → p + w ≤ length l → bytes_of w (be w l p) ≡ take w (drop p l)
   unfolding be bytes_of
   bytes_of-be zero k = refl
   bytes_of-be (suc w) k =
-      let b = get_d-small l (p + w) h in
+      let b = get_or-small l (p + w) h in
       let d : (be w l p * 256 + get_or l (p + w) 0) / 256 ≡ be w l p = omega arith in
       let m : (be w l p * 256 + get_or l (p + w) 0) % 256 ≡ get_or l (p + w) 0 = omega arith in
       rw (d, m, bytes_of-be w (omega arith), take-suc (drop p l) w 0 (rw (length-drop p l) (omega arith)), get_or-drop)

@@ -24,14 +24,14 @@ length-zip3 f (x ∷ xs) (y ∷ ys) [] h k = absurd (omega arith)
 length-zip3 f (x ∷ xs) (y ∷ ys) (z ∷ zs) h k = rw (length-zip3 f xs ys zs (omega arith) (omega arith))
 
 -- what stands at a place is made of what stands there in each column
-pub get_d-zip3 : {A : Type 0} (f : ℕ → ℕ → ℕ → A) (xs ys zs : List ℕ) → length ys ≡ length xs → length zs ≡ length xs → (i : ℕ) (d : A) → i < length xs
+pub get_or-zip3 : {A : Type 0} (f : ℕ → ℕ → ℕ → A) (xs ys zs : List ℕ) → length ys ≡ length xs → length zs ≡ length xs → (i : ℕ) (d : A) → i < length xs
     → get_or (zip3 f xs ys zs) i d ≡ f (get_or xs i 0) (get_or ys i 0) (get_or zs i 0)
 unfolding zip3
-get_d-zip3 f [] ys zs h k i d m = absurd (omega arith)
-get_d-zip3 f (x ∷ xs) [] zs h k i d m = absurd (omega arith)
-get_d-zip3 f (x ∷ xs) (y ∷ ys) [] h k i d m = absurd (omega arith)
-get_d-zip3 f (x ∷ xs) (y ∷ ys) (z ∷ zs) h k zero d m = refl
-get_d-zip3 f (x ∷ xs) (y ∷ ys) (z ∷ zs) h k (suc i) d m = get_d-zip3 f xs ys zs (omega arith) (omega arith) i d (omega arith)
+get_or-zip3 f [] ys zs h k i d m = absurd (omega arith)
+get_or-zip3 f (x ∷ xs) [] zs h k i d m = absurd (omega arith)
+get_or-zip3 f (x ∷ xs) (y ∷ ys) [] h k i d m = absurd (omega arith)
+get_or-zip3 f (x ∷ xs) (y ∷ ys) (z ∷ zs) h k zero d m = refl
+get_or-zip3 f (x ∷ xs) (y ∷ ys) (z ∷ zs) h k (suc i) d m = get_or-zip3 f xs ys zs (omega arith) (omega arith) i d (omega arith)
 
 -- what holds of each number of the columns holds of what is made of them
 pub each-zip2 : {A : Type 0} (f : ℕ → ℕ → A) (P Q : ℕ → Type 0) (R : A → Type 0) → ((x y : ℕ) → P x → Q y → R (f x y)) → (xs ys : List ℕ) → Each P xs → Each Q ys → Each R (zip2 f xs ys)

@@ -134,7 +134,7 @@ fn has_arguments(rt: &impl Env) -> bool {
     }
 }
 
-// The three counts, and how many arguments are left.
+// The three counts.
 #[derive(Clone, Copy)]
 struct Tally {
     accepted: u64,

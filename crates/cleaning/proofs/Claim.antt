@@ -87,7 +87,8 @@ claim K served cs ds = record {
   left = write-cleaned K served cs;
   right = write-cleaned K served ds;
   same = λ l w v m n.
-      let e : w ≡ v = write-cleaned K served cs w m ∙ ap all_of (cleaned-alike K served (archive_in K (history K fresh cs)) (archive_in K (history K fresh ds)) l) ∙ sym (write-cleaned K served ds v n) in
+      let e : w ≡ v = write-cleaned K served cs w m ∙ ap all_of (cleaned-alike K served (archive_in K (history K fresh cs)) (archive_in K (history K fresh ds)) l)
+      ∙ sym (write-cleaned K served ds v n) in
       (ap (λ x. x.length) e, ap (λ x. x.bytes) e);
 }
 

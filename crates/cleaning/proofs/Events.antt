@@ -19,7 +19,7 @@ use Rattle.archive.specs.File.{Row}
 use Rattle.cleaning.specs.Source.{Source, end_of}
 use Rattle.cleaning.specs.Archive.{Taken, Event, events_from, start_of, archive_of, blank, at, parents_of}
 use Rattle.cleaning.specs.Routes.{AllBelow, Valid}
-use Rattle.lists.proofs.From.{EachFrom, from-eq, from-append, from-get_d}
+use Rattle.lists.proofs.From.{EachFrom, from-eq, from-append, from-get_or}
 use Rattle.cleaning.proofs.Sides.{SlotBelow}
 use Rattle.cleaning.proofs.Taken.{Sound, Followed}
 
@@ -59,9 +59,9 @@ module _ (K : ℕ) (served : Served K) (t : Taken) (P : ℕ → Event → Type 0
 abbrev pub ParentsBelow : ℕ → Event → Type 0
 ParentsBelow n e = (k : ℕ) → AllBelow n (parents_of k e)
 
-get_d-below : (K first slot : ℕ) (lists : List (List ℕ)) (i : ℕ) → EachFrom (SlotBelow K first) slot lists → AllBelow (event_of K first (slot + i)) (get_or lists i [])
-get_d-below K first slot lists i h = elim (tested (ltb i (length lists))) [
-  | inl e ↦ from-get_d (SlotBelow K first) slot lists i [] h (ltb-true i (length lists) e)
+get_or-below : (K first slot : ℕ) (lists : List (List ℕ)) (i : ℕ) → EachFrom (SlotBelow K first) slot lists → AllBelow (event_of K first (slot + i)) (get_or lists i [])
+get_or-below K first slot lists i h = elim (tested (ltb i (length lists))) [
+  | inl e ↦ from-get_or (SlotBelow K first) slot lists i [] h (ltb-true i (length lists) e)
   | inr e ↦ rw (get_or-eq_default lists [] {n = i} (ltb-false i (length lists) e)) tt
 ]
 
@@ -71,7 +71,7 @@ part-below K served first i k lists h = elim (tested (ltb k K)) [
   | inl e ↦ let l = ltb-true k K e in
       rw (get_or-take K (drop (K * i) lists) k [] l, get_or-drop (K * i) lists k [])
       (subst (λ n. AllBelow n (get_or lists (K * i + k) [])) {x = event_of K first (0 + (K * i + k))} {y = first + i} (rw (zero-add (K * i + k), slot_row K i k l))
-      (get_d-below K first 0 lists (K * i + k) h))
+      (get_or-below K first 0 lists (K * i + k) h))
   | inr e ↦ let l = ltb-false k K e in rw (get_or-eq_default (take K (drop (K * i) lists)) [] {n = k} (simp length-take (omega arith))) tt
 ]
 
@@ -92,7 +92,7 @@ pub valid-sources : (K : ℕ) (served : Served K) (ss : List Source) → Followe
 unfolding Valid archive_of at parents_of
 valid-sources K served ss f k p l = elim (tested (ltb i (length es))) [
   | inl e ↦ subst (λ n. AllBelow n (parents_of k (get_or es i blank))) {x = start_of ss + i} {y = p} (omega arith)
-      (from-get_d ParentsBelow (start_of ss) es i blank (from-sources K served t ParentsBelow ss f (each_below K served t none ss f)) (ltb-true i (length es) e) k)
+      (from-get_or ParentsBelow (start_of ss) es i blank (from-sources K served t ParentsBelow ss f (each_below K served t none ss f)) (ltb-true i (length es) e) k)
   | inr e ↦ rw (get_or-eq_default es blank {n = i} (ltb-false i (length es) e)) tt
 ]
   where

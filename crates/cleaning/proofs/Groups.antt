@@ -36,24 +36,24 @@ module _ (h : Group) where
   length-join-end [] = refl
   length-join-end (g ∷ gs) = ap suc (length-join-end gs)
 
-  get_d-join-in : (n : ℕ) (gs : List Group) → n < length gs → get_or (join_at n gs h) n no_group ≡ join_group (get_or gs n no_group) h
+  get_or-join-in : (n : ℕ) (gs : List Group) → n < length gs → get_or (join_at n gs h) n no_group ≡ join_group (get_or gs n no_group) h
   unfolding join_at
-  get_d-join-in n [] l = absurd (not-suc-le-zero l)
-  get_d-join-in zero (g ∷ gs) l = refl
-  get_d-join-in (suc n) (g ∷ gs) l = get_d-join-in n gs (le_of_suc-le-suc l)
+  get_or-join-in n [] l = absurd (not-suc-le-zero l)
+  get_or-join-in zero (g ∷ gs) l = refl
+  get_or-join-in (suc n) (g ∷ gs) l = get_or-join-in n gs (le_of_suc-le-suc l)
 
-  get_d-join-end : (gs : List Group) → get_or (join_at (length gs) gs h) (length gs) no_group ≡ h
+  get_or-join-end : (gs : List Group) → get_or (join_at (length gs) gs h) (length gs) no_group ≡ h
   unfolding join_at
-  get_d-join-end [] = refl
-  get_d-join-end (g ∷ gs) = get_d-join-end gs
+  get_or-join-end [] = refl
+  get_or-join-end (g ∷ gs) = get_or-join-end gs
 
-  get_d-join-other : (n m : ℕ) (gs : List Group) → (m ≡ n → ⊥) → m < length gs → get_or (join_at n gs h) m no_group ≡ get_or gs m no_group
+  get_or-join-other : (n m : ℕ) (gs : List Group) → (m ≡ n → ⊥) → m < length gs → get_or (join_at n gs h) m no_group ≡ get_or gs m no_group
   unfolding join_at
-  get_d-join-other n m [] d l = absurd (not-suc-le-zero l)
-  get_d-join-other zero zero (g ∷ gs) d l = absurd (d refl)
-  get_d-join-other zero (suc m) (g ∷ gs) d l = refl
-  get_d-join-other (suc n) zero (g ∷ gs) d l = refl
-  get_d-join-other (suc n) (suc m) (g ∷ gs) d l = get_d-join-other n m gs (λ e. d (ap suc e)) (le_of_suc-le-suc l)
+  get_or-join-other n m [] d l = absurd (not-suc-le-zero l)
+  get_or-join-other zero zero (g ∷ gs) d l = absurd (d refl)
+  get_or-join-other zero (suc m) (g ∷ gs) d l = refl
+  get_or-join-other (suc n) zero (g ∷ gs) d l = refl
+  get_or-join-other (suc n) (suc m) (g ∷ gs) d l = get_or-join-other n m gs (λ e. d (ap suc e)) (le_of_suc-le-suc l)
 
 -- ── a source's group ─────────────────────────────────────────────────────────────────────────
 
@@ -103,9 +103,9 @@ module _ (gs : List Group) (s : Source) (n : Next gs s) where
   unfolding add_source
   grown = elim old-or-new [
     | inl l ↦ let k = length-join-in (group_of s) s.group gs l in
-        (omega (arith, n.last), (omega arith, rw (get_d-join-in (group_of s) s.group gs l) (there-join (get_or gs s.group no_group).links s.cover (n.cover l))))
+        (omega (arith, n.last), (omega arith, rw (get_or-join-in (group_of s) s.group gs l) (there-join (get_or gs s.group no_group).links s.cover (n.cover l))))
     | inr e ↦ let k = length-join-end (group_of s) gs in
-        rw e (k, (omega arith, rw (get_d-join-end (group_of s) gs) (there-links s.cover)))
+        rw e (k, (omega arith, rw (get_or-join-end (group_of s) gs) (there-links s.cover)))
   ]
 
   covered-add : (q : Source) → Covered gs q → Covered (add_source gs s) q
@@ -115,7 +115,7 @@ module _ (gs : List Group) (s : Source) (n : Next gs s) where
     elim (tested (eqb q.group s.group)) [
       | inl e ↦ let g = eqb-true q.group s.group e in
           rw g (grown.1.1 ∙ sym (n.cover (omega (arith, c.0))) ∙ rw g at c.1)
-      | inr e ↦ rw (get_d-join-other (group_of s) s.group q.group gs (eqb-false q.group s.group e) c.0) c.1
+      | inr e ↦ rw (get_or-join-other (group_of s) s.group q.group gs (eqb-false q.group s.group e) c.0) c.1
     ],
   )
 

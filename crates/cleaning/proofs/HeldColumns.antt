@@ -11,9 +11,9 @@ use lib.Seq.{ext_get_or}
 use Rattle.lists.specs.Lists.{joined, part, up_from}
 use Rattle.lists.proofs.Slots.{slot-parts, row_under, kind-under}
 use Rattle.lists.proofs.Each.{each_map, each_all}
-use Rattle.lists.proofs.Flat.{length-up_from, length-map-up_from, get_d-map-up_from, get_d-up_from, flat_map}
+use Rattle.lists.proofs.Flat.{length-up_from, length-map-up_from, get_or-map-up_from, get_or-up_from, flat_map}
 use Rattle.lists.proofs.Filters.{each_below, map-places}
-use Rattle.lists.proofs.Cut.{length-blocks, get_d-blocks}
+use Rattle.lists.proofs.Cut.{length-blocks, get_or-blocks}
 use Rattle.columns.specs.Limits.{Served}
 use Rattle.run_renumber.specs.Numbers.{numbers_from, survivors}
 use Rattle.run_renumber.specs.NewLists.{new_lists}
@@ -39,7 +39,7 @@ module _ (K : ℕ) (served : Served K) (h : Held) (r : Rows K h) where
 
   pub event-held : (i : ℕ) → i < length h.erased → get_or (archive_held K h).events i blank ≡ event_at K h i
   unfolding archive_held
-  event-held i l = get_d-map-up_from (event_at K h) 0 (row_count h.sheet) i blank (omega (arith, r.tags)) ∙ ap (event_at K h) (zero-add i)
+  event-held i l = get_or-map-up_from (event_at K h) 0 (row_count h.sheet) i blank (omega (arith, r.tags)) ∙ ap (event_at K h) (zero-add i)
 
   pub events-erased : map erased_of (archive_held K h).events ≡ h.erased
   unfolding archive_held event_at
@@ -69,8 +69,8 @@ module _ (K : ℕ) (served : Served K) (n : ℕ) (ts : List (List (List ℕ))) (
   slotted-at : (i k : ℕ) → i < n → k < K → get_or (slotted n ts) (K * i + k) [] ≡ get_or (get_or ts k []) i []
   unfolding slotted row
   slotted-at i k h l =
-      get_d-blocks row K row-wide (up_from 0 n) i k 0 [] (omega (arith, length-up_from 0 n)) l
-      ∙ ap (λ j. get_or (row j) k []) (get_d-up_from 0 n i 0 h ∙ zero-add i)
+      get_or-blocks row K row-wide (up_from 0 n) i k 0 [] (omega (arith, length-up_from 0 n)) l
+      ∙ ap (λ j. get_or (row j) k []) (get_or-up_from 0 n i 0 h ∙ zero-add i)
       ∙ get_or-map (λ t. get_or t i []) ts k []
 
   -- the lists of a row
@@ -78,7 +78,7 @@ module _ (K : ℕ) (served : Served K) (n : ℕ) (ts : List (List (List ℕ))) (
   unfolding slotted row
   slotted-row i h =
       block_at row K (up_from 0 n) i 0 (each_all (λ j. length (row j) ≡ K) row-wide (up_from 0 n)) (omega (arith, length-up_from 0 n))
-      ∙ ap row (get_d-up_from 0 n i 0 h ∙ zero-add i)
+      ∙ ap row (get_or-up_from 0 n i 0 h ∙ zero-add i)
 
 -- ── its columns ──────────────────────────────────────────────────────────────────────────────
 

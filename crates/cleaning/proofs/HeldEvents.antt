@@ -12,9 +12,9 @@ use lib.ListN.{length, get_or, drop, length-drop, length-map, get_or-append, get
 use lib.Seq.{get_or-append-add, take-append-le, drop-append-le, drop-append-add}
 use borrow.Author.Tests.{ne_eqb}
 use Rattle.lists.specs.Lists.{filter, part, up_from, Each}
-use Rattle.lists.proofs.Each.{each-imp, each_map, each_all, each-get_d}
+use Rattle.lists.proofs.Each.{each-imp, each_map, each_all, each-get_or}
 use Rattle.lists.proofs.Filters.{filter_none, filter-append, each_below, map-places}
-use Rattle.lists.proofs.Flat.{map-ext, up_from-append, get_d-map-up_from}
+use Rattle.lists.proofs.Flat.{map-ext, up_from-append, get_or-map-up_from}
 use Rattle.lists.proofs.Once.{eqb-iff}
 use Rattle.lists.proofs.Tests.{tested}
 use Rattle.columns.specs.Limits.{Served}
@@ -73,8 +73,8 @@ module _ {A : Type 0} (xs ys : List A) where
   unfolding part
   part_right m i n e = rw (e, drop-append-add xs ys i)
 
-  get_d-right : (n i : ℕ) (d : A) → length xs ≡ n → get_or (xs ++ ys) (n + i) d ≡ get_or ys i d
-  get_d-right n i d e = ap (λ m. get_or (xs ++ ys) (m + i) d) (sym e) ∙ get_or-append-add xs ys i d
+  get_or-right : (n i : ℕ) (d : A) → length xs ≡ n → get_or (xs ++ ys) (n + i) d ≡ get_or ys i d
+  get_or-right n i d e = ap (λ m. get_or (xs ++ ys) (m + i) d) (sym e) ∙ get_or-append-add xs ys i d
 
 -- ── events ───────────────────────────────────────────────────────────────────────────────────
 
@@ -85,13 +85,13 @@ no_row = record { erased = false; tag = 0 }
 event_in : (K : ℕ) → Source → ℕ → Row → Event
 event_in K s i row = record { erased = row.erased; body = body_of s i row; parents = part (K * i) K s.forward }
 
-get_d-events : (K : ℕ) (t : Taken) (s : Source) (i : ℕ) (rows : List Row) (j : ℕ) → j < length rows → get_or (events_from K t s i rows) j blank ≡ event_in K s (i + j) (get_or rows j no_row)
+get_or-events : (K : ℕ) (t : Taken) (s : Source) (i : ℕ) (rows : List Row) (j : ℕ) → j < length rows → get_or (events_from K t s i rows) j blank ≡ event_in K s (i + j) (get_or rows j no_row)
 unfolding events_from is_erased event_in
-get_d-events K t s i [] j l = absurd (not-suc-le-zero l)
-get_d-events K t s i (row ∷ rows) zero l = rw (add-zero i)
-get_d-events K t s i (row ∷ rows) (suc j) l =
+get_or-events K t s i [] j l = absurd (not-suc-le-zero l)
+get_or-events K t s i (row ∷ rows) zero l = rw (add-zero i)
+get_or-events K t s i (row ∷ rows) (suc j) l =
     let e : suc i + j ≡ i + suc j = omega arith in
-    get_d-events K t s (suc i) rows j (le_of_suc-le-suc l) ∙ ap (λ m. event_in K s m (get_or rows j no_row)) e
+    get_or-events K t s (suc i) rows j (le_of_suc-le-suc l) ∙ ap (λ m. event_in K s m (get_or rows j no_row)) e
 
 module _ (K : ℕ) (served : Served K) (h : Held) (s : Source) (q : Ready K h s) (d : Sound K s) where
   -- the rows that are held, and where the source's rows stand
@@ -137,16 +137,16 @@ module _ (K : ℕ) (served : Served K) (h : Held) (s : Source) (q : Ready K h s)
 
   group-new : (i : ℕ) → i < length s.rows → get_or (h.sheet.row_groups ++ map (λ r. s.group) s.rows) (n + i) 0 ≡ s.group
   group-new i l =
-      get_d-right h.sheet.row_groups (map (λ r. s.group) s.rows) n i 0 q.rows.groups
-      ∙ each-get_d (λ g. g ≡ s.group) (map (λ r. s.group) s.rows) i 0
+      get_or-right h.sheet.row_groups (map (λ r. s.group) s.rows) n i 0 q.rows.groups
+      ∙ each-get_or (λ g. g ≡ s.group) (map (λ r. s.group) s.rows) i 0
       (each_map (λ g. g ≡ s.group) (λ r. s.group) s.rows (each_all (λ r. s.group ≡ s.group) (λ r. refl) s.rows))
       (omega (arith, length-map s.rows (λ r. s.group)))
 
   label-new : (i : ℕ) → i < length s.rows
       → get_or (h.sheet.labels ++ map (label_in s.cover) (up_from 0 (length s.rows))) (n + i) none ≡ label_in s.cover i
   label-new i l =
-      get_d-right h.sheet.labels (map (label_in s.cover) (up_from 0 (length s.rows))) n i none q.rows.labels
-      ∙ get_d-map-up_from (label_in s.cover) 0 (length s.rows) i none l ∙ ap (label_in s.cover) (zero-add i)
+      get_or-right h.sheet.labels (map (label_in s.cover) (up_from 0 (length s.rows))) n i none q.rows.labels
+      ∙ get_or-map-up_from (label_in s.cover) 0 (length s.rows) i none l ∙ ap (label_in s.cover) (zero-add i)
 
   root-new : (i : ℕ) → root_in (h.sheet.roots ++ roots) (n + i) ≡ root_in s.roots i
   root-new i =
@@ -164,10 +164,10 @@ module _ (K : ℕ) (served : Served K) (h : Held) (s : Source) (q : Ready K h s)
   event-new : (i : ℕ) → i < length s.rows → event_at K (held_with h s) (n + i) ≡ event_in K s i (get_or s.rows i no_row)
   unfolding event_at held_with sheet_with body_at parents_at event_in body_of
   event-new i l = λ j. record {
-    erased = (get_d-right h.erased (map (λ r. r.erased) s.rows) n i false refl ∙ get_or-map (λ r. r.erased) s.rows i no_row) j;
+    erased = (get_or-right h.erased (map (λ r. r.erased) s.rows) n i false refl ∙ get_or-map (λ r. r.erased) s.rows i no_row) j;
     body = record {
       group = group-new i l j;
-      tag = (get_d-right h.sheet.tags (map (λ r. r.tag) s.rows) n i 0 q.rows.tags ∙ get_or-map (λ r. r.tag) s.rows i no_row) j;
+      tag = (get_or-right h.sheet.tags (map (λ r. r.tag) s.rows) n i 0 q.rows.tags ∙ get_or-map (λ r. r.tag) s.rows i no_row) j;
       label = label-new i l j;
       root = root-new i j;
       unresolved = references-new i j;
@@ -189,6 +189,6 @@ module _ (K : ℕ) (served : Served K) (h : Held) (s : Source) (q : Ready K h s)
       (each_below (λ i. event_at K (held_with h s) i ≡ event_at K h i) n event-stays) in
       let new : map (event_at K (held_with h s)) (up_from n (length (events_in K t s))) ≡ events_in K t s = map-places (event_at K (held_with h s)) n (events_in K t s) blank
       (λ i l. let k : i < m = omega (arith, length-events_in K t s) in
-      event-new i k ∙ sym (get_d-events K t s 0 s.rows i k ∙ ap (λ j. event_in K s j (get_or s.rows i no_row)) (zero-add i))) in
+      event-new i k ∙ sym (get_or-events K t s 0 s.rows i k ∙ ap (λ j. event_in K s j (get_or s.rows i no_row)) (zero-add i))) in
       rw (rows_more, q.rows.tags, up_from-append 0 n m, zero-add n, map-append (event_at K (held_with h s)) (up_from 0 n) (up_from n m), old)
       (ap (λ es. map (event_at K h) (up_from 0 n) ++ es) (ap (λ k. map (event_at K (held_with h s)) (up_from n k)) (sym (length-events_in K t s)) ∙ new))

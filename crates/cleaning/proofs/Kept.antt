@@ -13,8 +13,8 @@ use Rattle.columns.specs.Limits.{Served}
 use Rattle.lists.specs.Lists.{any, filter, sum, up_from, Each}
 use Rattle.lists.specs.Order.{level_above, not_falling}
 use Rattle.lists.proofs.Tests.{tested, both, all-each}
-use Rattle.lists.proofs.Each.{each-imp, each_map, each-get_d}
-use Rattle.lists.proofs.Flat.{map-ext, length-up_from, get_d-up_from}
+use Rattle.lists.proofs.Each.{each-imp, each_map, each-get_or}
+use Rattle.lists.proofs.Flat.{map-ext, length-up_from, get_or-up_from}
 use Rattle.cleaning.specs.Archive.{Body, Event, Archive, blank, at}
 use Rattle.cleaning.specs.Cleaning.{survivors_from, survivors}
 use Rattle.cleaning.specs.Summary.{kept_by, summary}
@@ -22,7 +22,7 @@ use Rattle.cleaning.specs.Resolving.{survives_in, groups_survive}
 use Rattle.lists.proofs.Filters.{each-filter}
 use Rattle.lists.proofs.Sums.{sum-map, sum-filter}
 use Rattle.lists.proofs.Rising.{level-lower}
-use Rattle.cleaning.proofs.Survivors.{Survives, get_d_past, survive-from}
+use Rattle.cleaning.proofs.Survivors.{Survives, get_or-past, survive-from}
 
 -- the events that are not erased
 unfoldable pub kept_events : List Event → List Event
@@ -34,7 +34,7 @@ kept_from n [] = refl
 kept_from n (e ∷ es) =
     go e.erased
     (map-ext f (λ p. get_or es (p - suc n) blank) ps
-    (each-imp (Survives (suc n) es) (λ p. f p ≡ get_or es (p - suc n) blank) ps (λ p s. get_d_past n e es p s.0.0) (survive-from (suc n) es))
+    (each-imp (Survives (suc n) es) (λ p. f p ≡ get_or es (p - suc n) blank) ps (λ p s. get_or-past n e es p s.0.0) (survive-from (suc n) es))
     ∙ kept_from (suc n) es)
   where
     f : ℕ → Event
@@ -121,6 +121,6 @@ pub group-has-row : (K : ℕ) (served : Served K) (A : Archive) → groups_survi
 unfolding groups_survive
 group-has-row K served A h g l =
     let n = length A.groups in
-    let t = each-get_d (λ g. any (survives_in g) A.events ≡ true) (up_from 0 n) g 0
+    let t = each-get_or (λ g. any (survives_in g) A.events ≡ true) (up_from 0 n) g 0
     (all-each (λ g. any (survives_in g) A.events) (up_from 0 n) h) (rw (length-up_from 0 n) l) in
-    rw (map_rows K served A (λ b. b.group)) (survivor-kept g A.events (rw (get_d-up_from 0 n g 0 l, zero-add g) at t))
+    rw (map_rows K served A (λ b. b.group)) (survivor-kept g A.events (rw (get_or-up_from 0 n g 0 l, zero-add g) at t))

@@ -9,7 +9,7 @@ use lib.ListN.{length, get_or}
 use Rattle.lists.specs.Lists.{once, distinct, Each}
 use Rattle.lists.proofs.Each.{each-imp, each_map}
 use Rattle.lists.proofs.Once.{each-once, once-map, distinct-once}
-use Rattle.lists.proofs.Flat.{get_d-map-up_from}
+use Rattle.lists.proofs.Flat.{get_or-map-up_from}
 use Rattle.columns.specs.Limits.{Served}
 use Rattle.cleaning.specs.Archive.{Archive}
 use Rattle.cleaning.specs.Routes.{ends, Valid}
@@ -17,7 +17,7 @@ use Rattle.cleaning.specs.Cleaning.{renumber, new_parents}
 use Rattle.cleaning.specs.Memo.{memo, tables}
 use Rattle.cleaning.proofs.Ends.{Stop, ends-stop}
 use Rattle.cleaning.proofs.Inj.{renumber-lt, renumber-inj}
-use Rattle.cleaning.proofs.Table.{get_d-lists, memo-right}
+use Rattle.cleaning.proofs.Table.{get_or-lists, memo-right}
 
 module _ (K : ℕ) (served : Served K) (A : Archive) (k : ℕ) (v : Valid A) (p : ℕ) (l : A.start ≤ p) (h : p < A.start + length A.events) where
   ends-within : Each (Stop A (A.start + length A.events)) (ends A k p)
@@ -29,11 +29,11 @@ module _ (K : ℕ) (served : Served K) (A : Archive) (k : ℕ) (v : Valid A) (p 
   new-once = sym (once-map (Stop A (A.start + length A.events)) (renumber A) (renumber-inj A) (ends A k p) ends-within)
 
   pub memo-new : get_or (memo A k (length A.events)) (p - A.start) [] ≡ new_parents A k p
-  memo-new = rw (memo-right A k v (length A.events), new-once) (get_d-lists A k (length A.events) p l h)
+  memo-new = rw (memo-right A k v (length A.events), new-once) (get_or-lists A k (length A.events) p l h)
 
   pub tables-new : k < K → get_or (get_or (tables K A) k []) (p - A.start) [] ≡ new_parents A k p
   unfolding tables
-  tables-new b = rw (get_d-map-up_from (λ j. memo A j (length A.events)) 0 K k [] b, zero-add k) memo-new
+  tables-new b = rw (get_or-map-up_from (λ j. memo A j (length A.events)) 0 K k [] b, zero-add k) memo-new
 
   pub new-distinct : distinct (new_parents A k p) ≡ true
   new-distinct = rw new-once (distinct-once (map (renumber A) (ends A k p)))

@@ -13,7 +13,7 @@ use lib.ListN.{length, get_or, length-map, get_or-map}
 use borrow.Author.Tests.{ltb-false}
 use Rattle.lists.specs.Lists.{flat, all, sum, once, is_empty, last, Each}
 use Rattle.lists.proofs.Each.{each_append, each-imp, each-mem}
-use Rattle.lists.proofs.Flat.{get_d-map-up_from, get_d-up_from}
+use Rattle.lists.proofs.Flat.{get_or-map-up_from, get_or-up_from}
 use Rattle.columns.specs.Limits.{Served, max_numbers}
 use Rattle.columns.specs.Refusal.{unless, refuse}
 use Rattle.columns.specs.Building.{deltas_fit, granule_start, forward_part, reverse_part, inbound_part, build_rules}
@@ -105,10 +105,10 @@ stands x (y ∷ ys) m = go (Memᴰ.cases_cons m) (λ n. stands x ys n)
     go (inl e) f = record { place = 0; inside = omega arith; there = sym e }
     go (inr n) f = record { place = suc (f n).place; inside = omega (arith, (f n).inside); there = (f n).there }
 
-get_d-inside : {A B : Type 0} (f : A → B) (xs : List A) (i : ℕ) (a : A) (b : B) → i < length xs → get_or (map f xs) i b ≡ f (get_or xs i a)
-get_d-inside f [] i a b h = absurd (omega arith)
-get_d-inside f (x ∷ xs) zero a b h = refl
-get_d-inside f (x ∷ xs) (suc i) a b h = get_d-inside f xs i a b (omega arith)
+get_or-inside : {A B : Type 0} (f : A → B) (xs : List A) (i : ℕ) (a : A) (b : B) → i < length xs → get_or (map f xs) i b ≡ f (get_or xs i a)
+get_or-inside f [] i a b h = absurd (omega arith)
+get_or-inside f (x ∷ xs) zero a b h = refl
+get_or-inside f (x ∷ xs) (suc i) a b h = get_or-inside f xs i a b (omega arith)
 
 module _ (K : ℕ) (served : Served K) (A : Archive) (p : ℕ) (m : Memᴰ p (survivors A)) where
   s : Stands p (survivors A)
@@ -118,7 +118,7 @@ module _ (K : ℕ) (served : Served K) (A : Archive) (p : ℕ) (m : Memᴰ p (su
   its-rank =
       ap (rank A) (sym s.there) ∙ sym (get_or-map (rank A) (survivors A) s.place 0)
       ∙ ap (λ xs. get_or xs s.place (rank A 0)) (map-rank-survivors A)
-      ∙ get_d-up_from 0 (length (survivors A)) s.place (rank A 0) s.inside ∙ zero-add s.place
+      ∙ get_or-up_from 0 (length (survivors A)) s.place (rank A 0) s.inside ∙ zero-add s.place
 
   past-start : A.start ≤ p
   past-start = (each-mem _ (survivors A) p (within A) m).0
@@ -129,13 +129,13 @@ module _ (K : ℕ) (served : Served K) (A : Archive) (p : ℕ) (m : Memᴰ p (su
   its-row =
       let e : renumber A p - A.start ≡ s.place = omega (arith, renumber-past A p past-start, its-rank) in
       ap (λ i. get_or (map (kept_by K A) (survivors A)) i blank_row) e
-      ∙ get_d-inside (kept_by K A) (survivors A) s.place 0 blank_row s.inside ∙ ap (kept_by K A) s.there
+      ∙ get_or-inside (kept_by K A) (survivors A) s.place 0 blank_row s.inside ∙ ap (kept_by K A) s.there
 
   -- with its new list of each kind
   its-list : (k : ℕ) → k < K → parents_of k (at (unerased (summary K A)) (renumber A p)) ≡ new_parents A k p
   unfolding parents_of kept_by
   its-list k h =
-      ap (parents_of k) (at_row (summary K A) (renumber A p) ∙ ap event_of its-row) ∙ get_d-map-up_from (λ j. new_parents A j p) 0 K k [] h ∙ ap (λ j. new_parents A j p) (zero-add k)
+      ap (parents_of k) (at_row (summary K A) (renumber A p) ∙ ap event_of its-row) ∙ get_or-map-up_from (λ j. new_parents A j p) 0 K k [] h ∙ ap (λ j. new_parents A j p) (zero-add k)
 
 module _ (K : ℕ) (served : Served K) (A : Archive) (v : Valid A) (good : Good K (summary K A)) (e : write_rules K (summary K A) ≡ none) where
   new-parents : (p k : ℕ) → Memᴰ p (survivors A) → k < K → NewParents A (archive_of_bytes K (cleaned K A)) p k

@@ -7,7 +7,7 @@ use native.Mathlib.Nat.{not-suc-le-zero, le_of_suc-le-suc, add-zero}
 use lib.ListN.{length, get_or, take, drop, take-append-drop}
 use lib.Seq.{take_at, drop_at, take-add}
 use Rattle.lists.specs.Lists.{joined, starts, part, sum}
-use Rattle.lists.proofs.Flat.{joined-append, length-joined, sum-append, get_d-starts}
+use Rattle.lists.proofs.Flat.{joined-append, length-joined, sum-append, get_or-starts}
 
 module _ {A : Type 0} where
   -- ── entries ────────────────────────────────────────────────────────────────────────────────
@@ -53,12 +53,12 @@ module _ {A : Type 0} where
 
   module _ (i n : ℕ) (ls : List (List A)) (h : i + n ≤ length ls) where
     base : get_or (starts 0 ls) i 0 ≡ sum length (take i ls)
-    base = get_d-starts 0 ls i 0 (omega arith) ∙ omega arith
+    base = get_or-starts 0 ls i 0 (omega arith) ∙ omega arith
 
     top : get_or (starts 0 ls) (i + n) 0 ≡ sum length (take i ls) + sum length (part i n ls)
     unfolding part
     top =
-        get_d-starts 0 ls (i + n) 0 h ∙ ap (λ ks. 0 + sum length ks) (take-add i n ls)
+        get_or-starts 0 ls (i + n) 0 h ∙ ap (λ ks. 0 + sum length ks) (take-add i n ls)
         ∙ ap (λ m. 0 + m) (sum-append length (take i ls) (take n (drop i ls))) ∙ omega arith
 
     pub starts-part : starts 0 (part i n ls) ≡ map (λ o. o - get_or (starts 0 ls) i 0) (part i (suc n) (starts 0 ls))

@@ -11,7 +11,7 @@ use lib.Dec.{ltb, eqb}
 use lib.ListN.{length, length-map}
 use Rattle.lists.specs.Lists.{flat, all, sum, up_from, Each}
 use Rattle.lists.proofs.Tests.{tested, both, all-each}
-use Rattle.lists.proofs.Each.{each-imp, each_map, each_both, each-get_d}
+use Rattle.lists.proofs.Each.{each-imp, each_map, each_both, each-get_or}
 use Rattle.lists.proofs.Flat.{length-starts}
 use Rattle.columns.specs.Limits.{Served, max_records, max_numbers, max_subject}
 use Rattle.columns.specs.EdgeSet.{set_of}
@@ -66,7 +66,7 @@ module _ (K : ℕ) (served : Served K) (S : Summary) (good : Good K S) (g : ℕ)
   few_rows = one-file max_records (λ f. length f.rows) (few-events K served S good)
 
   this-group : GoodGroup (group_at S g)
-  this-group = each-get_d GoodGroup S.groups g no_group good.groups l
+  this-group = each-get_or GoodGroup S.groups g no_group good.groups l
 
   -- ── sets ───────────────────────────────────────────────────────────────────────────────────
 

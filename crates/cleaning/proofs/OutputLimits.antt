@@ -9,7 +9,7 @@ use lib.Dec.{ltb, leb}
 use lib.ListN.{length, length-map}
 use Rattle.lists.specs.Lists.{joined, sum, once}
 use Rattle.lists.proofs.Tests.{both}
-use Rattle.lists.proofs.Each.{each-get_d}
+use Rattle.lists.proofs.Each.{each-get_or}
 use Rattle.lists.proofs.Flat.{length-flat, length-joined, length-up_from}
 use Rattle.columns.specs.Limits.{Served, max_records, max_groups, max_numbers}
 use Rattle.columns.specs.Building.{in_file}
@@ -58,7 +58,7 @@ module _ (K : ℕ) (served : Served K) (S : Summary) (good : Good K S) where
       omega (
         arith,
         files-sum K served S good (λ f. stored_link_count f.cover) (λ g. link_number (group_at S g).links)
-            (λ g l. omega (arith, cover-links (group_at S g).links (rows_in S g) (each-get_d GoodGroup S.groups g no_group good.groups l).2)),
+            (λ g l. omega (arith, cover-links (group_at S g).links (rows_in S g) (each-get_or GoodGroup S.groups g no_group good.groups l).2)),
         groups-sum K served S good (λ g. link_number g.links),
         good.links,
       )

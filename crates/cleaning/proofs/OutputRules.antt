@@ -10,7 +10,7 @@ use lib.Dec.{ltb, eqb}
 use lib.ListN.{length, length-map}
 use Rattle.lists.specs.Lists.{flat, all, same, up_from, Each}
 use Rattle.lists.proofs.Tests.{all-of}
-use Rattle.lists.proofs.Each.{each-imp, each_append, each-get_d}
+use Rattle.lists.proofs.Each.{each-imp, each_append, each-get_or}
 use Rattle.columns.specs.Limits.{Served, end64, reference_kinds}
 use Rattle.columns.specs.Building.{numbers_ok, in_file, Built}
 use Rattle.columns.specs.declared.refusal.Refusal.TheVariants.{SubjectLength, NumberRange, DepthOrder, RootOutside, GroupOrder, SourceOrder, CoverInSome, CoverForm}
@@ -83,7 +83,7 @@ module _ (K : ℕ) (served : Served K) (S : Summary) (good : Good K S) where
 
   module _ (g : ℕ) (l : g < length S.groups) where
     this-group : GoodGroup (group_at S g)
-    this-group = each-get_d GoodGroup S.groups g _ good.groups l
+    this-group = each-get_or GoodGroup S.groups g _ good.groups l
 
     records-pass : (f : File) → f.first ≡ first_of S g → file_end f ≡ end_of S g → Each (λ u. unresolved_rules f u ≡ none) (flat unresolved_of (rows_in S g))
     records-pass f a b =

@@ -9,7 +9,7 @@ use native.Mathlib.Nat.{add-zero, zero-add, mul-zero}
 use lib.ListN.{length, length-append}
 use lib.Seq.{append_snoc, take_all}
 use Rattle.lists.specs.Lists.{flat, part, Each}
-use Rattle.lists.proofs.Each.{each-imp, each_map, each-flat, each-get_d}
+use Rattle.lists.proofs.Each.{each-imp, each_map, each-flat, each-get_or}
 use Rattle.columns.specs.Limits.{Served, reference_kinds}
 use Rattle.columns.specs.Reading.{Label}
 use Rattle.columns.specs.Building.{built_of, forward_part}
@@ -75,7 +75,7 @@ module _ (K : ℕ) (served : Served K) (S : Summary) (good : Good K S) (g : ℕ)
     rows = refl;
     unresolved = refl;
     roots = refl;
-    cover = cover-back (group_at S g).links (rows_in S g) (each-get_d _ S.groups g _ good.groups l).2;
+    cover = cover-back (group_at S g).links (rows_in S g) (each-get_or _ S.groups g _ good.groups l).2;
   }
 
   -- the unresolved records of a group's rows: children in the group's numbers, kinds and handles in their bounds

@@ -12,7 +12,7 @@ use lib.Seq.{get_or-take, get_or-drop}
 use borrow.Author.Tests.{le-ltb, leb-false, eq-eqb, ne_eqb, eqb-true}
 use Rattle.lists.specs.Lists.{flat, mem, distinct, part, up_from, Each}
 use Rattle.lists.proofs.Tests.{not-both}
-use Rattle.lists.proofs.Each.{each-imp, each_map, each-get_d}
+use Rattle.lists.proofs.Each.{each-imp, each_map, each-get_or}
 use Rattle.lists.proofs.Pairs.{each-up_from}
 use Rattle.lists.proofs.Flat.{flat_map}
 use Rattle.lists.proofs.From.{EachFrom, from-eq}
@@ -133,7 +133,7 @@ module _ (K : ℕ) (served : Served K) (s : Sheet) (t : Tidy K s) where
         let i = n - s.start in
         let q : s.start + i ≡ n = omega arith in
         let g = row-good i (omega arith) in
-        rw q at (rw (row_list i k l) at (each-get_d (λ ps. Each (λ p. p < s.start + i) ps) (parents_at K s i) k [] g.below (omega (arith, g.each_kind))))
+        rw q at (rw (row_list i k l) at (each-get_or (λ ps. Each (λ p. p < s.start + i) ps) (parents_at K s i) k [] g.below (omega (arith, g.each_kind))))
 
     -- ── a group's ──────────────────────────────────────────────────────────────────────────────
 

@@ -11,8 +11,8 @@ use lib.ListN.{length, get_or, take, drop}
 use borrow.Author.Tests.{eqb-true}
 use Rattle.lists.specs.Lists.{flat, joined, starts, filter, part, up_from}
 use Rattle.lists.specs.Order.{not_falling}
-use Rattle.lists.proofs.Each.{each-get_d}
-use Rattle.lists.proofs.Flat.{length-up_from, length-map-up_from, get_d-up_from, flat_map}
+use Rattle.lists.proofs.Each.{each-get_or}
+use Rattle.lists.proofs.Flat.{length-up_from, length-map-up_from, get_or-up_from, flat_map}
 use Rattle.lists.proofs.Filters.{filter_passes, map-places}
 use Rattle.columns.specs.Limits.{Served}
 use Rattle.cleaning.specs.Summary.{Kept, kept}
@@ -77,9 +77,9 @@ module _ (K : ℕ) (served : Served K) (s : Sheet) (t : Tidy K s) where
     group-row i l m =
         let a = section_start s g in
         let n = section_rows s g in
-        let q = each-get_d (λ j. eqb (get_or s.row_groups j 0) g ≡ true) (up_from a n) (i - a) 0
+        let q = each-get_or (λ j. eqb (get_or s.row_groups j 0) g ≡ true) (up_from a n) (i - a) 0
         (rw places-section at (filter_passes (λ j. eqb (get_or s.row_groups j 0) g) (up_from 0 (row_count s)))) (omega (arith, length-up_from a n, section-end)) in
-        let e : get_or (up_from a n) (i - a) 0 ≡ i = get_d-up_from a n (i - a) 0 (omega (arith, section-end)) ∙ omega arith in
+        let e : get_or (up_from a n) (i - a) 0 ≡ i = get_or-up_from a n (i - a) 0 (omega (arith, section-end)) ∙ omega arith in
         eqb-true (get_or s.row_groups i 0) g (rw e at q)
 
     -- the rows of a group

@@ -12,7 +12,7 @@ use lib.Seq.{take-suc, take-length, take_at, drop-append-add, get_or-take, get_o
 use borrow.Author.Tests.{ltb-false}
 use Rattle.lists.specs.Lists.{flat, joined, part, up_from, any, filter, sum, add, Each}
 use Rattle.lists.proofs.Each.{each-imp, each_all}
-use Rattle.lists.proofs.Flat.{length-map-up_from, get_d-map-up_from, map-up_from-snoc, up_from-append, up_from-snoc, sum-append, length-joined}
+use Rattle.lists.proofs.Flat.{length-map-up_from, get_or-map-up_from, map-up_from-snoc, up_from-append, up_from-snoc, sum-append, length-joined}
 use Rattle.columns.specs.Limits.{Served}
 use Rattle.run_renumber.specs.Numbers.{takes, numbers_from, survivors}
 use Rattle.run_renumber.specs.NewLists.{new_list, new_lists_from, new_lists}
@@ -186,7 +186,7 @@ module _ (K : ℕ) (served : Served K) (A : Archive) (flags : List ℕ) (slots :
     memo-length k n = ap length (memo-right A k v n) ∙ length-map-up_from (list_of A k) 0 n
 
     memo-list : (k n j : ℕ) → j < n → get_or (memo A k n) j [] ≡ list_of A k j
-    memo-list k n j h = ap (λ (ls : List (List ℕ)). get_or ls j []) (memo-right A k v n) ∙ get_d-map-up_from (list_of A k) 0 n j [] h ∙ ap (list_of A k) (zero-add j)
+    memo-list k n j h = ap (λ (ls : List (List ℕ)). get_or ls j []) (memo-right A k v n) ∙ get_or-map-up_from (list_of A k) 0 n j [] h ∙ ap (list_of A k) (zero-add j)
 
     -- an event's new list, from the lists before it
     memo-next : (k i : ℕ) → foldl (add_parent A (memo A k i)) [] (parents_of k (at A (A.start + i))) ≡ list_of A k i
@@ -207,7 +207,7 @@ module _ (K : ℕ) (served : Served K) (A : Archive) (flags : List ℕ) (slots :
             ≡ cond (at A p).erased (foldl add acc (get_or (memo A k i) (p - A.start) [])) (add acc (renumber A p))
         past o =
             let place : get_or (map (slot_list K A) (up_from 0 s)) (K * (p - A.start) + k) [] ≡ list_of A k (p - A.start) =
-            get_d-map-up_from (slot_list K A) 0 s (K * (p - A.start) + k) [] (let under : p - A.start < i = omega arith in omega (arith, mul-le-mul_left K under))
+            get_or-map-up_from (slot_list K A) 0 s (K * (p - A.start) + k) [] (let under : p - A.start < i = omega arith in omega (arith, mul-le-mul_left K under))
             ∙ ap (slot_list K A) (zero-add (K * (p - A.start) + k)) ∙ slot-list K served A (p - A.start) k l in
             rw (numbers-new p o (omega arith), place, memo-list k i (p - A.start) (omega arith), erased-says p)
             (either (eqb (get_or flags (p - A.start) 0) 0) (add acc (renumber A p)) (foldl add acc (list_of A k (p - A.start))))
@@ -262,8 +262,8 @@ module _ (K : ℕ) (served : Served K) (A : Archive) (flags : List ℕ) (slots :
     pub slot-new : (i k : ℕ) → i < length A.events → k < K → get_or (new_lists K A.start flags slots) (K * i + k) [] ≡ get_or (get_or (tables K A) k []) i []
     unfolding tables
     slot-new i k h l =
-        rw (new-lists, get_d-map-up_from (λ j. memo A j (length A.events)) 0 K k [] l, zero-add k, memo-list k (length A.events) i h)
-        (get_d-map-up_from (slot_list K A) 0 (K * length A.events) (K * i + k) [] (slot-under K (length A.events) i k h l)
+        rw (new-lists, get_or-map-up_from (λ j. memo A j (length A.events)) 0 K k [] l, zero-add k, memo-list k (length A.events) i h)
+        (get_or-map-up_from (slot_list K A) 0 (K * length A.events) (K * i + k) [] (slot-under K (length A.events) i k h l)
         ∙ ap (slot_list K A) (zero-add (K * i + k)) ∙ slot-list K served A i k l)
 
     -- the entries of all new lists (43)

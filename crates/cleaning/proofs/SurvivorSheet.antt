@@ -13,7 +13,7 @@ use borrow.Author.Tests.{eqb-true, eqb-false}
 use Rattle.lists.specs.Lists.{flat, filter, part, up_from}
 use Rattle.lists.proofs.Tests.{tested}
 use Rattle.lists.proofs.Each.{each-imp}
-use Rattle.lists.proofs.Flat.{map-ext, length-up_from, get_d-up_from}
+use Rattle.lists.proofs.Flat.{map-ext, length-up_from, get_or-up_from}
 use Rattle.lists.proofs.Filters.{each_below}
 use Rattle.columns.specs.Limits.{Served}
 use Rattle.cover.specs.Chains.{Link, sort_links}
@@ -94,7 +94,7 @@ module _ (K : ℕ) (served : Served K) (h : Held) (r : Rows K h) where
         (each_keep (λ j. length (f j) ≡ K) h.erased (up_from 0 n)
         (each_below (λ j. length (f j) ≡ K) n (λ j m. ap length (row_new j m) ∙ length-map ts (λ t. get_or t j []) ∙ w)))
         (omega (arith, length-keep h.erased (up_from 0 n) (length-up_from 0 n), rank_below h.erased i l s))
-        ∙ ap f (keep_at h.erased (up_from 0 n) i 0 (length-up_from 0 n) l s ∙ get_d-up_from 0 n i 0 l ∙ zero-add i)
+        ∙ ap f (keep_at h.erased (up_from 0 n) i 0 (length-up_from 0 n) l s ∙ get_or-up_from 0 n i 0 l ∙ zero-add i)
         ∙ row_new i l)
 
     -- what follows a survivor stands at its rank

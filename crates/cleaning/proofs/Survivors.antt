@@ -24,8 +24,8 @@ abbrev pub Survives : ℕ → List Event → ℕ → Type 0
 Survives n es p = Within n es p × ((get_or es (p - n) blank).erased ≡ false)
 
 -- the event of a number past the first is among the others
-pub get_d_past : (n : ℕ) (e : Event) (es : List Event) (p : ℕ) → suc n ≤ p → get_or (e ∷ es) (p - n) blank ≡ get_or es (p - suc n) blank
-get_d_past n e es p h = ap (λ i. get_or (e ∷ es) i blank) {x = p - n} {y = suc (p - suc n)} (omega arith)
+pub get_or-past : (n : ℕ) (e : Event) (es : List Event) (p : ℕ) → suc n ≤ p → get_or (e ∷ es) (p - n) blank ≡ get_or es (p - suc n) blank
+get_or-past n e es p h = ap (λ i. get_or (e ∷ es) i blank) {x = p - n} {y = suc (p - suc n)} (omega arith)
 
 pub survive-from : (n : ℕ) (es : List Event) → Each (Survives n es) (survivors_from n es)
 unfolding survivors_from
@@ -33,7 +33,7 @@ survive-from n [] = tt
 survive-from n (e ∷ es) =
     go e.erased refl
     (each-imp (Survives (suc n) es) (Survives n (e ∷ es)) (survivors_from (suc n) es)
-    (λ p s. (omega arith, rw (get_d_past n e es p s.0.0) s.1)) (survive-from (suc n) es))
+    (λ p s. (omega arith, rw (get_or-past n e es p s.0.0) s.1)) (survive-from (suc n) es))
   where
     go : (b : Bool) → e.erased ≡ b → Each (Survives n (e ∷ es)) (survivors_from (suc n) es)
         → Each (Survives n (e ∷ es)) (cond b (survivors_from (suc n) es) (n ∷ survivors_from (suc n) es))

@@ -10,7 +10,7 @@ use lib.Dec.{ltb}
 use lib.ListN.{get_or}
 use Rattle.lists.specs.Lists.{flat, add, once, up_from}
 use Rattle.lists.proofs.Once.{fold-once}
-use Rattle.lists.proofs.Flat.{get_d-map-up_from, map-up_from-snoc}
+use Rattle.lists.proofs.Flat.{get_or-map-up_from, map-up_from-snoc}
 use Rattle.cleaning.specs.Archive.{Archive, at, parents_of}
 use Rattle.cleaning.specs.Routes.{passes, ends, AllBelow, Valid}
 use Rattle.cleaning.specs.Cleaning.{rank, renumber}
@@ -25,10 +25,10 @@ list_of A k i = once (map (renumber A) (ends A k (A.start + i)))
 abbrev pub lists : Archive → ℕ → ℕ → List (List ℕ)
 lists A k n = map (list_of A k) (up_from 0 n)
 
-pub get_d-lists : (A : Archive) (k n q : ℕ) → A.start ≤ q → q < A.start + n → get_or (lists A k n) (q - A.start) [] ≡ once (map (renumber A) (ends A k q))
+pub get_or-lists : (A : Archive) (k n q : ℕ) → A.start ≤ q → q < A.start + n → get_or (lists A k n) (q - A.start) [] ≡ once (map (renumber A) (ends A k q))
 unfolding list_of
-get_d-lists A k n q l h =
-    get_d-map-up_from (list_of A k) 0 n (q - A.start) [] (omega arith) ∙ ap (λ p. once (map (renumber A) (ends A k p))) (omega arith)
+get_or-lists A k n q l h =
+    get_or-map-up_from (list_of A k) 0 n (q - A.start) [] (omega arith) ∙ ap (λ p. once (map (renumber A) (ends A k p))) (omega arith)
 
 add-parent : (A : Archive) (k n : ℕ) (acc : List ℕ) (q : ℕ) → q < A.start + n
     → add_parent A (lists A k n) acc q ≡ foldl add acc (map (renumber A) (from A k q))
@@ -38,7 +38,7 @@ add-parent A k n acc q h = go (ltb q A.start) refl
     kept : (c : Bool) → ltb q A.start ≡ false →
         cond c (foldl add acc (get_or (lists A k n) (q - A.start) [])) (add acc (A.start + rank A q))
         ≡ foldl add acc (map (renumber A) (cond c (ends A k q) (q ∷ [])))
-    kept true l = rw (get_d-lists A k n q (ltb-false q A.start l) h) (fold-once acc (map (renumber A) (ends A k q)))
+    kept true l = rw (get_or-lists A k n q (ltb-false q A.start l) h) (fold-once acc (map (renumber A) (ends A k q)))
     kept false l = rw l
 
     go : (b : Bool) → ltb q A.start ≡ b → add_parent A (lists A k n) acc q ≡ foldl add acc (map (renumber A) (from A k q))

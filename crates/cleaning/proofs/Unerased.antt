@@ -11,7 +11,7 @@ use borrow.Author.Tests.{ltb-true, ltb-false}
 use lib.Dec.{ltb}
 use lib.ListN.{length, get_or, take, get_or-map}
 use Rattle.lists.specs.Lists.{flat, once, distinct, up_from, Each}
-use Rattle.lists.proofs.Each.{each-imp, each_all, each-get_d}
+use Rattle.lists.proofs.Each.{each-imp, each_all, each-get_or}
 use Rattle.lists.proofs.Flat.{flat-ext, map-ext}
 use Rattle.lists.proofs.Once.{once-distinct}
 use Rattle.columns.specs.Limits.{Served}
@@ -118,10 +118,10 @@ module _ (K : ℕ) (served : Served K) (S : Summary) (good : Good K S) (i : ℕ)
       let inside : k < length row.parents = omega (arith, lists.each_kind) in
       let ps = get_or row.parents k [] in
       let e : ends (unerased S) k p ≡ ps = ends-parents S k p ∙ ap (parents_of k) (at_row S p ∙ ap event_of this-row) in
-      rw (e, once-distinct ps (each-get_d (λ qs. distinct qs ≡ true) row.parents k [] lists.once inside))
+      rw (e, once-distinct ps (each-get_or (λ qs. distinct qs ≡ true) row.parents k [] lists.once inside))
       (map-ext (renumber (unerased S)) (λ q. q) ps
       (each-imp (λ q. q < p) (λ q. renumber (unerased S) q ≡ q) ps (λ q b. renumber-same S q (omega arith))
-      (each-get_d (λ qs. Each (λ q. q < p) qs) row.parents k [] lists.below inside))
+      (each-get_or (λ qs. Each (λ q. q < p) qs) row.parents k [] lists.below inside))
       ∙ map-id ps)
 
   row_stays : kept_by K (unerased S) p ≡ row

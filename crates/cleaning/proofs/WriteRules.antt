@@ -10,7 +10,7 @@ use lib.ListN.{length}
 use borrow.Author.Tests.{lt-ltb, le-ltb}
 use Rattle.lists.specs.Lists.{flat, all, distinct, joined, starts, Each}
 use Rattle.lists.proofs.Tests.{both, all-each}
-use Rattle.lists.proofs.Each.{each-flat, each_map, each-imp, each_both, each-get_d}
+use Rattle.lists.proofs.Each.{each-flat, each_map, each-imp, each_both, each-get_or}
 use Rattle.lists.proofs.Pairs.{each-up_from}
 use Rattle.columns.specs.Limits.{Served, end64, reference_kinds}
 use Rattle.columns.specs.EdgeSet.{offsets_form}
@@ -64,7 +64,7 @@ module _ (K : ℕ) (served : Served K) (S : Summary) (h : Good K S) (g : ℕ) (l
   numbers_fit = omega (arith, high_is, before-within K served S h (suc g) l, h.numbers)
 
   group-good : GoodGroup (group_at S g)
-  group-good = each-get_d GoodGroup S.groups g no_group h.groups l
+  group-good = each-get_or GoodGroup S.groups g no_group h.groups l
 
   lists-good : Each (λ r. GoodLists K r.number r.row.parents) (rows_in S g)
   lists-good = each-imp (GoodRow K S g) (λ r. GoodLists K r.number r.row.parents) (rows_in S g) (λ r b. b.lists) (rows-good K served S h g)

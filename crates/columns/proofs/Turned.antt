@@ -13,8 +13,8 @@ use Rattle.lists.specs.Lists.{all, mem, distinct, up_from, Each}
 use Rattle.lists.specs.Order.{rising, not_falling, level_above, sort}
 use Rattle.lists.proofs.Tests.{tested, both, all-each}
 use Rattle.lists.proofs.Each.{each_all, each_map, each-flat}
-use Rattle.lists.proofs.Flat.{length-up_from, get_d-up_from, length-map-up_from, get_d-map-up_from}
-use Rattle.lists.proofs.Cut.{length-blocks, get_d-blocks}
+use Rattle.lists.proofs.Flat.{length-up_from, get_or-up_from, length-map-up_from, get_or-map-up_from}
+use Rattle.lists.proofs.Cut.{length-blocks, get_or-blocks}
 use Rattle.lists.proofs.Rising.{filter-rising, up_from-rising, distinct-rising, mem-filter, mem-up_from, mem-sort, sort-level}
 use Rattle.columns.specs.Questions.{list_of}
 use Rattle.columns.specs.Building.{InboundColumns, in_file, children_to, slot_table, naming, reverse_lists, inbound_lists}
@@ -36,12 +36,12 @@ module _ (K : ℕ) (f : ℕ → ℕ → List ℕ) (first rows : ℕ) where
   pub list-table : (n k : ℕ) → first ≤ n → n < first + rows → k < K → list_of K first (slot_table K f first rows) k n ≡ f n k
   unfolding list_of slot_table
   list-table n k l h j =
-      let place : get_or (up_from first rows) (n - first) 0 ≡ n = get_d-up_from first rows (n - first) 0 (omega arith) ∙ omega arith in
+      let place : get_or (up_from first rows) (n - first) 0 ≡ n = get_or-up_from first rows (n - first) 0 (omega arith) ∙ omega arith in
       rw (
         le-ltb n first l,
-        get_d-blocks (row K f) K row-wide (up_from first rows) (n - first) k 0 [] (omega (arith, length-up_from first rows)) j,
+        get_or-blocks (row K f) K row-wide (up_from first rows) (n - first) k 0 [] (omega (arith, length-up_from first rows)) j,
         place,
-        get_d-map-up_from (f n) 0 K k [] j,
+        get_or-map-up_from (f n) 0 K k [] j,
       ) (ap (f n) (omega arith))
 
   pub each-table : (P : List ℕ → Type 0) → ((n k : ℕ) → P (f n k)) → Each P (slot_table K f first rows)

@@ -83,10 +83,10 @@ part-few (suc i) zero [] = omega arith
 part-few (suc i) (suc n) [] = omega arith
 part-few (suc i) n (l ∷ ls) = omega (arith, length-append l (joined ls), part-few i n ls)
 
-get_d_map : {A B : Type 0} (f : List A → List B) (ls : List (List A)) (q : ℕ) → q < length ls → get_or (map f ls) q [] ≡ f (get_or ls q [])
-get_d_map f [] q h = absurd (omega arith)
-get_d_map f (l ∷ ls) zero h = refl
-get_d_map f (l ∷ ls) (suc q) h = get_d_map f ls q (omega arith)
+get_or_map : {A B : Type 0} (f : List A → List B) (ls : List (List A)) (q : ℕ) → q < length ls → get_or (map f ls) q [] ≡ f (get_or ls q [])
+get_or_map f [] q h = absurd (omega arith)
+get_or_map f (l ∷ ls) zero h = refl
+get_or_map f (l ∷ ls) (suc q) h = get_or_map f ls q (omega arith)
 
 -- where every delta of lists is in reach, so is every one of the lists cut down
 all_filter : {A B : Type 0} (q : B → Bool) (f : A → B) (p : A → Bool) (xs : List A) → all q (map f xs) ≡ true → all q (map f (filter p xs)) ≡ true
@@ -133,7 +133,7 @@ module _ (K low high from n : ℕ) (offsets targets : List ℕ) where
       section-left k =
           drop-cons (rows_within K low high from n offsets targets) q [] (omega (arith, section-long))
           ∙ rw (
-            get_d_map (filter (in_file low high)) (take (K * n) (drop (K * from) (cut offsets targets))) q (simp (length-take, length-drop) (omega (arith, cut-length offsets targets))),
+            get_or_map (filter (in_file low high)) (take (K * n) (drop (K * from) (cut offsets targets))) q (simp (length-take, length-drop) (omega (arith, cut-length offsets targets))),
             get_or-take (K * n) (drop (K * from) (cut offsets targets)) q [] k,
             get_or-drop (K * from) (cut offsets targets) q [],
             add-one,

@@ -34,7 +34,8 @@ use Rattle.columns_ask.proofs.Limited.{readable-reverse, readable-inbound}
 -- a host names the number of kinds, and W is that number
 module _ (W K : ℕ) (w : K ≡ W) (first rows end : ℕ) (s : EdgeSet) (kind : Kind) (slot number : ℕ) (old : List ℕ) (k : Ruling)
     (e : k ≡ ruling (lent_rules K 0 first rows end s (room (length old)))) where
-  asked : parents W first rows end s (kind_of kind) number (room (length old)) ≡ unless (lent_rules K 0 first rows end s (room (length old))) (list_of K first (slots_of K first s) (kind_of kind) number)
+  asked : parents W first rows end s (kind_of kind) number (room (length old))
+      ≡ unless (lent_rules K 0 first rows end s (room (length old))) (list_of K first (slots_of K first s) (kind_of kind) number)
   unfolding parents lent_rules
   asked = rw (← w)
 
@@ -57,7 +58,8 @@ module _ (W K : ℕ) (w : K ≡ W) (first rows end : ℕ) (s : EdgeSet) (kind : 
 -- ── children ─────────────────────────────────────────────────────────────────────────────────
 
 -- two lists one after the other
-module _ (K first : ℕ) (r i : EdgeSet) (kind number n m : ℕ) (e : n ≡ length (list_of K first (slots_of K first r) kind number)) (f : m ≡ length (list_of K first (slots_of K first i) kind number)) where
+module _ (K first : ℕ) (r i : EdgeSet) (kind number n m : ℕ) (e : n ≡ length (list_of K first (slots_of K first r) kind number))
+    (f : m ≡ length (list_of K first (slots_of K first i) kind number)) where
   both_long : length (children_of K first r i kind number) ≡ n + m
   unfolding children_of
   both_long = omega (arith, length-append (list_of K first (slots_of K first r) kind number) (list_of K first (slots_of K first i) kind number))

@@ -11,7 +11,7 @@ use lib.Seq.{sets, take_all, get_or-take}
 use borrow.Author.Tests.{ltb-false}
 use Rattle.columns.specs.Limits.{kinds}
 use Rattle.lists.specs.Lists.{joined, part}
-use Rattle.lists.proofs.Flat.{length-joined, get_d-starts}
+use Rattle.lists.proofs.Flat.{length-joined, get_or-starts}
 use Rattle.columns.specs.Refusal.{refused, accepted, unless}
 use Rattle.columns.specs.EdgeSet.{cut}
 use Rattle.columns.specs.Building.{deltas_fit, reverse_lists, inbound_lists}
@@ -114,7 +114,7 @@ module _ (first rows from n : ℕ) (offsets targets cs ps ks : List ℕ) {r : Ru
       many_is : m ≡ length (joined (inbound_lists kinds first rows (inbound_of cs ps ks)))
       many_is =
           q ∙ sym (get_or-take (2 * rows + 1) offs (2 * rows) 0 (omega arith)) ∙ ap (λ l. get_or l (2 * rows) 0) (a f).offsets
-          ∙ get_d-starts 0 (inbound_lists kinds first rows (inbound_of cs ps ks)) (2 * rows) 0 (omega (arith, length-arrived first rows (inbound_of cs ps ks)))
+          ∙ get_or-starts 0 (inbound_lists kinds first rows (inbound_of cs ps ks)) (2 * rows) 0 (omega (arith, length-arrived first rows (inbound_of cs ps ks)))
           ∙ rw (take_all (2 * rows) (inbound_lists kinds first rows (inbound_of cs ps ks)) (omega (arith, length-arrived first rows (inbound_of cs ps ks))))
           (omega (arith, length-joined (inbound_lists kinds first rows (inbound_of cs ps ks))))
 

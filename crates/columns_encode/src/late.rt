@@ -3,7 +3,7 @@
 ghost use Rattle.std.specs.Prelude.{◌≡◌, true, ◌+◌, ◌*◌, ◌≤◌, ◌<◌, length, take};
 ghost use Rattle.lists.specs.Lists.{all};
 ghost use Rattle.lists.specs.Order.{not_falling};
-ghost use Rattle.columns.specs.Limits.{kinds, kinds as runKinds, end64};
+ghost use Rattle.columns.specs.Limits.{kinds, kinds as run_kinds, end64};
 ghost use Rattle.columns.specs.EdgeSet.{offsets_form, cut};
 ghost use Rattle.columns.specs.Building.{inbound_lists};
 ghost use Rattle.columns.specs.Answers.{ruling};
@@ -72,8 +72,8 @@ fn arranged_rules(
     requires edges { Edges first rows children.now parents.now kinds.now }
     requires in_bounds { (2049 ≤ length offs.old) × ((4096 ≤ length list.old) × (4096 ≤ length w.old)) }
     ensures value { result ≡ ruling (table_rules first rows (cut offsets.now targets.now)
-        (inbound_lists runKinds first rows (inbound_of children.now parents.now kinds.now)) from n) }
-    ensures arranged { Arranged rows (inbound_lists runKinds first rows (inbound_of children.now parents.now kinds.now)) offs.new list.new }
+        (inbound_lists run_kinds first rows (inbound_of children.now parents.now kinds.now)) from n) }
+    ensures arranged { Arranged rows (inbound_lists run_kinds first rows (inbound_of children.now parents.now kinds.now)) offs.new list.new }
 {
     let m = arrange(first, rows, children, parents, kinds, offs, list, w);
     table_rules(first, rows, offsets, targets, offs, list, m, from, n)
@@ -97,7 +97,7 @@ pub(crate) fn late_rules(
     requires early { Early first rows offsets.now targets.now (length children.now) }
     requires in_bounds { (2049 ≤ length offs.old) × ((4096 ≤ length list.old) × (4096 ≤ length w.old)) }
     ensures value { result ≡ ruling (late_rules first rows (cut offsets.now targets.now) (inbound_of children.now parents.now kinds.now) from n) }
-    ensures arranged { result ≡ Kept → Arranged rows (inbound_lists runKinds first rows (inbound_of children.now parents.now kinds.now))
+    ensures arranged { result ≡ Kept → Arranged rows (inbound_lists run_kinds first rows (inbound_of children.now parents.now kinds.now))
         offs.new list.new }
 {
     let r = inbound_rules(first, rows, children, parents, kinds);

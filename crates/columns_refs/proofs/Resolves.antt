@@ -144,7 +144,8 @@ long o p c k h e =
 
 module _ (g : Referred) (os ps cs us hs : List ℕ) where
   module _ {q : Ruling} (e : q ≡ ruling (resolve_rules g (slices_of (length os) (length ps) (length cs) (length us) (length hs)))) where
-    pub nothing_written : (why : Refusal) → q ≡ Broken why → Answers (resolve_graph g (slices_of (length os) (length ps) (length cs) (length us) (length hs))) (Refused why) os ps cs us hs os ps cs us hs
+    pub nothing_written : (why : Refusal) → q ≡ Broken why → Answers (resolve_graph g (slices_of (length os) (length ps) (length cs) (length us) (length hs)))
+        (Refused why) os ps cs us hs os ps cs us hs
     unfolding resolve_graph unless resolved_of laid
     nothing_written why f =
         rw (told (resolve_rules g (slices_of (length os) (length ps) (length cs) (length us) (length hs))) e f)

@@ -10,8 +10,8 @@ use lib.Seq.{slice, sets, drop-cons, slice-cons}
 use borrow.Author.Tests.{eq-eqb, ne_eqb}
 use Rattle.lists.specs.Lists.{filter, joined, starts, up_from}
 use Rattle.lists.proofs.Filters.{filter-append}
-use Rattle.lists.proofs.Flat.{flat_append, length-map-up_from, get_d-map-up_from}
-use Rattle.lists.proofs.Cut.{length-blocks, get_d-blocks}
+use Rattle.lists.proofs.Flat.{flat_append, length-map-up_from, get_or-map-up_from}
+use Rattle.lists.proofs.Cut.{length-blocks, get_or-blocks}
 use Rattle.lists.proofs.Slices.{slice-none}
 use Rattle.lists.proofs.Storing.{Storing, stored-all, stored_next, storing-room, storing-on}
 use Rattle.columns.specs.Limits.{kinds}
@@ -126,8 +126,8 @@ module _ (rows : ℕ) (offsets : List ℕ) (xs : List Reference) (f : RowsForm r
         let k : q % 2 < 2 = omega arith in
         let e : q ≡ 2 * (q / 2) + q % 2 = omega arith in
         ap (λ j. get_or (parent_lists (cut offsets xs)) j []) e
-        ∙ get_d-blocks row_lists kinds row-wide (cut offsets xs) (q / 2) (q % 2) [] [] (omega (arith, length-rows)) k
-        ∙ get_d-map-up_from (λ kind. parents_of kind (get_or (cut offsets xs) (q / 2) [])) 0 kinds (q % 2) [] k
+        ∙ get_or-blocks row_lists kinds row-wide (cut offsets xs) (q / 2) (q % 2) [] [] (omega (arith, length-rows)) k
+        ∙ get_or-map-up_from (λ kind. parents_of kind (get_or (cut offsets xs) (q / 2) [])) 0 kinds (q % 2) [] k
         ∙ rw (slot-cut offsets xs (q / 2) from to (omega (arith, f.many)) a b) (ap (λ j. parents_of j (slice from to xs)) (omega arith))
 
     lists-left : drop q (parent_lists (cut offsets xs)) ≡ parents_of (q % 2) (slice from to xs) ∷ drop (q + 1) (parent_lists (cut offsets xs))

@@ -22,7 +22,7 @@ use Rattle.columns.specs.declared.refusal.Refusal.TheVariants.{ParentNotEarlier,
 use Rattle.columns.specs.declared.refusal.Ruling.{Ruling}
 use Rattle.columns.specs.declared.refusal.Ruling.TheVariants.{Kept, Broken}
 use Rattle.columns.proofs.Told.{told, told-kept, last-rule}
-use Rattle.columns_rules.proofs.SlotTables.{table_of, length_cut, get_d-cut}
+use Rattle.columns_rules.proofs.SlotTables.{table_of, length_cut, get_or-cut}
 
 -- ── the parents of a slot ────────────────────────────────────────────────────────────────────
 
@@ -79,7 +79,7 @@ module _ (rows : ℕ) (offsets targets : List ℕ) (ok : offsets_form kinds rows
     slot_inside = omega (arith, (table_of rows (length targets) offsets ok).bound (s + 1) (omega arith))
 
     pub slot-list : get_or (cut offsets targets) s [] ≡ slice a b targets
-    slot-list = rw (p, q) (get_d-cut (2 * rows) offsets targets (table_of rows (length targets) offsets ok).long s h)
+    slot-list = rw (p, q) (get_or-cut (2 * rows) offsets targets (table_of rows (length targets) offsets ok).long s h)
 
     pub slot-says : (event : ℕ) (f : ℕ) → event ≡ f → {r : Ruling} → r ≡ ruling (parent_rules event [] (slice a b targets)) → r ≡ ruling (parent_rules f [] (get_or (cut offsets targets) s []))
     slot-says event f d k = rw (slot-list, ← d) k

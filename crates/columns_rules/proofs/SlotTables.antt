@@ -69,6 +69,6 @@ module _ {A : Type 0} where
   pub length_cut : (slots count : ℕ) (offsets : List ℕ) (col : List A) → length offsets ≡ slots + 1 → length (cut offsets col) ≡ slots
   length_cut slots count offsets col h = rw (cut-length offsets col) (omega arith)
 
-  pub get_d-cut : (slots : ℕ) (offsets : List ℕ) (col : List A) → length offsets ≡ slots + 1 → (s : ℕ) → s < slots
+  pub get_or-cut : (slots : ℕ) (offsets : List ℕ) (col : List A) → length offsets ≡ slots + 1 → (s : ℕ) → s < slots
       → get_or (cut offsets col) s [] ≡ slice (get_or offsets s 0) (get_or offsets (s + 1) 0) col
-  get_d-cut slots offsets col h s k = cut_at offsets col s (omega arith)
+  get_or-cut slots offsets col h s k = cut_at offsets col s (omega arith)

@@ -42,7 +42,8 @@ module _ (n : ℕ) (h : n ≤ 1024) (a b c d : List ℕ) (pa : length a ≡ 1024
     encodes = simp (front_long n h a pa, front_long n h b pb, front_long n h c pc, front_long n h d pd, px, py, pz, pw, le-ltb max_records n h, eq-eqb n n refl)
 
     pub stored-fronts : {x' y' z' w' : List ℕ}
-        → link_columns x' y' z' w' ≡ columns_after (encode (link_columns (take n a) (take n b) (take n c) (take n d)) (for_records (length x ∷ length y ∷ length z ∷ length w ∷ []))) (link_columns x y z w)
+        → link_columns x' y' z' w' ≡ columns_after (encode (link_columns (take n a) (take n b) (take n c) (take n d)) (for_records (length x ∷ length y ∷ length z ∷ length w ∷ [])))
+        (link_columns x y z w)
         → link_columns (take n x') (take n y') (take n z') (take n w') ≡ columns_of ls
     unfolding columns_after columns_over columns_of
     stored-fronts {x'} {y'} {z'} {w'} e =

@@ -89,7 +89,8 @@ module _ {M : Type 1} {𝓤 : Ura M} {𝓛 : Logic 𝓤} {K : Type 0} {Γ : List
       use2 𝓛 (later ((‵ ((ShrSlice ℓ (ν ∷ []) R).own_val (record { ref_ptr = (b, o); now = xs }) (slice_val (b, o) (length xs) ∷ []))
       ⊛ ‵ (flent (ν ∷ []) ((arr_parts (shares R) (length xs)).part full_share xs b o)))
       ⊛ ‵ (flft (ν ∷ []) full_share)))
-      (lends_shr_slice 𝓛 R ℓ (ν ∷ []) full_share xs b o (subst (Room R) (sym e) room) [] sh ((ν ∷ [], full_share) ∷ []) (λ a m. absurd (not-mem-nil m)) (Incl-refl (ν ∷ []))) $ await t so $ split t $ split t $
+      (lends_shr_slice 𝓛 R ℓ (ν ∷ []) full_share xs b o (subst (Room R) (sym e) room) [] sh ((ν ∷ [], full_share) ∷ [])
+      (λ a m. absurd (not-mem-nil m)) (Incl-refl (ν ∷ []))) $ await t so $ split t $ split t $
       rewrite t 0 (λ (m : ℕ). ‵ ((ShrSlice ℓ (ν ∷ []) R).own_val (record { ref_ptr = (b, o); now = xs }) (slice_val (b, o) m ∷ []))) e refl $ move t (2 ∷ []) $ k (record { life = ν; name = 0 }))
 
   pub back_shr : K → Soaks G → (R : RattleType) (z : Loan) (xs : List R.Denot) (b o : ℕ)

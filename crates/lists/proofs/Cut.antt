@@ -26,11 +26,11 @@ module _ {A B : Type 0} (g : A → List B) (w : ℕ) (wide : (x : A) → length 
   length-blocks [] = omega (arith, mul-zero w)
   length-blocks (x ∷ xs) = omega (arith, length-append (g x) (flat g xs), wide x, length-blocks xs, mul-suc w (length xs))
 
-  pub get_d-blocks : (xs : List A) (r k : ℕ) (a : A) (d : B) → r < length xs → k < w → get_or (flat g xs) (w * r + k) d ≡ get_or (g (get_or xs r a)) k d
-  get_d-blocks [] r k a d h l = absurd (not-suc-le-zero h)
-  get_d-blocks (x ∷ xs) zero k a d h l =
+  pub get_or-blocks : (xs : List A) (r k : ℕ) (a : A) (d : B) → r < length xs → k < w → get_or (flat g xs) (w * r + k) d ≡ get_or (g (get_or xs r a)) k d
+  get_or-blocks [] r k a d h l = absurd (not-suc-le-zero h)
+  get_or-blocks (x ∷ xs) zero k a d h l =
       let e : w * 0 + k ≡ k = omega (arith, mul-zero w) in
       rw e (get_or-append (g x) (flat g xs) d k (omega (arith, wide x)))
-  get_d-blocks (x ∷ xs) (suc r) k a d h l =
+  get_or-blocks (x ∷ xs) (suc r) k a d h l =
       let e : w * suc r + k ≡ length (g x) + (w * r + k) = omega (arith, mul-suc w r, wide x) in
-      rw (e, get_or-append-add (g x) (flat g xs) (w * r + k) d) (get_d-blocks xs r k a d (le_of_suc-le-suc h) l)
+      rw (e, get_or-append-add (g x) (flat g xs) (w * r + k) d) (get_or-blocks xs r k a d (le_of_suc-le-suc h) l)

@@ -53,7 +53,7 @@ module _ {A : Type 0} (P : A → Type 0) where
   each-get (y ∷ ys) zero x h g = let e : x ≡ y = cc in subst P (sym e) h.0
   each-get (y ∷ ys) (suc i) x h g = each-get ys i x h.1 g
 
-  pub each-get_d : (xs : List A) (i : ℕ) (d : A) → Each P xs → i < length xs → P (get_or xs i d)
-  each-get_d [] i d h l = absurd (not-suc-le-zero l)
-  each-get_d (x ∷ xs) zero d h l = h.0
-  each-get_d (x ∷ xs) (suc i) d h l = each-get_d xs i d h.1 (le_of_suc-le-suc l)
+  pub each-get_or : (xs : List A) (i : ℕ) (d : A) → Each P xs → i < length xs → P (get_or xs i d)
+  each-get_or [] i d h l = absurd (not-suc-le-zero l)
+  each-get_or (x ∷ xs) zero d h l = h.0
+  each-get_or (x ∷ xs) (suc i) d h l = each-get_or xs i d h.1 (le_of_suc-le-suc l)

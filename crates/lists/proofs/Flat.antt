@@ -73,12 +73,12 @@ module _ {A : Type 0} where
   length-starts a (l ∷ ls) = rw (length-starts (a + length l) ls)
 
   -- a list starts where those before it end
-  pub get_d-starts : (a : ℕ) (ls : List (List A)) (i d : ℕ) → i ≤ length ls → get_or (starts a ls) i d ≡ a + sum length (take i ls)
+  pub get_or-starts : (a : ℕ) (ls : List (List A)) (i d : ℕ) → i ≤ length ls → get_or (starts a ls) i d ≡ a + sum length (take i ls)
   unfolding starts sum
-  get_d-starts a [] zero d h = omega arith
-  get_d-starts a [] (suc i) d h = absurd (not-suc-le-zero h)
-  get_d-starts a (l ∷ ls) zero d h = omega arith
-  get_d-starts a (l ∷ ls) (suc i) d h = omega (arith, get_d-starts (a + length l) ls i d (le_of_suc-le-suc h))
+  get_or-starts a [] zero d h = omega arith
+  get_or-starts a [] (suc i) d h = absurd (not-suc-le-zero h)
+  get_or-starts a (l ∷ ls) zero d h = omega arith
+  get_or-starts a (l ∷ ls) (suc i) d h = omega (arith, get_or-starts (a + length l) ls i d (le_of_suc-le-suc h))
 
   -- what stands there is the list
   pub part-joined : (ls : List (List A)) (i : ℕ) → part (sum length (take i ls)) (length (get_or ls i [])) (joined ls) ≡ get_or ls i []
@@ -108,14 +108,14 @@ module _ {B : Type 0} (f : ℕ → B) where
   pub length-map-up_from : (i n : ℕ) → length (map f (up_from i n)) ≡ n
   length-map-up_from i n = length-map (up_from i n) f ∙ length-up_from i n
 
-  pub get_d-map-up_from : (i n j : ℕ) (d : B) → j < n → get_or (map f (up_from i n)) j d ≡ f (i + j)
+  pub get_or-map-up_from : (i n j : ℕ) (d : B) → j < n → get_or (map f (up_from i n)) j d ≡ f (i + j)
   unfolding up_from
-  get_d-map-up_from i zero j d h = absurd (not-suc-le-zero h)
-  get_d-map-up_from i (suc n) zero d h = ap f (omega arith)
-  get_d-map-up_from i (suc n) (suc j) d h = get_d-map-up_from (suc i) n j d (le_of_suc-le-suc h) ∙ ap f (omega arith)
+  get_or-map-up_from i zero j d h = absurd (not-suc-le-zero h)
+  get_or-map-up_from i (suc n) zero d h = ap f (omega arith)
+  get_or-map-up_from i (suc n) (suc j) d h = get_or-map-up_from (suc i) n j d (le_of_suc-le-suc h) ∙ ap f (omega arith)
 
   pub map-up_from-snoc : (i n : ℕ) → map f (up_from i (suc n)) ≡ map f (up_from i n) ++ (f (i + n) ∷ [])
   map-up_from-snoc i n = rw (up_from-snoc i n) (map-append f (up_from i n) ((i + n) ∷ []))
 
-pub get_d-up_from : (i n j d : ℕ) → j < n → get_or (up_from i n) j d ≡ i + j
-get_d-up_from i n j d h = ap (λ xs. get_or xs j d) (sym (map-id (up_from i n))) ∙ get_d-map-up_from (λ x. x) i n j d h
+pub get_or-up_from : (i n j d : ℕ) → j < n → get_or (up_from i n) j d ≡ i + j
+get_or-up_from i n j d h = ap (λ xs. get_or xs j d) (sym (map-id (up_from i n))) ∙ get_or-map-up_from (λ x. x) i n j d h

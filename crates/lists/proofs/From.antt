@@ -20,11 +20,11 @@ module _ {A : Type 0} (P : ℕ → A → Type 0) where
   from-append n [] ys h g = from-eq (n + 0) n ys (omega arith) g
   from-append n (x ∷ xs) ys h g = (h.0, from-append (suc n) xs ys h.1 (from-eq (n + suc (length xs)) (suc n + length xs) ys (omega arith) g))
 
-  pub from-get_d : (n : ℕ) (xs : List A) (i : ℕ) (d : A) → EachFrom P n xs → i < length xs → P (n + i) (get_or xs i d)
-  from-get_d n [] i d h l = absurd (not-suc-le-zero l)
-  from-get_d n (x ∷ xs) zero d h l = subst (λ j. P j x) {x = n} {y = n + 0} (omega arith) h.0
-  from-get_d n (x ∷ xs) (suc i) d h l =
-      subst (λ j. P j (get_or xs i d)) {x = suc n + i} {y = n + suc i} (omega arith) (from-get_d (suc n) xs i d h.1 (le_of_suc-le-suc l))
+  pub from-get_or : (n : ℕ) (xs : List A) (i : ℕ) (d : A) → EachFrom P n xs → i < length xs → P (n + i) (get_or xs i d)
+  from-get_or n [] i d h l = absurd (not-suc-le-zero l)
+  from-get_or n (x ∷ xs) zero d h l = subst (λ j. P j x) {x = n} {y = n + 0} (omega arith) h.0
+  from-get_or n (x ∷ xs) (suc i) d h l =
+      subst (λ j. P j (get_or xs i d)) {x = suc n + i} {y = n + suc i} (omega arith) (from-get_or (suc n) xs i d h.1 (le_of_suc-le-suc l))
 
   pub from-imp : (Q : ℕ → A → Type 0) (n : ℕ) (xs : List A) → ((i : ℕ) (x : A) → P i x → Q i x) → EachFrom P n xs → EachFrom Q n xs
   from-imp Q n [] f h = tt

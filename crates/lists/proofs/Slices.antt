@@ -21,8 +21,8 @@ module _ {A : Type 0} where
   prefix-short n k l h = simp length-take (omega arith)
 
   -- a list read past its end
-  pub get_d_past : (l : List A) (i : ℕ) (d : A) → length l ≤ i → d ≡ get_or l i d
-  get_d_past l i d h = sym (get_or-eq_default l d {n = i} h)
+  pub get_or-past : (l : List A) (i : ℕ) (d : A) → length l ≤ i → d ≡ get_or l i d
+  get_or-past l i d h = sym (get_or-eq_default l d {n = i} h)
 
   -- ── slices ─────────────────────────────────────────────────────────────────────────────────
 

@@ -9,8 +9,8 @@ use native.Mathlib.Omega.{arith}
 use native.Mathlib.Nat.{zero-add}
 use lib.ListN.{length, get_or, length-map}
 use Rattle.lists.specs.Lists.{flat, up_from}
-use Rattle.lists.proofs.Each.{each-get_d}
-use Rattle.lists.proofs.Flat.{flat-ext, flat_map, get_d-up_from, length-up_from}
+use Rattle.lists.proofs.Each.{each-get_or}
+use Rattle.lists.proofs.Flat.{flat-ext, flat_map, get_or-up_from, length-up_from}
 use Rattle.lists.proofs.Sums.{sum-map, sum-ext}
 use Rattle.lists.proofs.Filters.{each_below}
 use Rattle.columns.specs.Limits.{kinds, end64}
@@ -179,9 +179,9 @@ module _ (z : Counts) (subject : List ℕ) (groups : Groups) (rows unresolved ro
     kept g h =
         let all = each-none-in (λ g. build_rules kinds (section_graph kinds S g)) (up_from 0 (length S.groups)) none-broken in
         let h' : g < length S.groups = omega (arith, count_is) in
-        let e : get_or (up_from 0 (length S.groups)) g 0 ≡ g = get_d-up_from 0 (length S.groups) g 0 h' ∙ zero-add g in
+        let e : get_or (up_from 0 (length S.groups)) g 0 ≡ g = get_or-up_from 0 (length S.groups) g 0 h' ∙ zero-add g in
         ap (λ k. build_rules kinds (section_graph kinds S k)) (sym e)
-        ∙ each-get_d (λ k. build_rules kinds (section_graph kinds S k) ≡ none) (up_from 0 (length S.groups)) g 0 all (omega (arith, length-up_from 0 (length S.groups)))
+        ∙ each-get_or (λ k. build_rules kinds (section_graph kinds S k) ≡ none) (up_from 0 (length S.groups)) g 0 all (omega (arith, length-up_from 0 (length S.groups)))
 
     pub spanned : Spanned z groups.count rows offsets targets starts kids
     spanned = record { parents = λ g h. parents-spanned g (kept g h); children = λ g h. children-spanned g (kept g h) }

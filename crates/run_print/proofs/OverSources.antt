@@ -59,7 +59,8 @@ module _ (room : ℕ) where
   unfolding listed written unless first_of
   said-listed A S h = rw (le-ltb room (listing_need A (outputs kinds S)) h) (go (write_rules kinds S))
     where
-      go : (x : Option Refusal) → said (list_into (unless (first_of (x ∷ none ∷ [])) (listing_text A (outputs kinds S)))) ≡ writing refused_line (lines A (outputs kinds S)) (unless x (bytes_of kinds S))
+      go : (x : Option Refusal) → said (list_into (unless (first_of (x ∷ none ∷ [])) (listing_text A (outputs kinds S))))
+          ≡ writing refused_line (lines A (outputs kinds S)) (unless x (bytes_of kinds S))
       go none = refl
       go (some x) = refl
 

@@ -26,8 +26,8 @@ module _ {A : Type 0} (w : ℕ) (f : List ℕ → A) (g : A → List ℕ) (b : �
   one-stored h d = rw (e, several-cons w f n i table q h, sets-append, wide (f (drop q table)), d)
 
 -- the first number of a record
-get_d_front : (q : ℕ) (table : List ℕ) → get_or (drop q table) 0 0 ≡ get_or table q 0
-get_d_front q table = get_or-drop q table 0 0 ∙ ap (λ k. get_or table k 0) (add-zero q)
+get_or-front : (q : ℕ) (table : List ℕ) → get_or (drop q table) 0 0 ≡ get_or table q 0
+get_or-front q table = get_or-drop q table 0 0 ∙ ap (λ k. get_or table k 0) (add-zero q)
 
 module _ {t : List ℕ} (n i : ℕ) (table : List ℕ) (q p : ℕ) (out : List ℕ) where
   pub row_next : {k : List ℕ} → t ≡ sets out p (flat row_bytes (several 4 row_in (n - i) (drop q table))) → i < n
@@ -41,14 +41,14 @@ module _ {t : List ℕ} (n i : ℕ) (table : List ℕ) (q p : ℕ) (out : List �
   unfolding unresolved_from
   unresolved-next e h d =
       one-stored 3 unresolved_in unresolved_bytes 13 wide-unresolved n i table q p out e h
-      (rw (get_d_front q table, get_or-drop q table 1 0, get_or-drop q table 2 0) d)
+      (rw (get_or-front q table, get_or-drop q table 1 0, get_or-drop q table 2 0) d)
 
   pub root-next : {k : List ℕ} {r : ℕ} (low : ℕ) → t ≡ sets out p (flat root_bytes (several 2 (root_above_in low) (n - i) (drop q table))) → i < n
       → r ≡ get_or table q 0 - low → k ≡ sets out p (root_bytes (root_from r (get_or table (q + 1) 0)))
       → t ≡ sets k (p + 16) (flat root_bytes (several 2 (root_above_in low) (n - (i + 1)) (drop (q + 2) table)))
   unfolding root_from
   root-next low e h c d =
-      one-stored 2 (root_above_in low) root_bytes 16 wide-root n i table q p out e h (rw (get_d_front q table, get_or-drop q table 1 0, ← c) d)
+      one-stored 2 (root_above_in low) root_bytes 16 wide-root n i table q p out e h (rw (get_or-front q table, get_or-drop q table 1 0, ← c) d)
 
   pub roots-done : (low : ℕ) → t ≡ sets out p (flat root_bytes (several 2 (root_above_in low) (n - i) (drop q table))) → n ≤ i → out ≡ t
   roots-done low e = all-stored 2 (root_above_in low) root_bytes 16 wide-root n i table q p out e

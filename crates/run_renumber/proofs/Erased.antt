@@ -65,7 +65,8 @@ module _ (K start : ℕ) (flags offsets targets : List ℕ) (i : ℕ) where
       pub event-ordered : (j : ℕ) → b ≡ get_or offsets (K * i + j) 0 → j ≤ K → a ≤ b
       event-ordered j f w = rw (e, f) (table-rises (length targets) offsets table (K * i) (K * i + j) (omega arith) (far j w))
 
-      pub event-named : (r : Bool) → b ≡ get_or offsets (K * i + K) 0 → r ≡ any (is_erased start flags) (slice a b targets) → get_or flags i 0 ≡ 0 → r ≡ is_reparented K start flags (cut offsets targets) i
+      pub event-named : (r : Bool) → b ≡ get_or offsets (K * i + K) 0 → r ≡ any (is_erased start flags) (slice a b targets)
+          → get_or flags i 0 ≡ 0 → r ≡ is_reparented K start flags (cut offsets targets) i
       unfolding is_reparented
       event-named r f g z =
           let w : joined (part (K * i) K (cut offsets targets)) ≡ slice a b targets =

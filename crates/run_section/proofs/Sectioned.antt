@@ -11,7 +11,7 @@ use lib.Dec.{ltb}
 use lib.ListN.{length, drop}
 use borrow.Author.Tests.{le-leb}
 use Rattle.lists.specs.Lists.{all}
-use Rattle.lists.proofs.Flat.{length-map-up_from, get_d-map-up_from}
+use Rattle.lists.proofs.Flat.{length-map-up_from, get_or-map-up_from}
 use Rattle.columns.specs.Limits.{kinds, end64, max_subject}
 use Rattle.columns.proofs.Served.{kinds-served}
 use Rattle.columns.specs.Refusal.{refuse, first_of}
@@ -86,7 +86,7 @@ module _ (z : Counts) (subject : List ℕ) (groups : Groups) (rows unresolved ro
 
   pub facts-are : (g : ℕ) → g < groups.count → facts_of S g ≡ facts_at groups g
   unfolding sheet_of
-  facts-are g h = get_d-map-up_from (facts_at groups) 0 groups.count g no_facts h ∙ ap (facts_at groups) (zero-add g)
+  facts-are g h = get_or-map-up_from (facts_at groups) 0 groups.count g no_facts h ∙ ap (facts_at groups) (zero-add g)
 
   module _ (g : ℕ) (s : Section) (h : SectionAt z g rows unresolved roots links s) where
     pub start_is : section_start S g ≡ s.rows.from

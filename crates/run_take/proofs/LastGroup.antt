@@ -10,7 +10,7 @@ use lib.Seq.{length-take-le}
 use borrow.Author.Tests.{leb-true}
 use Rattle.lists.specs.Lists.{is_empty, up_from}
 use Rattle.lists.proofs.Tests.{both}
-use Rattle.lists.proofs.Flat.{length-map-up_from, get_d-map-up_from}
+use Rattle.lists.proofs.Flat.{length-map-up_from, get_or-map-up_from}
 use Rattle.columns.specs.Limits.{kinds, max_subject, max_groups, end64}
 use Rattle.columns.specs.Answers.{ruling}
 use Rattle.columns.specs.declared.refusal.Ruling.{Ruling}
@@ -79,7 +79,7 @@ module _ (s : Sheet) (l : LongSheet s) (k : sheet_ok s ≡ true) where
       let n = s.groups.count in
       let c = length-map-up_from (facts_at s.groups) 0 n in
       let z : 0 + (n - 1) ≡ n - 1 = omega arith in
-      rw (not-empty (listed (facts_at s.groups) n) (omega arith), c, get_d-map-up_from (facts_at s.groups) 0 n (n - 1) no_facts (omega arith), z, tags-length s l k)
+      rw (not-empty (listed (facts_at s.groups) n) (omega arith), c, get_or-map-up_from (facts_at s.groups) 0 n (n - 1) no_facts (omega arith), z, tags-length s l k)
 
 -- ── the rules of files that look back at it ──────────────────────────────────────────────────
 

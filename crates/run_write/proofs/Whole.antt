@@ -45,7 +45,8 @@ module _ (s : Sheet) (t : Tidy kinds s) (f : Filled s) where
       no-rule : section_rules kinds s ≡ none
       no-rule = told-kept (section_rules kinds s) d.rules e
 
-      all-accepted : write_into (length was) (written kinds (summary_of kinds s)) ≡ cond (leb (length (section_bytes kinds s)) (length was)) (wrote (all_of (section_bytes kinds s))) (refused SliceShort)
+      all-accepted : write_into (length was) (written kinds (summary_of kinds s))
+          ≡ cond (leb (length (section_bytes kinds s)) (length was)) (wrote (all_of (section_bytes kinds s))) (refused SliceShort)
       unfolding unless
       all-accepted = ap (write_into (length was)) (as-sections ∙ ap (λ r. unless r (section_bytes kinds s)) no-rule)
 

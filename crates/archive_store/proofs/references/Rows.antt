@@ -13,7 +13,7 @@ use Rattle.archive.proofs.References.{wide-reference}
 use Rattle.archive_store.specs.Lent.{zip3, start_bytes, reference_from, cited_from, Cited}
 use Rattle.archive_store.specs.records.Sizes.{references_body, references_size}
 use Rattle.archive_store.proofs.Chained.{counted-stored, record-stored}
-use Rattle.archive_store.proofs.Zipped.{length-zip3, get_d-zip3}
+use Rattle.archive_store.proofs.Zipped.{length-zip3, get_or-zip3}
 
 -- ── a row's references ───────────────────────────────────────────────────────────────────────
 
@@ -31,7 +31,7 @@ module _ (ks ss ts : List ℕ) (a : length ss ≡ length ks) (b : length ts ≡ 
         rw (
           e,
           slice-cons i to (zip3 reference_from ks ss ts) x h n,
-          get_d-zip3 reference_from ks ss ts a b i x m,
+          get_or-zip3 reference_from ks ss ts a b i x m,
           sets-append out p (reference_bytes x),
           wide-reference x,
           d,

@@ -23,7 +23,8 @@ module _ (low high from n : ℕ) (offsets targets : List ℕ) where
   count-short e c h = omega (arith, e, section-few kinds low high from n offsets targets c)
 
   module _ (first : ℕ) where
-    deltas-size : length (delta_bytes (joined (deltas_from kinds first 0 (rows_within kinds low high from n offsets targets)))) ≡ 8 * length (joined (rows_within kinds low high from n offsets targets))
+    deltas-size : length (delta_bytes (joined (deltas_from kinds first 0 (rows_within kinds low high from n offsets targets))))
+        ≡ 8 * length (joined (rows_within kinds low high from n offsets targets))
     unfolding delta_bytes set_of
     deltas-size =
         let ls = rows_within kinds low high from n offsets targets in
@@ -35,7 +36,13 @@ module _ (low high from n : ℕ) (offsets targets : List ℕ) where
       pub deltas-room : at + set_size (2 * n + 1) (length (joined (rows_within kinds low high from n offsets targets))) ≤ length l
           → at + 4 + 8 * (2 * n + 1) + length (delta_bytes (joined (deltas_from kinds first 0 (rows_within kinds low high from n offsets targets)))) ≤ length j
       deltas-room h =
-          omega (arith, deltas-size, ap length e ∙ length-sets i at (bytes_of 4 m), ap length d ∙ length-sets l (at + 4) (column_bytes 8 (starts 0 (rows_within kinds low high from n offsets targets))))
+          omega (
+            arith,
+            deltas-size,
+            ap length e ∙ length-sets i at (bytes_of 4 m),
+            ap length d
+                ∙ length-sets l (at + 4) (column_bytes 8 (starts 0 (rows_within kinds low high from n offsets targets))),
+          )
 
       pub set-whole : {k : List ℕ} → 2 * (from + n) < length offsets → m ≡ length (joined (rows_within kinds low high from n offsets targets))
           → k ≡ sets j (at + 4 + 8 * (2 * n + 1)) (delta_bytes (joined (deltas_from kinds first 0 (rows_within kinds low high from n offsets targets))))

@@ -103,7 +103,12 @@ same-bucket n keys links a b x zero i d h = refl
 same-bucket n keys links a b x (suc f) zero d h = refl
 same-bucket n keys links a b x (suc f) (suc j) d h =
     let l = d.low j (omega arith) in
-    rw (get_or-set_other keys n j a 0 (λ q. absurd (omega (arith, q))), get_or-set_other links n j b 0 (λ q. absurd (omega (arith, q))), same-bucket n keys links a b x f (get_or links j 0) d (omega arith))
+    rw (
+      get_or-set_other keys n j a 0 (λ q. absurd (omega (arith, q))),
+      get_or-set_other links n j b 0
+          (λ q. absurd (omega (arith, q))),
+      same-bucket n keys links a b x f (get_or links j 0) d (omega arith),
+    )
 
 same_place : (keys : List ℕ) (n a m x : ℕ) → m ≤ n → last_place (set keys n a) m x ≡ last_place keys m x
 unfolding last_place

@@ -14,8 +14,8 @@ use Rattle.lists.specs.Lists.{all, any, distinct, up_from, part, Each}
 use Rattle.lists.specs.Order.{sort}
 use Rattle.lists.proofs.Tests.{tested, any_append}
 use Rattle.lists.proofs.Once.{or-is-false}
-use Rattle.lists.proofs.Each.{each_both, each-get_d}
-use Rattle.lists.proofs.Flat.{length-up_from, get_d-up_from}
+use Rattle.lists.proofs.Each.{each_both, each-get_or}
+use Rattle.lists.proofs.Flat.{length-up_from, get_or-up_from}
 use Rattle.columns.specs.Limits.{kinds, max_numbers, end64}
 use Rattle.columns.specs.Refusal.{accepted, unless, first_of, first_in, Lent, short, limits}
 use Rattle.columns.specs.EdgeSet.{EdgeSet, forward, reverse, inbound, offsets_form, set_of}
@@ -80,9 +80,10 @@ children-past first end cs ps ks e =
   where
     rule : (i : ℕ) → i < record_count cs ps ks → inbound_rules kinds first end (get_elem? cs i) (get_elem? ps i) (get_elem? ks i) ≡ none
     rule i u =
-        let z : get_or (up_from 0 (record_count cs ps ks)) i 0 ≡ i = get_d-up_from 0 (record_count cs ps ks) i 0 u ∙ omega arith in
-        rw z at (each-get_d (λ j. inbound_rules kinds first end (get_elem? cs j) (get_elem? ps j) (get_elem? ks j) ≡ none) (up_from 0 (record_count cs ps ks)) i 0
-        (each-none-in (λ j. inbound_rules kinds first end (get_elem? cs j) (get_elem? ps j) (get_elem? ks j)) (up_from 0 (record_count cs ps ks)) e) (omega (arith, length-up_from 0 (record_count cs ps ks))))
+        let z : get_or (up_from 0 (record_count cs ps ks)) i 0 ≡ i = get_or-up_from 0 (record_count cs ps ks) i 0 u ∙ omega arith in
+        rw z at (each-get_or (λ j. inbound_rules kinds first end (get_elem? cs j) (get_elem? ps j) (get_elem? ks j) ≡ none) (up_from 0 (record_count cs ps ks)) i 0
+        (each-none-in (λ j. inbound_rules kinds first end (get_elem? cs j) (get_elem? ps j) (get_elem? ks j)) (up_from 0 (record_count cs ps ks)) e)
+        (omega (arith, length-up_from 0 (record_count cs ps ks))))
 
 module _ (g : Graph) (room : List Lent) (small : limits (graph_records g) (graph_lengths g) room ≡ none) (kept : build_rules kinds g ≡ none) (wide : Each (λ c. c < end64) g.inbound.children) where
   form : offsets_form kinds g.rows (length g.targets) g.offsets ≡ true

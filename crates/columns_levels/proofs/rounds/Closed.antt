@@ -164,7 +164,8 @@ module _ (K first kind a i n r : ℕ) (offsets targets keys keys' : List ℕ) (w
   only' : (x : ℕ) → mem x (adds_cap (length keys) (take n keys) (parents_in K first kind offsets targets (get_or keys i 0))) ≡ true → Reaches (parents_in K first kind offsets targets) a x
   only' x e = elim (tested (mem x (take n keys))) [
     | inl f ↦ w.only x f
-    | inr f ↦ reach-one (parents_in K first kind offsets targets) a (get_or keys i 0) x was-reached (from_all (length keys) (take n keys) (parents_in K first kind offsets targets (get_or keys i 0)) x e f)
+    | inr f ↦ reach-one (parents_in K first kind offsets targets) a (get_or keys i 0) x was-reached
+        (from_all (length keys) (take n keys) (parents_in K first kind offsets targets (get_or keys i 0)) x e f)
   ]
 
   closed' : (j : ℕ) → j < i + 1 → (x : ℕ) → mem x (parents_in K first kind offsets targets

@@ -18,7 +18,7 @@ use Rattle.columns.specs.EdgeSet.{offsets_form, cut, event_of, delta_of, deltas_
 use Rattle.columns.specs.Building.{fits63, deltas_fit}
 use Rattle.columns.proofs.Deltas.{delta-down, delta-up}
 use Rattle.columns_rules.specs.spans.Spanned.{spans_fit, slots_fit}
-use Rattle.columns_rules.proofs.SlotTables.{table_of, length_cut, get_d-cut}
+use Rattle.columns_rules.proofs.SlotTables.{table_of, length_cut, get_or-cut}
 
 -- ── event minus target ───────────────────────────────────────────────────────────────────────
 
@@ -65,7 +65,7 @@ module _ (rows from q : ℕ) (offsets targets : List ℕ) (ok : offsets_form kin
       → {r : Bool} → r ≡ spans_fit (first + (from + q / 2)) (slice a b targets) → r ≡ spans_fit (first + from + q / 2) (get_or (cut offsets targets) (2 * from + q) [])
   gran-says first a b x y e =
       let d : first + from + q / 2 ≡ first + (from + q / 2) = omega arith in
-      rw (get_d-cut (2 * rows) offsets targets (table_of rows (length targets) offsets ok).long (2 * from + q) h, d, ← x, ← y) e
+      rw (get_or-cut (2 * rows) offsets targets (table_of rows (length targets) offsets ok).long (2 * from + q) h, d, ← x, ← y) e
 
 pub fit-slots : (first slot : ℕ) (lists : List (List ℕ)) → all fits63 (joined (deltas_from kinds first slot lists)) ≡ slots_fit first slot lists
 unfolding joined deltas_from slots_fit spans_fit all

@@ -1,7 +1,7 @@
 // Building's rules on records in parallel columns: unresolved records (6, 7) and inbound edges (11, 12). A part that a shorter column does not have passes no test.
 ghost use Rattle.std.specs.Prelude.{◌≡◌, ◌+◌, leb, ltb, eqb};
 ghost use Rattle.std.proofs.Math.ListN.{get_elem?};
-ghost use Rattle.columns.specs.Limits.{kinds, kinds as runKinds};
+ghost use Rattle.columns.specs.Limits.{kinds, kinds as run_kinds};
 ghost use Rattle.columns.specs.Building.{has, in_file, greater, record_count, unresolved_rules, inbound_rules};
 ghost use Rattle.columns.specs.Answers.{ruling};
 ghost use Rattle.columns_rules.specs.records.Recorded.{unresolved_from, inbound_from};
@@ -139,7 +139,7 @@ fn inbound_rule(
     kinds: &[u64],
     i: usize,
 ) -> Ruling
-    ensures { result ≡ ruling (inbound_rules runKinds first (first + rows) (get_elem? children.now i) (get_elem? parents.now i) (get_elem? kinds.now i)) }
+    ensures { result ≡ ruling (inbound_rules run_kinds first (first + rows) (get_elem? children.now i) (get_elem? parents.now i) (get_elem? kinds.now i)) }
 {
     if !past_file_at(first, rows, children, i) {
         return Ruling::Broken(Refusal::InboundChild);

@@ -16,7 +16,7 @@ use Rattle.lists.proofs.Slices.{sets-append}
 use Rattle.columns.specs.EdgeSet.{offsets_form, cut, delta_of, deltas_from}
 use Rattle.columns.specs.Building.{deltas_fit}
 use Rattle.columns_rules.specs.spans.Spanned.{spans_fit, slots_fit}
-use Rattle.columns_rules.proofs.SlotTables.{Table, table_of, length_cut, get_d-cut}
+use Rattle.columns_rules.proofs.SlotTables.{Table, table_of, length_cut, get_or-cut}
 use Rattle.columns_rules.proofs.spans.SpanTurns.{deltas-slots}
 
 pub climbs : (slots count : ℕ) (offsets : List ℕ) → Table slots count offsets → (s d : ℕ) → s + d ≤ slots → get_or offsets s 0 ≤ get_or offsets (s + d) 0
@@ -34,7 +34,7 @@ module _ (rows from q : ℕ) (offsets targets : List ℕ) (ok : offsets_form kin
 
   module _ (first a b : ℕ) (e : a ≡ get_or offsets (2 * from + q) 0) (f : b ≡ get_or offsets (2 * from + q + 1) 0) where
     list-is : get_or (cut offsets targets) (2 * from + q) [] ≡ slice a b targets
-    list-is = rw (e, f) (get_d-cut (2 * rows) offsets targets (table_of rows (length targets) offsets ok).long (2 * from + q) h)
+    list-is = rw (e, f) (get_or-cut (2 * rows) offsets targets (table_of rows (length targets) offsets ok).long (2 * from + q) h)
 
     event-is : first + from + q / 2 ≡ first + (from + q / 2)
     event-is = omega arith
@@ -113,7 +113,7 @@ module _ (first rows from n : ℕ) (offsets targets : List ℕ) (base : ℕ) whe
       size : length (map (delta_of (first + from + q / 2)) (get_or (cut offsets targets) (2 * from + q) [])) ≡ get_or offsets (2 * from + q + 1) 0 - get_or offsets (2 * from + q) 0
       size =
           let t = table_of rows (length targets) offsets w.form in
-          rw (length-map (get_or (cut offsets targets) (2 * from + q) []) (delta_of (first + from + q / 2)), get_d-cut (2 * rows) offsets targets t.long (2 * from + q) writing-in)
+          rw (length-map (get_or (cut offsets targets) (2 * from + q) []) (delta_of (first + from + q / 2)), get_or-cut (2 * rows) offsets targets t.long (2 * from + q) writing-in)
           (length-slice (get_or offsets (2 * from + q) 0) (get_or offsets (2 * from + q + 1) 0) targets (t.bound (2 * from + q + 1) (omega (arith, writing-in))))
 
       place : get_or offsets (2 * from + q) 0 - base + length (map (delta_of (first + from + q / 2)) (get_or (cut offsets targets) (2 * from + q) [])) ≡ get_or offsets (2 * from + (q + 1)) 0 - base

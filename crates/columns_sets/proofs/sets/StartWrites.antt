@@ -12,7 +12,7 @@ use Rattle.columns.specs.Limits.{kinds}
 use Rattle.lists.specs.Lists.{part, starts}
 use Rattle.lists.proofs.Flat.{length-starts}
 use Rattle.columns.specs.EdgeSet.{offsets_form, cut}
-use Rattle.columns_rules.proofs.SlotTables.{Table, table_of, length_cut, get_d-cut}
+use Rattle.columns_rules.proofs.SlotTables.{Table, table_of, length_cut, get_or-cut}
 use Rattle.columns_sets.proofs.sets.SetWrites.{climbs}
 
 head-is : (a : ℕ) (ls : List (List ℕ)) → get_or (starts a ls) 0 0 ≡ a
@@ -49,7 +49,7 @@ module _ (rows from n : ℕ) (offsets targets : List ℕ) (ok : offsets_form kin
 
   size : (s : ℕ) → s < 2 * n → length (get_or (cut offsets targets) (2 * from + s) []) ≡ get_or offsets (2 * from + s + 1) 0 - get_or offsets (2 * from + s) 0
   size s h =
-      rw (get_d-cut (2 * rows) offsets targets t.long (2 * from + s) (omega arith))
+      rw (get_or-cut (2 * rows) offsets targets t.long (2 * from + s) (omega arith))
       (length-slice (get_or offsets (2 * from + s) 0) (get_or offsets (2 * from + s + 1) 0) targets (t.bound (2 * from + s + 1) (omega arith)))
 
   starts_from : (s : ℕ) → s ≤ 2 * n → drop s (starts 0 (part (2 * from) (2 * n) (cut offsets targets)))
@@ -59,7 +59,8 @@ module _ (rows from n : ℕ) (offsets targets : List ℕ) (ok : offsets_form kin
       let z : s + 1 ≡ suc s = omega arith in
       let y : 2 * from + suc s ≡ 2 * from + s + 1 = omega arith in
       let r = t.rise (2 * from + s) (omega arith) in
-      let p : get_or offsets (2 * from + s) 0 - get_or offsets (2 * from) 0 + length (get_or (cut offsets targets) (2 * from + s) []) ≡ get_or offsets (2 * from + suc s) 0 - get_or offsets (2 * from) 0
+      let p : get_or offsets (2 * from + s) 0 - get_or offsets (2 * from) 0 + length (get_or (cut offsets targets) (2 * from + s) [])
+      ≡ get_or offsets (2 * from + suc s) 0 - get_or offsets (2 * from) 0
       = rw y (omega (arith, size s (omega arith), above-base s (omega arith))) in
       (rw z at (sym (drop-drop 1 s (starts 0 (part (2 * from) (2 * n) (cut offsets targets))))))
       ∙ ap (drop 1) (starts_from s (omega arith))

@@ -8,7 +8,7 @@ use lib.ListN.{length, get_or, take, drop, length-append}
 use lib.Seq.{sets, take_all, length-take-le}
 use Rattle.columns.specs.Limits.{kinds}
 use Rattle.lists.specs.Lists.{part, joined, starts, sum}
-use Rattle.lists.proofs.Flat.{length-joined, length-starts, get_d-starts}
+use Rattle.lists.proofs.Flat.{length-joined, length-starts, get_or-starts}
 use Rattle.columns.specs.EdgeSet.{cut, deltas_from, set_of}
 use Rattle.columns.specs.Building.{reverse_lists}
 use Rattle.columns_rules.proofs.SlotTables.{table_of}
@@ -36,7 +36,7 @@ module _ (first rows from n : ℕ) (offsets targets : List ℕ) (r : Reached fir
         let l = part (2 * from) (2 * n) (cut offsets targets) in
         rw (e, f)
         (sym (start_is rows from n offsets targets r.form r.inside (2 * n) (omega arith))
-        ∙ get_d-starts 0 l (2 * n) 0 (omega (arith, part-long rows from n offsets targets r.form r.inside))
+        ∙ get_or-starts 0 l (2 * n) 0 (omega (arith, part-long rows from n offsets targets r.form r.inside))
         ∙ whole l (part-long rows from n offsets targets r.form r.inside)
         ∙ sym (length-joined l))
       where

@@ -25,7 +25,8 @@ pub run-requires-clause-table : goal.run-requires-clause-table
 run-requires-clause-table c = c.add-n.ensures.table
 
 pub run-requires-clause-seen : goal.run-requires-clause-seen
-run-requires-clause-seen c = seen_first _ _ _ 4097 4097 _ c.args.buf.now (replicate 4097 0) _ c.add-n.ensures.keys_after c.requires.buf_value (length-replicate {A = ℕ} 4097 0) (search rules) refl c.requires.of_kinds.1.1.1
+run-requires-clause-seen c = seen_first _ _ _ 4097 4097 _ c.args.buf.now (replicate 4097 0) _ c.add-n.ensures.keys_after c.requires.buf_value
+    (length-replicate {A = ℕ} 4097 0) (search rules) refl c.requires.of_kinds.1.1.1
 
 pub returns : goal.returns
 returns c = search ran-levels

@@ -85,7 +85,8 @@ module _ (c : ℕ) (cs : List ℕ) where
   -- a chain's rows are the run that starts at its place; the rows of later chains stand past it
   pub rows-turn : (low p : ℕ) (l : List ℕ) → level_above c cs ≡ true → level_above low l ≡ true
       → rows_of (c ∷ cs) p l
-      ≡ up_from (p + place_of c l) (run_of c (drop (place_of c l) l)) ++ rows_of cs (p + place_of c l + run_of c (drop (place_of c l) l)) (drop (run_of c (drop (place_of c l) l)) (drop (place_of c l) l))
+      ≡ up_from (p + place_of c l) (run_of c (drop (place_of c l) l))
+      ++ rows_of cs (p + place_of c l + run_of c (drop (place_of c l) l)) (drop (run_of c (drop (place_of c l) l)) (drop (place_of c l) l))
   rows-turn low p l a b =
       let s = drop (place_of c l) l in
       rows-skip p l a ∙ rows_run (p + place_of c l) s

@@ -41,7 +41,9 @@ pub write_links-requires-clause-ts_value : goal.write_links-requires-clause-ts_v
 write_links-requires-clause-ts_value c = links-ok _ _ c.links_fit.ensures (ap not c.if-not-links_fit.false)
 
 pub returns-clause-value : goal.returns-clause-value
-returns-clause-value c = read-all-told _ _ _ c.seven_over.ensures c.if-seven_over.false c.four_short.ensures c.if-four_short.false c.ranges_fit.ensures (ap not c.if-not-ranges_fit.false) c.links_fit.ensures (ap not c.if-not-links_fit.false)
+returns-clause-value c = read-all-told _ _ _ c.seven_over.ensures c.if-seven_over.false c.four_short.ensures c.if-four_short.false c.ranges_fit.ensures
+    (ap not c.if-not-ranges_fit.false) c.links_fit.ensures (ap not c.if-not-links_fit.false)
 
 pub returns-clause-d_after : goal.returns-clause-d_after
-returns-clause-d_after c = read-all-written _ _ _ c.seven_over.ensures c.if-seven_over.false c.four_short.ensures c.if-four_short.false c.ranges_fit.ensures (ap not c.if-not-ranges_fit.false) c.links_fit.ensures _ _ c.write_links.ensures (ap not c.if-not-links_fit.false)
+returns-clause-d_after c = read-all-written _ _ _ c.seven_over.ensures c.if-seven_over.false c.four_short.ensures c.if-four_short.false c.ranges_fit.ensures
+    (ap not c.if-not-ranges_fit.false) c.links_fit.ensures _ _ c.write_links.ensures (ap not c.if-not-links_fit.false)

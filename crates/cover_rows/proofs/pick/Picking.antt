@@ -12,7 +12,7 @@ use mir.Syntax.{w64}
 use mir.Val.{Fits}
 use borrow.Author.Tests.{ltb-true}
 use Rattle.lists.proofs.Tests.{all-each}
-use Rattle.lists.proofs.Each.{each-get_d}
+use Rattle.lists.proofs.Each.{each-get_or}
 use Rattle.cover.specs.Chains.{Link}
 use Rattle.cover.specs.Answers.{link_columns, over, links_over}
 use Rattle.cover.specs.Places.{row_at}
@@ -27,7 +27,7 @@ module _ (column rows : List ℕ) (n : ℕ) (h : n ≤ length rows) where
   pub row_in : (m i : ℕ) → within m (take n rows) ≡ true → i < n → get_or rows i 0 < m
   unfolding within
   row_in m i e k =
-      let p = each-get_d (λ j. ltb j m ≡ true) (take n rows) i 0 (all-each (λ j. ltb j m) (take n rows) e) (rw (length-take-le n rows h) k) in
+      let p = each-get_or (λ j. ltb j m ≡ true) (take n rows) i 0 (all-each (λ j. ltb j m) (take n rows) e) (rw (length-take-le n rows h) k) in
       ltb-true (get_or rows i 0) m (rw (get_or-take n rows i 0 k) at p)
 
   pub row_fits : (m i : ℕ) → within m (take n rows) ≡ true → i < n → m * 4 < 2 ^ 63 → Fits w64 (get_or rows i 0 * 4)

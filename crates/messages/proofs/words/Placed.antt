@@ -12,8 +12,8 @@ use borrow.Author.Tests.{leb-true}
 use Rattle.lists.specs.Lists.{joined, starts, part, sum, all}
 use Rattle.lists.specs.Text.{text}
 use Rattle.lists.proofs.Tests.{all-each}
-use Rattle.lists.proofs.Each.{each-get_d}
-use Rattle.lists.proofs.Flat.{length-joined, get_d-starts, part-joined}
+use Rattle.lists.proofs.Each.{each-get_or}
+use Rattle.lists.proofs.Flat.{length-joined, get_or-starts, part-joined}
 use Rattle.columns.specs.Refusal.{number_of}
 use Rattle.columns.specs.declared.refusal.Refusal.{Refusal}
 use Rattle.columns.specs.declared.refusal.Refusal.TheVariants.{SubjectLength, EdgeEntries, NumberRange, ParentNotEarlier, ParentTwice, UnresolvedChild, UnresolvedKind}
@@ -45,10 +45,10 @@ module _ {l : List ℕ} (e : l ≡ joined table) (i : ℕ) (h : i < 44) {a b : �
   here = h
 
   from : a ≡ sum length (take i table)
-  from = omega (arith, f, get_d-starts 0 table i 0 (omega (arith, here)))
+  from = omega (arith, f, get_or-starts 0 table i 0 (omega (arith, here)))
 
   to : b ≡ sum length (take i table) + length (get_or table i [])
-  to = omega (arith, rw add-one at g, get_d-starts 0 table (suc i) 0 (omega (arith, here)), (until table i here).0)
+  to = omega (arith, rw add-one at g, get_or-starts 0 table (suc i) 0 (omega (arith, here)), (until table i here).0)
 
   pub rise : a ≤ b
   rise = omega (arith, from, to)
@@ -61,7 +61,7 @@ module _ {l : List ℕ} (e : l ≡ joined table) (i : ℕ) (h : i < 44) {a b : �
   cut = let n : b - a ≡ length (get_or table i []) = omega (arith, from, to) in rw (n, from, e) (part-joined table i)
 
   few : length (get_or table i []) ≤ 120
-  few = leb-true (length (get_or table i [])) 120 (each-get_d (λ w. leb (length w) 120 ≡ true) table i [] (all-each (λ w. leb (length w) 120) table short) here)
+  few = leb-true (length (get_or table i [])) 120 (each-get_or (λ w. leb (length w) 120 ≡ true) table i [] (all-each (λ w. leb (length w) 120) table short) here)
 
   pub some-room : (at : ℕ) {m : ℕ} → at + 120 ≤ m → at + length (take (b - a) (drop a l)) ≤ m
   some-room at k = rw cut (omega (arith, few))

@@ -23,7 +23,8 @@ use Rattle.run_compact.specs.slots.Slots.{slots_from}
 
 -- ── one list more ────────────────────────────────────────────────────────────────────────────
 
-module _ (offsets targets : List ℕ) (s : ℕ) (h : s + 1 < length offsets) (ok : from_to 0 (length targets) offsets ≡ true) (a b : ℕ) (e : a ≡ get_or offsets s 0) (f : b ≡ get_or offsets (s + 1) 0) where
+module _ (offsets targets : List ℕ) (s : ℕ) (h : s + 1 < length offsets) (ok : from_to 0 (length targets) offsets ≡ true) (a b : ℕ)
+    (e : a ≡ get_or offsets s 0) (f : b ≡ get_or offsets (s + 1) 0) where
   pub slot-ordered : a ≤ b
   slot-ordered = rw (e, f) (table-rises (length targets) offsets ok s (s + 1) (omega arith) h)
 

@@ -13,7 +13,8 @@ abbrev pub invariant-loop-s : goal.invariant-loop-s
 invariant-loop-s l =
     (l.s ≤ kinds * length l.flags) × (length l.offs ≡ length l.initial.offs) × (length l.all ≡ length l.initial.all)
     × Built l.offs l.all l.s l.end (cut (take (l.s + 1) l.offs) (take l.end l.all))
-    × (new_lists_from kinds l.start l.flags l.numbers [] (cut l.offsets l.targets) ≡ new_lists_from kinds l.start l.flags l.numbers (cut (take (l.s + 1) l.offs) (take l.end l.all)) (drop l.s (cut l.offsets l.targets)))
+    × (new_lists_from kinds l.start l.flags l.numbers [] (cut l.offsets l.targets)
+    ≡ new_lists_from kinds l.start l.flags l.numbers (cut (take (l.s + 1) l.offs) (take l.end l.all)) (drop l.s (cut l.offsets l.targets)))
 
 abbrev pub decreases-loop-s : goal.decreases-loop-s
 decreases-loop-s l = kinds * length l.flags - l.s

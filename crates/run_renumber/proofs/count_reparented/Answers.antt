@@ -11,7 +11,10 @@ pub is_reparented-requires-clause-i_in_bounds : goal.is_reparented-requires-clau
 is_reparented-requires-clause-i_in_bounds c = (search rules, search form-length)
 
 pub loop-i-preserved : goal.loop-i-preserved
-loop-i-preserved c = elim c.if-is_reparented.branch [ then-is_reparented w ↦ (search rules, search rules, search (rules, counted)) | else-is_reparented w ↦ (search rules, search rules, search (rules, passed)) ]
+loop-i-preserved c = elim c.if-is_reparented.branch [
+  | then-is_reparented w ↦ (search rules, search rules, search (rules, counted))
+  | else-is_reparented w ↦ (search rules, search rules, search (rules, passed))
+]
 
 pub returns : goal.returns
 returns c = search count-ends

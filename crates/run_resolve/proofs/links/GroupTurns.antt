@@ -132,7 +132,8 @@ module _ (l : Links) (long : length l.groups ≡ 1024) (few : l.count ≤ 1024) 
         (λ n q. ap (λ ks. in_group n (sort_links ks)) (ap (λ xs. links_of xs n) split ∙ other-links n q.0)) (each-up_from (suc g) m))
         ∙ after m f' refl)
       where
-        after : (m : ℕ) (f : ℕ → List GroupLink) → f ≡ (λ n. in_group n (sort_links (links_of rest n))) → flat f (up_from (suc g) m) ≡ flat (λ n. in_group n (sort_links (links_of rest n))) (up_from (g + 1) m)
+        after : (m : ℕ) (f : ℕ → List GroupLink) → f ≡ (λ n. in_group n (sort_links (links_of rest n)))
+            → flat f (up_from (suc g) m) ≡ flat (λ n. in_group n (sort_links (links_of rest n))) (up_from (g + 1) m)
         after m f e = rw (e, add-one)
 
 links_span : (l : Links) (ps : List ℕ) → map (row_at l.from.chains l.from.seqs l.to.chains l.to.seqs) ps ≡ map (λ p. (link_at l p).link) ps

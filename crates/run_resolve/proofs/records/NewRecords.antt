@@ -11,7 +11,7 @@ use lib.Seq.{get_or-take, length-take-le}
 use borrow.Author.Tests.{leb-true, ltb-true}
 use Rattle.lists.specs.Lists.{all, filter, up_from, Each}
 use Rattle.lists.proofs.Tests.{both, all-each}
-use Rattle.lists.proofs.Each.{each-imp, each-get_d}
+use Rattle.lists.proofs.Each.{each-imp, each-get_or}
 use Rattle.columns.specs.Building.{in_file}
 use Rattle.archive.specs.File
 use Rattle.run_renumber.specs.Numbers.{takes, numbers_from}
@@ -71,7 +71,7 @@ module _ (base : ℕ) (flags xs col : List ℕ) (c : ℕ) (h : c ≡ survive (fl
   kept-each : (P : ℕ → Type 0) → Each P xs → (j : ℕ) → j < c → P (get_or col j 0)
   kept-each P p j l =
       let q : Each P (take c col) = rw e (each_keep P (gone (flags_of base flags xs)) xs p) in
-      rw (get_or-take c col j 0 l) at (each-get_d P (take c col) j 0 q (omega (arith, kept-length)))
+      rw (get_or-take c col j 0 l) at (each-get_or P (take c col) j 0 q (omega (arith, kept-length)))
 
 -- ── records ──────────────────────────────────────────────────────────────────────────────────
 

@@ -9,7 +9,7 @@ use lib.Dec.{eqb}
 use lib.ListN.{length, get_or, take, length-map, get_or-map}
 use lib.Seq.{get_or-take}
 use Rattle.lists.specs.Lists.{up_from}
-use Rattle.lists.proofs.Each.{each-imp, each-get_d}
+use Rattle.lists.proofs.Each.{each-imp, each-get_or}
 use Rattle.lists.proofs.Flat.{length-up_from}
 use Rattle.lists.proofs.Filters.{each_below, map-places}
 use Rattle.lists.proofs.Pairs.{each-up_from}
@@ -41,24 +41,24 @@ places_from i es = keep es (up_from i (length es))
 
 place-from : (es : List Bool) (i j : ℕ) → j < length (places_from i es) → i ≤ get_or (places_from i es) j 0
 place-from es i j l =
-    each-get_d (λ k. i ≤ k) (places_from i es) j 0
+    each-get_or (λ k. i ≤ k) (places_from i es) j 0
     (each_keep (λ k. i ≤ k) es (up_from i (length es))
     (each-imp (λ k. (i ≤ k) × (k < i + length es)) (λ k. i ≤ k) (up_from i (length es)) (λ k b. b.0) (each-up_from i (length es)))) l
 
 place-below : (es : List Bool) (j : ℕ) → j < length (places_from 0 es) → get_or (places_from 0 es) j 0 < length es
 place-below es j l =
-    each-get_d (λ k. k < length es) (places_from 0 es) j 0 (each_keep (λ k. k < length es) es (up_from 0 (length es)) (each_below (λ k. k < length es) (length es) (λ k b. b))) l
+    each-get_or (λ k. k < length es) (places_from 0 es) j 0 (each_keep (λ k. k < length es) es (up_from 0 (length es)) (each_below (λ k. k < length es) (length es) (λ k b. b))) l
 
 -- a kept element stands in the column at the place that is kept
-keep-get_d : (es : List Bool) (xs : List ℕ) (i j : ℕ) → j < length (places_from i es) → get_or (keep es xs) j 0 ≡ get_or xs (get_or (places_from i es) j 0 - i) 0
+keep-get_or : (es : List Bool) (xs : List ℕ) (i j : ℕ) → j < length (places_from i es) → get_or (keep es xs) j 0 ≡ get_or xs (get_or (places_from i es) j 0 - i) 0
 unfolding keep up_from
-keep-get_d [] xs i j l = absurd (not-suc-le-zero l)
-keep-get_d (b ∷ es) [] i j l = refl
-keep-get_d (true ∷ es) (x ∷ xs) i j l = keep-get_d es xs (suc i) j l ∙ later x xs i (get_or (places_from (suc i) es) j 0) (place-from es (suc i) j l)
-keep-get_d (false ∷ es) (x ∷ xs) i zero l = ap (λ k. get_or (x ∷ xs) k 0) {x = 0} {y = i - i} (omega arith)
-keep-get_d (false ∷ es) (x ∷ xs) i (suc j) l =
+keep-get_or [] xs i j l = absurd (not-suc-le-zero l)
+keep-get_or (b ∷ es) [] i j l = refl
+keep-get_or (true ∷ es) (x ∷ xs) i j l = keep-get_or es xs (suc i) j l ∙ later x xs i (get_or (places_from (suc i) es) j 0) (place-from es (suc i) j l)
+keep-get_or (false ∷ es) (x ∷ xs) i zero l = ap (λ k. get_or (x ∷ xs) k 0) {x = 0} {y = i - i} (omega arith)
+keep-get_or (false ∷ es) (x ∷ xs) i (suc j) l =
     let m : j < length (places_from (suc i) es) = le_of_suc-le-suc l in
-    keep-get_d es xs (suc i) j m ∙ later x xs i (get_or (places_from (suc i) es) j 0) (place-from es (suc i) j m)
+    keep-get_or es xs (suc i) j m ∙ later x xs i (get_or (places_from (suc i) es) j 0) (place-from es (suc i) j m)
 
 module _ (fs : List ℕ) (n : ℕ) (e : n ≡ survive fs) (m : ℕ) (f : length fs ≡ m) where
   gone-length : length (gone fs) ≡ m
@@ -78,7 +78,7 @@ module _ (fs : List ℕ) (n : ℕ) (e : n ≡ survive fs) (m : ℕ) (f : length 
       let k : j < length (places_from 0 (gone fs)) = omega (arith, places-length) in
       let p = get_or (places_from 0 (gone fs)) j 0 in
       let b : p < m = omega (arith, place-below (gone fs) j k, gone-length) in
-      sym (get_or-take n col j 0 l) ∙ ap (λ ys. get_or ys j 0) h ∙ keep-get_d (gone fs) (take m xs) 0 j k
+      sym (get_or-take n col j 0 l) ∙ ap (λ ys. get_or ys j 0) h ∙ keep-get_or (gone fs) (take m xs) 0 j k
       ∙ ap (λ i. get_or (take m xs) i 0) {x = p - 0} {y = p} (omega arith) ∙ get_or-take m xs p 0 b
 
   -- records of the places that are kept

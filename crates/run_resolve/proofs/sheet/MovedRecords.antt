@@ -16,17 +16,17 @@ use Rattle.cleaning.specs.Survivors.{rank_in}
 use Rattle.run_compact.specs.Columns.{new_rows}
 use Rattle.run_state.specs.ByColumns.{unresolved_of, roots_of}
 
-get_d-map-in : (f : ℕ → ℕ) (l : List ℕ) (j : ℕ) → j < length l → get_or (map f l) j 0 ≡ f (get_or l j 0)
-get_d-map-in f [] j h = absurd (not-suc-le-zero h)
-get_d-map-in f (x ∷ l) zero h = refl
-get_d-map-in f (x ∷ l) (suc j) h = get_d-map-in f l j (le_of_suc-le-suc h)
+get_or-map-in : (f : ℕ → ℕ) (l : List ℕ) (j : ℕ) → j < length l → get_or (map f l) j 0 ≡ f (get_or l j 0)
+get_or-map-in f [] j h = absurd (not-suc-le-zero h)
+get_or-map-in f (x ∷ l) zero h = refl
+get_or-map-in f (x ∷ l) (suc j) h = get_or-map-in f l j (le_of_suc-le-suc h)
 
 moved_at : (n base from : ℕ) (ys xs ns : List ℕ) → take n ys ≡ new_rows base from ns (take n xs) → n ≤ length xs → (j : ℕ) → j < n
     → get_or ys j 0 ≡ get_or ns (get_or xs j 0 - base) 0 - from
 unfolding new_rows
 moved_at n base from ys xs ns h l j b =
     sym (get_or-take n ys j 0 b) ∙ ap (λ zs. get_or zs j 0) h
-    ∙ get_d-map-in (λ x. get_or ns (x - base) 0 - from) (take n xs) j (omega (arith, length-take-le n xs l))
+    ∙ get_or-map-in (λ x. get_or ns (x - base) 0 - from) (take n xs) j (omega (arith, length-take-le n xs l))
     ∙ ap (λ x. get_or ns (x - base) 0 - from) (get_or-take n xs j 0 b)
 
 -- the numbers of n rows are their ranks, from the start on

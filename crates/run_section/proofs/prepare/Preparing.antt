@@ -9,7 +9,7 @@ use lib.Dec.{leb}
 use lib.ListN.{length, length-take}
 use borrow.Author.Tests.{leb-true}
 use Rattle.lists.proofs.Tests.{both}
-use Rattle.lists.proofs.Each.{each-get_d}
+use Rattle.lists.proofs.Each.{each-get_or}
 use Rattle.columns.specs.Limits.{kinds, max_groups, max_subject, end64}
 use Rattle.columns.specs.Building.{slot_rules}
 use Rattle.archive_bytes.specs.Bytes.{several}
@@ -79,7 +79,7 @@ lists-once s w = none-there (slot_rules kinds s.start 0 (slots_in s.rows.count s
 
 narrow : {k n : ℕ} {column t : List ℕ} → Column 4 k n (2 ^ 32) column t → Narrow k n t
 narrow {k} {n} {t = t} c = record {
-  small = λ i h. rw (field_at 4 k n i t h) at (each-get_d (λ x. x < 2 ^ 32) (several 4 (field k) n t) i 0 c.narrow (omega (arith, length-several 4 (field k) n t)));
+  small = λ i h. rw (field_at 4 k n i t h) at (each-get_or (λ x. x < 2 ^ 32) (several 4 (field k) n t) i 0 c.narrow (omega (arith, length-several 4 (field k) n t)));
 }
 
 module _ (s : Sheet) (l : LongSheet s) (k : sheet_ok s ≡ true) (w : once_ok s ≡ true) where

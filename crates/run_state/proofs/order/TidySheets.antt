@@ -15,7 +15,7 @@ use Rattle.lists.proofs.Tests.{both, all-each}
 use Rattle.lists.proofs.Each.{each-imp}
 use Rattle.lists.proofs.Filters.{map-places}
 use Rattle.lists.proofs.From.{EachFrom}
-use Rattle.lists.proofs.Flat.{length-map-up_from, get_d-map-up_from}
+use Rattle.lists.proofs.Flat.{length-map-up_from, get_or-map-up_from}
 use Rattle.lists.proofs.Slices.{slice-none}
 use Rattle.columns.specs.Limits.{kinds, max_numbers}
 use Rattle.columns.specs.EdgeSet.{offsets_form, event_of}
@@ -70,7 +70,7 @@ unfolding label_at facts_at below
 first-label g r i h =
     let x = get_or r.groups i 0 in
     let z : 0 + x ≡ x = omega arith in
-    let f = get_d-map-up_from (facts_at g) 0 g.count x no_facts (ltb-true x g.count h) in
+    let f = get_or-map-up_from (facts_at g) 0 g.count x no_facts (ltb-true x g.count h) in
     rw (f, z) (there-where (has_cover g x) (record { chain = get_or r.chains i 0; seq = get_or r.seqs i 0 }))
 
 labels-fit : (g : Groups) (r : Rows) (i m : ℕ) → i + m ≤ length r.groups → all (below g.count) (slice i (i + m) r.groups) ≡ true

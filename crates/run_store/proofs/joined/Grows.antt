@@ -28,10 +28,10 @@ module _ {A : Type 0} where
   sets-at l i (v ∷ vs) zero d h k = rw add-zero (sets-before (set l i v) (suc i) vs i d (omega arith) ∙ get_or-set_same l i v d (omega arith))
   sets-at l i (v ∷ vs) (suc j) d h k = rw (add-suc, ← suc-add) (sets-at (set l i v) (suc i) vs j d (omega arith) (simp length-set (omega arith)))
 
-  pub get_d-map-in : {B : Type 0} (f : B → A) (l : List B) (j : ℕ) (e : A) (d : B) → j < length l → get_or (map f l) j e ≡ f (get_or l j d)
-  get_d-map-in f [] j e d h = absurd (omega arith)
-  get_d-map-in f (x ∷ l) zero e d h = refl
-  get_d-map-in f (x ∷ l) (suc j) e d h = get_d-map-in f l j e d (omega arith)
+  pub get_or-map-in : {B : Type 0} (f : B → A) (l : List B) (j : ℕ) (e : A) (d : B) → j < length l → get_or (map f l) j e ≡ f (get_or l j d)
+  get_or-map-in f [] j e d h = absurd (omega arith)
+  get_or-map-in f (x ∷ l) zero e d h = refl
+  get_or-map-in f (x ∷ l) (suc j) e d h = get_or-map-in f l j e d (omega arith)
 
   -- what stands at n places, and xs after them
   pub listed-grown : (f g : ℕ → A) (n : ℕ) (xs : List A) (d : A) → ((i : ℕ) → i < n → f i ≡ g i) → ((j : ℕ) → j < length xs → f (n + j) ≡ get_or xs j d)
@@ -44,7 +44,7 @@ module _ {A : Type 0} where
 -- one part of things as a column of numbers
 pub column-at : {A : Type 0} (f : A → ℕ) (l : List ℕ) (n : ℕ) (xs : List A) (j : ℕ) (d : A) → j < length xs → n + length xs ≤ length l
     → get_or (sets l n (map f xs)) (n + j) 0 ≡ f (get_or xs j d)
-column-at f l n xs j d h k = sets-at l n (map f xs) j 0 (rw (length-map xs f) h) (rw (length-map xs f) k) ∙ get_d-map-in f xs j 0 d h
+column-at f l n xs j d h k = sets-at l n (map f xs) j 0 (rw (length-map xs f) h) (rw (length-map xs f) k) ∙ get_or-map-in f xs j 0 d h
 
 pub flag-back : (b : Bool) → not (eqb (bit b) 0) ≡ b
 flag-back true = refl

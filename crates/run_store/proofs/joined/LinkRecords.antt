@@ -11,7 +11,7 @@ use Rattle.cleaning.specs.Sheet.{GroupLink}
 use Rattle.run_state.specs.declared.Links.{Links}
 use Rattle.run_state.specs.View.{listed, link_at}
 use Rattle.run_store.specs.parts.Grown.{links_with}
-use Rattle.run_store.proofs.joined.Grows.{sets-before, sets-at, get_d-map-in, listed-grown, column-at}
+use Rattle.run_store.proofs.joined.Grows.{sets-before, sets-at, get_or-map-in, listed-grown, column-at}
 
 abbrev no_link : Link
 no_link = record { from_chain = 0; from_seq = 0; to_chain = 0; to_seq = 0 }
@@ -74,6 +74,6 @@ module _ (l : Links) (group : ℕ) (ds bs cs es : List ℕ) (e : length bs ≡ l
         sets-at l.from.seqs l.count bs j 0 (rw e q) (rw e r.seqs),
         sets-at l.to.chains l.count cs j 0 (rw f q) (rw f r.to_chains),
         sets-at l.to.seqs l.count es j 0 (rw g q) (rw g r.to_seqs),
-        get_d-map-in in_group more j (in_group no_link) no_link k,
+        get_or-map-in in_group more j (in_group no_link) no_link k,
         links_span (sums 0 ds) bs cs es j (e ∙ sym (length-sums 0 ds)) (f ∙ sym (length-sums 0 ds)) (g ∙ sym (length-sums 0 ds)) u,
       ))

@@ -11,8 +11,8 @@ use lib.Seq.{length-take-le, get_or-take}
 use borrow.Author.Tests.{leb-true, leb-false, ltb-true}
 use Rattle.lists.specs.Lists.{all}
 use Rattle.lists.proofs.Tests.{tested, both, all-each}
-use Rattle.lists.proofs.Each.{each-imp, each-get_d}
-use Rattle.lists.proofs.Flat.{length-map-up_from, get_d-map-up_from}
+use Rattle.lists.proofs.Each.{each-imp, each-get_or}
+use Rattle.lists.proofs.Flat.{length-map-up_from, get_or-map-up_from}
 use Rattle.columns.specs.Limits.{kinds, max_subject}
 use Rattle.columns.specs.Building.{subject_ok}
 use Rattle.archive.specs.File.{File}
@@ -67,7 +67,7 @@ module _ (h : Held) (f : File) (flags : h.sheet.rows.count ≤ length h.erased) 
   unfolding held_in sheet_in source_of facts_at
   cover_is l =
       let g = h.sheet.groups in
-      let at = get_d-map-up_from (facts_at g) 0 g.count f.group no_facts l in
+      let at = get_or-map-up_from (facts_at g) 0 g.count f.group no_facts l in
       ap (has_cover g) (sym (zero-add f.group)) ∙ sym (ap (λ x. x.covered) at) ∙ q.covered (omega (arith, groups-held)) ∙ there-read f.cover
 
   -- every row that is held has a group that is there
@@ -79,7 +79,7 @@ module _ (h : Held) (f : File) (flags : h.sheet.rows.count ≤ length h.erased) 
       let n = h.sheet.rows.count in
       let gs = h.sheet.rows.groups in
       let m = length (held_in h).sheet.groups in
-      let t = each-get_d (λ g. ltb g m ≡ true) (take n gs) i 0 (all-each (λ g. ltb g m) (take n gs) e) (omega (arith, length-take-le n gs long)) in
+      let t = each-get_or (λ g. ltb g m ≡ true) (take n gs) i 0 (all-each (λ g. ltb g m) (take n gs) e) (omega (arith, length-take-le n gs long)) in
       omega (arith, ltb-true (get_or (take n gs) i 0) m t, get_or-take n gs i 0 l, groups-held)
 
   -- what the rules of the file say

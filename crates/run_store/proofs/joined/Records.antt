@@ -11,7 +11,7 @@ use Rattle.run_state.specs.declared.Roots.{Roots}
 use Rattle.run_state.specs.View.{flagged, listed, unresolved_at, root_at}
 use Rattle.run_store.specs.grow.Column.{bit}
 use Rattle.run_store.specs.parts.Grown.{unresolved_with, roots_with}
-use Rattle.run_store.proofs.joined.Grows.{sets-take, sets-before, get_d-map-in, listed-grown, column-at, flag-back}
+use Rattle.run_store.proofs.joined.Grows.{sets-take, sets-before, get_or-map-in, listed-grown, column-at, flag-back}
 
 -- ── columns of rows ──────────────────────────────────────────────────────────────────────────
 
@@ -62,4 +62,4 @@ module _ (r : Roots) (n : ℕ) (rs : List File.Root) (a : r.count + length rs �
       ∙ listed-grown (root_at (roots_with r n rs)) (root_at r) r.count (map more rs) no_root
       (λ i h. rw (sets-before r.rows r.count (map (λ x. n + x.row) rs) i 0 h, sets-before r.handles r.count (map (λ x. x.handle) rs) i 0 h))
       (λ j h. let k : j < length rs = rw (length-map rs more) at h in
-      rw (column-at (λ x. n + x.row) r.rows r.count rs j no_root k a, column-at (λ x. x.handle) r.handles r.count rs j no_root k b, get_d-map-in more rs j no_root no_root k))
+      rw (column-at (λ x. n + x.row) r.rows r.count rs j no_root k a, column-at (λ x. x.handle) r.handles r.count rs j no_root k b, get_or-map-in more rs j no_root no_root k))

@@ -8,7 +8,7 @@ use native.Mathlib.Nat.{zero-add}
 use native.Mathlib.Omega.{arith}
 use lib.ListN.{length, get_or, get_elem?}
 use Rattle.lists.specs.Lists.{up_from}
-use Rattle.lists.proofs.Flat.{length-map-up_from, get_d-map-up_from}
+use Rattle.lists.proofs.Flat.{length-map-up_from, get_or-map-up_from}
 use Rattle.columns.specs.Reading.{Label, labels_of}
 use Rattle.archive.specs.File.{Row, CoverColumns}
 use Rattle.cleaning.specs.Source.{cover_read, is_there}
@@ -45,7 +45,7 @@ module _ (g g' : Groups) (r : Rows) (group : ℕ) (rs : List Row) (old : (i : �
       let len : length (map f (up_from 0 (length rs))) ≡ length rs = length-map-up_from f 0 (length rs) in
       ap (λ i. listed (label_at g' r') (r.count + i)) (sym len)
       ∙ listed-grown (label_at g' r') (label_at g r) r.count (map f (up_from 0 (length rs))) none h
-      (λ j l. let q : j < length rs = rw len at l in k j q ∙ sym (get_d-map-up_from f 0 (length rs) j none q ∙ ap f (zero-add j)))
+      (λ j l. let q : j < length rs = rw len at l in k j q ∙ sym (get_or-map-up_from f 0 (length rs) j none q ∙ ap f (zero-add j)))
 
   group-room : r.count + length rs ≤ length r.groups
   group-room = rw lg room

@@ -8,7 +8,8 @@ use Rattle.archive_store.proofs.sections.store_list.Given as goal
 
 abbrev pub invariant-loop-j : goal.invariant-loop-j
 invariant-loop-j l =
-    (l.b ≤ length l.targets) × Storing l.initial.out l.at (delta_bytes (deltas_within l.low l.high l.event (get_or (cut l.offsets l.targets) l.s []))) l.out l.p (delta_bytes (deltas_within l.low l.high l.event (slice l.j l.b l.targets)))
+    (l.b ≤ length l.targets) × Storing l.initial.out l.at (delta_bytes (deltas_within l.low l.high l.event (get_or (cut l.offsets l.targets) l.s []))) l.out l.p
+    (delta_bytes (deltas_within l.low l.high l.event (slice l.j l.b l.targets)))
 
 abbrev pub decreases-loop-j : goal.decreases-loop-j
 decreases-loop-j l = l.b - l.j

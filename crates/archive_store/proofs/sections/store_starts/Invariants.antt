@@ -10,7 +10,8 @@ abbrev pub invariant-loop-q : goal.invariant-loop-q
 invariant-loop-q l =
     (l.q ≤ 2 * l.n)
     × (length (joined (rows_within kinds l.low l.high l.from l.n l.offsets l.targets)) ≡ l.sum + length (joined (drop l.q (rows_within kinds l.low l.high l.from l.n l.offsets l.targets))))
-    × Storing l.initial.out l.at (column_bytes 8 (starts 0 (rows_within kinds l.low l.high l.from l.n l.offsets l.targets))) l.out l.p (column_bytes 8 (starts l.sum (drop l.q (rows_within kinds l.low l.high l.from l.n l.offsets l.targets))))
+    × Storing l.initial.out l.at (column_bytes 8 (starts 0 (rows_within kinds l.low l.high l.from l.n l.offsets l.targets))) l.out l.p
+    (column_bytes 8 (starts l.sum (drop l.q (rows_within kinds l.low l.high l.from l.n l.offsets l.targets))))
 
 abbrev pub decreases-loop-q : goal.decreases-loop-q
 decreases-loop-q l = 2 * l.n - l.q

@@ -4,7 +4,10 @@ use Rattle.archive_write.proofs.references.count_kind.Goals as goal
 use Rattle.archive_write.proofs.references.count_kind.Goals.{then-kinds-i, else-kinds-i}
 
 pub loop-i-preserved : goal.loop-i-preserved
-loop-i-preserved c = elim c.if-kinds-i.branch [ then-kinds-i w ↦ (search rules, search rules, search rules, search (rules, one-counted)) | else-kinds-i w ↦ (search rules, search rules, search rules, search (rules, one-passed)) ]
+loop-i-preserved c = elim c.if-kinds-i.branch [
+  | then-kinds-i w ↦ (search rules, search rules, search rules, search (rules, one-counted))
+  | else-kinds-i w ↦ (search rules, search rules, search rules, search (rules, one-passed))
+]
 
 pub returns : goal.returns
 returns c = search all-counted

@@ -14,7 +14,11 @@ bounds-offs-rows c = let late = c.late_rules-r.ensures in
     search rules
 
 pub write_sets-requires-clause-ready : goal.write_sets-requires-clause-ready
-write_sets-requires-clause-ready c = let late = c.late_rules-r.ensures in let kept = c.in-Kept.is in let count = c.index-m.ensures in ready _ _ _ _ _ _ _ _ _ late.value kept _ _ late.arranged _ count c.requires.early
+write_sets-requires-clause-ready c =
+    let late = c.late_rules-r.ensures in
+    let kept = c.in-Kept.is in
+    let count = c.index-m.ensures in
+    ready _ _ _ _ _ _ _ _ _ late.value kept _ _ late.arranged _ count c.requires.early
 
 pub write_sets-requires-clause-in_bounds : goal.write_sets-requires-clause-in_bounds
 write_sets-requires-clause-in_bounds c = let work = c.requires.in_bounds in (omega (arith, work.0, c.offs-1.given), omega (arith, work.1.0, c.list-1.given))
@@ -44,7 +48,12 @@ pub returns-in-Broken-clause-id_after : goal.returns-in-Broken-clause-id_after
 returns-in-Broken-clause-id_after c = search deltas-as-were
 
 pub returns-in-Kept-clause-value : goal.returns-in-Kept-clause-value
-returns-in-Kept-clause-value c = let late = c.late_rules-r.ensures in let kept = c.in-Kept.is in let count = c.index-m.ensures in let sets = c.write_sets.ensures in late-counted _ _ _ _ _ _ _ _ _ late.value kept _ _ late.arranged _ (count) _ sets.value
+returns-in-Kept-clause-value c =
+    let late = c.late_rules-r.ensures in
+    let kept = c.in-Kept.is in
+    let count = c.index-m.ensures in
+    let sets = c.write_sets.ensures in
+    late-counted _ _ _ _ _ _ _ _ _ late.value kept _ _ late.arranged _ (count) _ sets.value
 
 pub returns-in-Kept-clause-fo_after : goal.returns-in-Kept-clause-fo_after
 returns-in-Kept-clause-fo_after c = search forward_offsets
@@ -59,7 +68,17 @@ pub returns-in-Kept-clause-rd_after : goal.returns-in-Kept-clause-rd_after
 returns-in-Kept-clause-rd_after c = search reverse_deltas
 
 pub returns-in-Kept-clause-io_after : goal.returns-in-Kept-clause-io_after
-returns-in-Kept-clause-io_after c = let late = c.late_rules-r.ensures in let kept = c.in-Kept.is in let count = c.index-m.ensures in let sets = c.write_sets.ensures in inbound_offsets _ _ _ _ _ _ _ _ _ late.value kept _ _ late.arranged _ (count) _ _ sets.io_after
+returns-in-Kept-clause-io_after c =
+    let late = c.late_rules-r.ensures in
+    let kept = c.in-Kept.is in
+    let count = c.index-m.ensures in
+    let sets = c.write_sets.ensures in
+    inbound_offsets _ _ _ _ _ _ _ _ _ late.value kept _ _ late.arranged _ (count) _ _ sets.io_after
 
 pub returns-in-Kept-clause-id_after : goal.returns-in-Kept-clause-id_after
-returns-in-Kept-clause-id_after c = let late = c.late_rules-r.ensures in let kept = c.in-Kept.is in let count = c.index-m.ensures in let sets = c.write_sets.ensures in inbound_deltas _ _ _ _ _ _ _ _ _ late.value kept _ _ late.arranged _ (count) _ _ sets.id_after
+returns-in-Kept-clause-id_after c =
+    let late = c.late_rules-r.ensures in
+    let kept = c.in-Kept.is in
+    let count = c.index-m.ensures in
+    let sets = c.write_sets.ensures in
+    inbound_deltas _ _ _ _ _ _ _ _ _ late.value kept _ _ late.arranged _ (count) _ _ sets.id_after

@@ -12,7 +12,9 @@ pub table_rules-requires-clause-rows_bound : goal.table_rules-requires-clause-ro
 table_rules-requires-clause-rows_bound c = (search rules, search rules)
 
 pub table_rules-requires-clause-rows_in_bounds : goal.table_rules-requires-clause-rows_in_bounds
-table_rules-requires-clause-rows_in_bounds c = let t = c.arrange-m.ensures in (arrived-long _ _ _ _ _ _ t.value _ _ t.offs_after _ _ t.out_after, arrived-many _ _ _ _ _ _ t.value _ _ t.offs_after _ _ t.out_after)
+table_rules-requires-clause-rows_in_bounds c =
+    let t = c.arrange-m.ensures in
+    (arrived-long _ _ _ _ _ _ t.value _ _ t.offs_after _ _ t.out_after, arrived-many _ _ _ _ _ _ t.value _ _ t.offs_after _ _ t.out_after)
 
 pub table_rules-requires-clause-offs_value : goal.table_rules-requires-clause-offs_value
 table_rules-requires-clause-offs_value c = let t = c.arrange-m.ensures in lent-form _ _ _ _ _ _ t.value _ _ t.offs_after _ _ t.out_after

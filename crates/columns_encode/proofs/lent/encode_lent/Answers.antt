@@ -5,7 +5,11 @@ pub encode_kept-requires-clause-early : goal.encode_kept-requires-clause-early
 encode_kept-requires-clause-early c = let early = c.early_rules-r.ensures in let kept = c.in-Kept.is in early-given _ _ _ _ _ _ _ _ _ _ _ _ _ _ _ early kept
 
 pub encode_kept-requires-clause-rooms : goal.encode_kept-requires-clause-rooms
-encode_kept-requires-clause-rooms c = let early = c.early_rules-r.ensures in let kept = c.in-Kept.is in let tight = c.are_sets_short-tight.ensures in rooms-given _ _ _ _ _ _ _ _ _ _ _ _ _ _ _ early kept _ _ _ _ _ _ tight
+encode_kept-requires-clause-rooms c =
+    let early = c.early_rules-r.ensures in
+    let kept = c.in-Kept.is in
+    let tight = c.are_sets_short-tight.ensures in
+    rooms-given _ _ _ _ _ _ _ _ _ _ _ _ _ _ _ early kept _ _ _ _ _ _ tight
 
 pub encode_kept-requires-clause-in_bounds : goal.encode_kept-requires-clause-in_bounds
 encode_kept-requires-clause-in_bounds c = c.requires

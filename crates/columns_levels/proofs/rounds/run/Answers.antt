@@ -41,13 +41,17 @@ pub advance-s-requires-clause-seen : goal.advance-s-requires-clause-seen
 advance-s-requires-clause-seen c = c.loop-lo.invariant.12
 
 pub returns-then-e-m : goal.returns-then-e-m
-returns-then-e-m c = run-stop _ _ _ _ c.loop-lo.lo _ _ _ _ _ _ c.loop-lo.invariant.14 c.advance-s.ensures.laid c.if-e-m.true c.loop-lo.invariant.2 _ _ _ _ _ _ _ c.loop-lo.invariant.11 c.loop-lo.invariant.3 c.loop-lo.invariant.7 c.loop-lo.invariant.6 c.requires.keys_in_bounds.1.1 c.loop-lo.invariant.13
+returns-then-e-m c = run-stop _ _ _ _ c.loop-lo.lo _ _ _ _ _ _ c.loop-lo.invariant.14 c.advance-s.ensures.laid c.if-e-m.true
+    c.loop-lo.invariant.2 _ _ _ _ _ _ _ c.loop-lo.invariant.11 c.loop-lo.invariant.3 c.loop-lo.invariant.7 c.loop-lo.invariant.6 c.requires.keys_in_bounds.1.1 c.loop-lo.invariant.13
 
 pub overflow_sub-e : goal.overflow_sub-e
 overflow_sub-e c = search (rules, end-from)
 
 pub bounds-ends-k : goal.bounds-ends-k
-bounds-ends-k c = let u = ends-room c.loop-lo.k _ _ _ _ _ c.loop-lo.ends _ _ _ _ _ _ c.advance-s.ensures.laid c.if-e-m.false c.loop-lo.invariant.2 c.advance-s.ensures.table_2 c.advance-s.ensures.end_le_n.0 (search rules) c.loop-lo.invariant.6 c.requires.keys_in_bounds.1.1 in search rules
+bounds-ends-k c =
+    let u = ends-room c.loop-lo.k _ _ _ _ _ c.loop-lo.ends _ _ _ _ _ _ c.advance-s.ensures.laid c.if-e-m.false c.loop-lo.invariant.2
+    c.advance-s.ensures.table_2 c.advance-s.ensures.end_le_n.0 (search rules) c.loop-lo.invariant.6 c.requires.keys_in_bounds.1.1 in
+    search rules
 
 pub overflow_sub-left : goal.overflow_sub-left
 overflow_sub-left c = laid_more _ _ _ _ _ c.advance-s.ensures.laid
@@ -77,7 +81,9 @@ loop-lo-preserved c = (
   c.advance-s.ensures.table_2,
   c.advance-s.ensures.seen_2,
   ends-past c.loop-lo.k c.wide.result c.loop-lo.ends c.args.ends.now c.loop-lo.invariant.13,
-  run-turn _ _ _ _ c.loop-lo.lo _ _ _ _ _ _ c.loop-lo.invariant.14 c.advance-s.ensures.laid c.if-e-m.false c.advance-s.ensures.end_le_n.1 c.loop-lo.invariant.4 c.loop-lo.invariant.2 _ c.wide.ensures _ _ _ _ _ _ c.advance-s.ensures.table_2 c.advance-s.ensures.end_le_n.0 (search rules) c.loop-lo.invariant.6 c.requires.keys_in_bounds.1.1,
+  run-turn _ _ _ _ c.loop-lo.lo _ _ _ _ _ _ c.loop-lo.invariant.14 c.advance-s.ensures.laid c.if-e-m.false c.advance-s.ensures.end_le_n.1
+      c.loop-lo.invariant.4 c.loop-lo.invariant.2 _ c.wide.ensures _ _ _ _ _ _ c.advance-s.ensures.table_2 c.advance-s.ensures.end_le_n.0
+      (search rules) c.loop-lo.invariant.6 c.requires.keys_in_bounds.1.1,
 )
 
 pub returns : goal.returns

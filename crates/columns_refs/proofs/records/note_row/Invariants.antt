@@ -6,7 +6,8 @@ use Rattle.columns_refs.proofs.records.note_row.Given as goal
 
 abbrev pub invariant-loop-i : goal.invariant-loop-i
 invariant-loop-i l =
-    Noting l.initial.children l.initial.ukinds l.initial.handles l.at (records_from l.event l.from (slice l.from l.to (references_of l.kinds l.spaces l.targets l.known l.numbers))) l.children l.ukinds l.handles l.p
+    Noting l.initial.children l.initial.ukinds l.initial.handles l.at
+    (records_from l.event l.from (slice l.from l.to (references_of l.kinds l.spaces l.targets l.known l.numbers))) l.children l.ukinds l.handles l.p
     (records_from l.event l.i (slice l.i l.to (references_of l.kinds l.spaces l.targets l.known l.numbers)))
 
 abbrev pub decreases-loop-i : goal.decreases-loop-i

@@ -8,7 +8,8 @@ use Rattle.columns_refs.proofs.records.note_rows.Given as goal
 abbrev pub invariant-loop-r : goal.invariant-loop-r
 invariant-loop-r l =
     (l.r ≤ l.rows)
-    × Noting l.initial.children l.initial.ukinds l.initial.handles 0 (unresolved_from l.first 0 (cut l.starts (references_of l.kinds l.spaces l.targets l.known l.numbers))) l.children l.ukinds l.handles l.p
+    × Noting l.initial.children l.initial.ukinds l.initial.handles 0
+    (unresolved_from l.first 0 (cut l.starts (references_of l.kinds l.spaces l.targets l.known l.numbers))) l.children l.ukinds l.handles l.p
     (unresolved_from (l.first + l.r) (get_or l.starts l.r 0) (drop l.r (cut l.starts (references_of l.kinds l.spaces l.targets l.known l.numbers))))
 
 abbrev pub decreases-loop-r : goal.decreases-loop-r

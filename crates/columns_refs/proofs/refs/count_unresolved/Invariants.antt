@@ -8,7 +8,8 @@ use Rattle.columns_refs.proofs.refs.count_unresolved.Given as goal
 abbrev pub invariant-loop-i : goal.invariant-loop-i
 invariant-loop-i l =
     (l.i ≤ l.n) × (l.count ≤ l.i)
-    × (length (filter is_unresolved (references_of l.kinds l.spaces l.targets l.known l.numbers)) ≡ l.count + length (filter is_unresolved (drop l.i (references_of l.kinds l.spaces l.targets l.known l.numbers))))
+    × (length (filter is_unresolved (references_of l.kinds l.spaces l.targets l.known l.numbers))
+    ≡ l.count + length (filter is_unresolved (drop l.i (references_of l.kinds l.spaces l.targets l.known l.numbers))))
 
 abbrev pub decreases-loop-i : goal.decreases-loop-i
 decreases-loop-i l = l.n - l.i

@@ -9,13 +9,19 @@ pub turn-m-requires-clause-rows_in_bounds : goal.turn-m-requires-clause-rows_in_
 turn-m-requires-clause-rows_in_bounds c = (search rules, search rules)
 
 pub write_table-requires-clause-rows_in_bounds : goal.write_table-requires-clause-rows_in_bounds
-write_table-requires-clause-rows_in_bounds c = let t = c.turn-m.ensures in let given = c.requires.turnable in (turned-offsets _ _ _ _ _ _ given _ t.value _ _ t.offs_after _ _ t.out_after, turned-many _ _ _ _ _ _ given _ t.value _ _ t.offs_after _ _ t.out_after)
+write_table-requires-clause-rows_in_bounds c =
+    let t = c.turn-m.ensures in
+    let given = c.requires.turnable in
+    (turned-offsets _ _ _ _ _ _ given _ t.value _ _ t.offs_after _ _ t.out_after, turned-many _ _ _ _ _ _ given _ t.value _ _ t.offs_after _ _ t.out_after)
 
 pub write_table-requires-clause-reached : goal.write_table-requires-clause-reached
 write_table-requires-clause-reached c = let t = c.turn-m.ensures in let given = c.requires.turnable in turned-reached _ _ _ _ _ _ given _ t.value _ _ t.offs_after _ _ t.out_after
 
 pub write_table-requires-clause-n_in_bounds : goal.write_table-requires-clause-n_in_bounds
-write_table-requires-clause-n_in_bounds c = let t = c.turn-m.ensures in let given = c.requires.turnable in (search rules, turned-room _ _ _ _ _ _ given _ t.value _ _ t.offs_after _ _ t.out_after _ t.upper_bound (search rules))
+write_table-requires-clause-n_in_bounds c =
+    let t = c.turn-m.ensures in
+    let given = c.requires.turnable in
+    (search rules, turned-room _ _ _ _ _ _ given _ t.value _ _ t.offs_after _ _ t.out_after _ t.upper_bound (search rules))
 
 pub returns-clause-value : goal.returns-clause-value
 returns-clause-value c = search turned-counted

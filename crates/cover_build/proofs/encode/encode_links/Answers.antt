@@ -35,4 +35,5 @@ pub returns-clause-value : goal.returns-clause-value
 returns-clause-value c = encode-told _ _ _ _ _ c.four_over.ensures c.if-four_over.false c.four_short.ensures c.if-four_short.false c.are_even.ensures (ap not c.if-not-are_even.false)
 
 pub returns-clause-d_after : goal.returns-clause-d_after
-returns-clause-d_after c = encode-written _ _ _ _ _ c.four_over.ensures c.if-four_over.false c.four_short.ensures c.if-four_short.false c.are_even.ensures _ _ c.write_stored.ensures (ap not c.if-not-are_even.false)
+returns-clause-d_after c = encode-written _ _ _ _ _ c.four_over.ensures c.if-four_over.false c.four_short.ensures c.if-four_short.false c.are_even.ensures _ _ c.write_stored.ensures
+    (ap not c.if-not-are_even.false)

@@ -8,7 +8,8 @@ invariant-loop-i l =
     (l.i ≤ length l.keys) × (l.at < l.i) × (length l.ids ≡ length l.initial.ids)
     × (length l.minima ≡ length l.initial.minima) × (length l.maxima ≡ length l.initial.maxima)
     × (length (runs l.start l.start (drop 1 l.keys)) ≡ l.at + length (runs l.first l.last (drop l.i l.keys)))
-    × (put_ranges 0 (runs l.start l.start (drop 1 l.keys)) (range_columns l.initial.ids l.initial.minima l.initial.maxima) ≡ put_ranges l.at (runs l.first l.last (drop l.i l.keys)) (range_columns l.ids l.minima l.maxima))
+    × (put_ranges 0 (runs l.start l.start (drop 1 l.keys)) (range_columns l.initial.ids l.initial.minima l.initial.maxima)
+    ≡ put_ranges l.at (runs l.first l.last (drop l.i l.keys)) (range_columns l.ids l.minima l.maxima))
 
 abbrev pub decreases-loop-i : goal.decreases-loop-i
 decreases-loop-i l = length l.keys - l.i

@@ -14,7 +14,8 @@ use Rattle.run_resolve.proofs.links.sort_into.Given as goal
 abbrev pub invariant-loop-g : goal.invariant-loop-g
 invariant-loop-g l =
     (l.g ≤ l.count) × (l.i ≤ l.n) × (l.k ≤ l.i) × (level_above l.g (slice l.i l.n l.groups) ≡ true)
-    × (sort_groups l.count (listed (link_at (links_of l.n l.groups l.a l.b l.c l.d)) l.n) ≡ listed (link_at (links_of l.k l.out l.x l.y l.z l.w)) l.k ++ groups_left (links_of l.n l.groups l.a l.b l.c l.d) l.count l.i l.g)
+    × (sort_groups l.count (listed (link_at (links_of l.n l.groups l.a l.b l.c l.d)) l.n)
+    ≡ listed (link_at (links_of l.k l.out l.x l.y l.z l.w)) l.k ++ groups_left (links_of l.n l.groups l.a l.b l.c l.d) l.count l.i l.g)
 
 abbrev pub decreases-loop-g : goal.decreases-loop-g
 decreases-loop-g l = l.count - l.g

@@ -10,7 +10,8 @@ use Rattle.columns_rules.proofs.spans.reach.slots_fit.Given as goal
 
 abbrev pub invariant-loop-q : goal.invariant-loop-q
 invariant-loop-q l =
-    (l.q ≤ 2 * l.n) × (deltas_fit kinds (l.first + l.from) (part (2 * l.from) (2 * l.n) (cut l.offsets l.targets)) ≡ slots_fit (l.first + l.from) l.q (drop l.q (part (2 * l.from) (2 * l.n) (cut l.offsets l.targets))))
+    (l.q ≤ 2 * l.n) × (deltas_fit kinds (l.first + l.from) (part (2 * l.from) (2 * l.n) (cut l.offsets l.targets))
+    ≡ slots_fit (l.first + l.from) l.q (drop l.q (part (2 * l.from) (2 * l.n) (cut l.offsets l.targets))))
 
 abbrev pub decreases-loop-q : goal.decreases-loop-q
 decreases-loop-q l = 2 * l.n - l.q
