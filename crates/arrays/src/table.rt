@@ -7,19 +7,12 @@ ghost use Rattle.arrays.specs.table.Table.{last_place, newest, Down, Table, add_
 
 use crate::index;
 
-fn wide(x: usize) -> u64
-    ensures { result ≡ x }
-{
-    x as u64
-}
-
 // The bucket of x among b.
 fn bucket(x: u64, b: usize) -> usize
     requires { 0 < b }
     ensures { (result < b) × (result ≡ x % b) }
 {
-    let c = wide(b);
-    index(x % c)
+    index(x % b as u64)
 }
 
 // The first place of x from the place `top` down its bucket.
@@ -28,6 +21,7 @@ fn follow(keys: &[u64], links: &[u64], n: usize, top: usize, x: u64) -> usize
     requires down { Down links.now n }
     ensures { result ≡ newest top keys.now links.now top x }
 {
+    // A `while`, since the links say which place comes next.
     let mut i = top;
     while 0 < i {
         let j = i - 1;
@@ -54,8 +48,7 @@ pub fn find(keys: &[u64], links: &[u64], heads: &[u64], n: usize, x: u64) -> boo
     requires { Table keys.now links.now heads.now n }
     ensures { result ≡ mem x (take n keys.now) }
 {
-    let place = last(keys, links, heads, n, x);
-    place != 0
+    last(keys, links, heads, n, x) != 0
 }
 
 // Makes x the last key, also where it is one.
@@ -68,7 +61,7 @@ pub fn put(keys: &mut [u64], links: &mut [u64], heads: &mut [u64], n: usize, x: 
     let h = bucket(x, heads.len());
     keys[n] = x;
     links[n] = heads[h];
-    heads[h] = wide(n + 1);
+    heads[h] = (n + 1) as u64;
 }
 
 // Makes x the last key, unless it is one or there is no room.
@@ -103,10 +96,8 @@ pub fn add_list(
     ensures keys { Keys keys.old keys.new n result (slice a b src.now) }
 {
     let mut m = n;
-    let mut i = a;
-    while i < b {
+    for i in a..b {
         m = add(keys, links, heads, m, src[i]);
-        i += 1;
     }
     m
 }

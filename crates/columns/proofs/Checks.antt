@@ -1,4 +1,5 @@
 -- Rules in order and what is answered of them, and what columns whose rules are kept are.
+use Rattle.std.specs.Prelude.{Err, Ok, Result}
 use mathlib.Core.Path.{◌≡◌, refl, sym, ◌∙◌, ap}
 use mathlib.Core.Bool.{Bool, true, false, ◌&&◌, not, or-false}
 use mathlib.Core.Logic.{inl, inr}
@@ -23,9 +24,6 @@ use Rattle.columns.specs.Reading.{sound_from, slots_of, set_rules, set_lengths, 
 use Rattle.columns.specs.Questions.{list_of}
 use Rattle.columns.specs.Answers.{columns_of, room, limits_of, lent_rules, both_rules, ruling, in_one, counted_of, written_over}
 use Rattle.columns.specs.Readable.{Readable, Edged}
-use Rattle.columns.specs.declared.refusal.Ruling.{Ruling}
-use Rattle.columns.specs.declared.refusal.Ruling.TheVariants.{Kept, Broken}
-use Rattle.columns.specs.declared.refusal.Counted.TheVariants.{Entries, Refused}
 use Rattle.columns.specs.declared.refusal.Refusal.{Refusal}
 use Rattle.columns.specs.declared.refusal.Refusal.TheVariants.{OffsetsForm, DeltaCount, TargetSide, OverRecords, OverNumbers, SliceShort}
 use Rattle.columns.proofs.FirstBroken.{each_none, not-refused, passed}
@@ -47,12 +45,12 @@ unfolding any
 any-kept p x xs e = or-is-false (p x) (any p xs) e
 
 -- rules in two parts: those of the second count where the first are kept
-module _ (k : Ruling) (o : Option Refusal) (os : List (Option Refusal)) (e : k ≡ ruling o) where
-  pub then-rest : k ≡ Kept → (q : Ruling) → q ≡ ruling (first_of os) → q ≡ ruling (first_of (o ∷ os))
+module _ (k : Result (Unit {0}) Refusal) (o : Option Refusal) (os : List (Option Refusal)) (e : k ≡ ruling o) where
+  pub then-rest : k ≡ Ok tt → (q : Result (Unit {0}) Refusal) → q ≡ ruling (first_of os) → q ≡ ruling (first_of (o ∷ os))
   unfolding first_of
   then-rest h q g = rw (told-kept o e h) g
 
-  pub then-broken : (why : Refusal) → k ≡ Broken why → Broken why ≡ ruling (first_of (o ∷ os))
+  pub then-broken : (why : Refusal) → k ≡ Err why → Err why ≡ ruling (first_of (o ∷ os))
   unfolding first_of
   then-broken why h = rw (told o e h)
 
@@ -75,49 +73,50 @@ module _ (a b c d : ℕ) (r : Bool) (e : r ≡ any (ltb max_numbers) (a ∷ b �
   over-back h q f = rw (any_append (ltb max_numbers) (a ∷ b ∷ []) (c ∷ d ∷ []), sym e ∙ h) f
 
 module _ (rows : ℕ) (over short : Bool) where
-  pub many-rows : 1024 < rows → Broken OverRecords ≡ ruling (limits_of rows over short)
+  pub many-rows : 1024 < rows → Err OverRecords ≡ ruling (limits_of rows over short)
   unfolding limits_of first_of any
   many-rows h = rw (lt-ltb 1024 rows h)
 
   module _ (h : rows ≤ 1024) where
-    pub long-column : over ≡ true → Broken OverNumbers ≡ ruling (limits_of rows over short)
+    pub long-column : over ≡ true → Err OverNumbers ≡ ruling (limits_of rows over short)
     unfolding limits_of first_of any
     long-column f = rw (le-ltb 1024 rows h, f)
 
     module _ (f : over ≡ false) where
-      pub short-slice : short ≡ true → Broken SliceShort ≡ ruling (limits_of rows over short)
+      pub short-slice : short ≡ true → Err SliceShort ≡ ruling (limits_of rows over short)
       unfolding limits_of first_of any
       short-slice g = rw (le-ltb 1024 rows h, f, g)
 
-      pub in_limits : short ≡ false → Kept ≡ ruling (limits_of rows over short)
+      pub in_limits : short ≡ false → (Ok tt) ≡ ruling (limits_of rows over short)
       unfolding limits_of first_of any
       in_limits g = rw (le-ltb 1024 rows h, f, g)
 
 -- one set that is lent by itself
 module _ (K set first rows end count : ℕ) (offsets : List ℕ) (deltas : List ℤ) (out : ℕ) where
-  module _ (over : Bool) (k : Ruling) (f : over ≡ any (ltb max_numbers) (length offsets ∷ length deltas ∷ []))
+  module _ (over : Bool) (k : Result (Unit {0}) Refusal) (f : over ≡ any (ltb max_numbers) (length offsets ∷ length deltas ∷ []))
       (e : k ≡ ruling (limits_of rows over (ltb out 4096))) where
     limits-are : limits (rows ∷ []) (set_lengths (columns_of count offsets deltas)) (room out) ≡ limits_of rows over (ltb out 4096)
     unfolding limits limits_of set_lengths short any
     limits-are = rw (f, or-false (ltb out 4096))
 
-    pub lent-kept : k ≡ Kept → (q : Ruling) → q ≡ ruling (set_rules K set first rows end (columns_of count offsets deltas))
+    pub lent-kept : k ≡ Ok tt → (q : Result (Unit {0}) Refusal) → q ≡ ruling (set_rules K set first rows end (columns_of count offsets deltas))
         → q ≡ ruling (lent_rules K set first rows end (columns_of count offsets deltas) (room out))
     unfolding lent_rules
     lent-kept h q g = then-rest k _ _ (e ∙ ap ruling (sym limits-are)) h q (g ∙ ap ruling (sym (last-rule (set_rules K set first rows end (columns_of count offsets deltas)))))
 
-    pub lent-broken : (why : Refusal) → k ≡ Broken why → Broken why ≡ ruling (lent_rules K set first rows end (columns_of count offsets deltas) (room out))
+    pub lent-broken : (why : Refusal) → k ≡ Err why → Err why ≡ ruling (lent_rules K set first rows end (columns_of count offsets deltas) (room out))
     unfolding lent_rules
     lent-broken why h = then-broken k _ _ (e ∙ ap ruling (sym limits-are)) why h
 
 -- a reverse set and an inbound set
 module _ (K first rows end rc : ℕ) (ro : List ℕ) (rd : List ℤ) (ic : ℕ) (io : List ℕ) (id : List ℤ) where
-  module _ (k : Ruling) (e : k ≡ ruling (set_rules K 1 first rows end (columns_of rc ro rd))) where
-    pub both-kept : k ≡ Kept → (q : Ruling) → q ≡ ruling (set_rules K 2 first rows end (columns_of ic io id)) → q ≡ ruling (both_rules K first rows end (columns_of rc ro rd) (columns_of ic io id))
+  module _ (k : Result (Unit {0}) Refusal) (e : k ≡ ruling (set_rules K 1 first rows end (columns_of rc ro rd))) where
+    pub both-kept : k ≡ Ok tt → (q : Result (Unit {0}) Refusal) → q ≡ ruling (set_rules K 2 first rows end (columns_of ic io id))
+        → q ≡ ruling (both_rules K first rows end (columns_of rc ro rd) (columns_of ic io id))
     unfolding both_rules
     both-kept h q g = then-rest k _ _ e h q (g ∙ ap ruling (sym (last-rule (set_rules K 2 first rows end (columns_of ic io id)))))
 
-    pub both-broken : (why : Refusal) → k ≡ Broken why → Broken why ≡ ruling (both_rules K first rows end (columns_of rc ro rd) (columns_of ic io id))
+    pub both-broken : (why : Refusal) → k ≡ Err why → Err why ≡ ruling (both_rules K first rows end (columns_of rc ro rd) (columns_of ic io id))
     unfolding both_rules
     both-broken why h = then-broken k _ _ e why h
 
@@ -193,8 +192,8 @@ edged K first count offsets deltas r h =
       few = r.few;
     }
 
-module _ (K set first rows end : ℕ) (s : EdgeSet) (lent : List Lent) (k : Ruling) (e : k ≡ ruling (lent_rules K set first rows end s lent)) where
-  pub readable : k ≡ Kept → Readable K first s
+module _ (K set first rows end : ℕ) (s : EdgeSet) (lent : List Lent) (k : Result (Unit {0}) Refusal) (e : k ≡ ruling (lent_rules K set first rows end s lent)) where
+  pub readable : k ≡ Ok tt → Readable K first s
   unfolding lent_rules
   readable h =
       let p = each_none _ (told-kept _ e h) in
@@ -206,7 +205,7 @@ module _ (K set first rows end : ℕ) (s : EdgeSet) (lent : List Lent) (k : Ruli
         few = few-deltas s (few-numbers _ _ lent p.0);
       }
 
-module _ (K set first rows end : ℕ) (s : EdgeSet) (n : ℕ) (k : Ruling) (e : k ≡ ruling (lent_rules K set first rows end s (room n))) (h : k ≡ Kept) where
+module _ (K set first rows end : ℕ) (s : EdgeSet) (n : ℕ) (k : Result (Unit {0}) Refusal) (e : k ≡ ruling (lent_rules K set first rows end s (room n))) (h : k ≡ Ok tt) where
   pub lent-room : max_numbers ≤ n
   unfolding lent_rules
   lent-room = room-kept _ _ n (each_none _ (told-kept _ e h)).0
@@ -214,20 +213,20 @@ module _ (K set first rows end : ℕ) (s : EdgeSet) (n : ℕ) (k : Ruling) (e : 
 -- ── answers ──────────────────────────────────────────────────────────────────────────────────
 
 -- a list as the answer, and in the slice that is lent for it
-module _ (k : Ruling) (o : Option Refusal) (l old : List ℕ) (e : k ≡ ruling o) where
-  pub list_counted : k ≡ Kept → (n : ℕ) → n ≡ length l → Entries n ≡ counted_of (unless o l)
+module _ (k : Result (Unit {0}) Refusal) (o : Option Refusal) (l old : List ℕ) (e : k ≡ ruling o) where
+  pub list_counted : k ≡ Ok tt → (n : ℕ) → n ≡ length l → Ok n ≡ counted_of (unless o l)
   unfolding unless counted_of
   list_counted h n f = rw (told-kept o e h, f)
 
-  pub list_written : k ≡ Kept → length l ≤ length old → (out : List ℕ) → out ≡ sets old 0 l → out ≡ written_over old (unless o l)
+  pub list_written : k ≡ Ok tt → length l ≤ length old → (out : List ℕ) → out ≡ sets old 0 l → out ≡ written_over old (unless o l)
   unfolding unless written_over
   list_written h n out f = rw (told-kept o e h) (f ∙ sets-front old l n)
 
-  pub list-refused : (why : Refusal) → k ≡ Broken why → Refused why ≡ counted_of (unless o l)
+  pub list-refused : (why : Refusal) → k ≡ Err why → Err why ≡ counted_of (unless o l)
   unfolding unless counted_of
   list-refused why h = rw (told o e h)
 
-  pub list-as-was : (why : Refusal) → k ≡ Broken why → old ≡ written_over old (unless o l)
+  pub list-as-was : (why : Refusal) → k ≡ Err why → old ≡ written_over old (unless o l)
   unfolding unless written_over
   list-as-was why h = rw (told o e h)
 
@@ -237,21 +236,21 @@ in_one_lem none lists = refl
 in_one_lem (some r) lists = refl
 
 -- a host names the number of kinds, and W is that number
-module _ (W K : ℕ) (w : K ≡ W) (set first rows end : ℕ) (s : EdgeSet) (old : List ℕ) (k : Ruling) (e : k ≡ ruling (lent_rules K set first rows end s (room (length old)))) where
+module _ (W K : ℕ) (w : K ≡ W) (set first rows end : ℕ) (s : EdgeSet) (old : List ℕ) (k : Result (Unit {0}) Refusal) (e : k ≡ ruling (lent_rules K set first rows end s (room (length old)))) where
   decoded : in_one (decode_set W set first rows end s (room (length old))) ≡ unless (lent_rules K set first rows end s (room (length old))) (joined (slots_of K first s))
   unfolding decode_set lent_rules
   decoded = rw (← w) (in_one_lem _ _)
 
-  pub set-counted : k ≡ Kept → (n : ℕ) → n ≡ length (joined (slots_of K first s)) → Entries n ≡ counted_of (in_one (decode_set W set first rows end s (room (length old))))
+  pub set-counted : k ≡ Ok tt → (n : ℕ) → n ≡ length (joined (slots_of K first s)) → Ok n ≡ counted_of (in_one (decode_set W set first rows end s (room (length old))))
   set-counted h n f = rw decoded (list_counted k _ _ old e h n f)
 
-  pub set-written : k ≡ Kept → (out : List ℕ) → out ≡ sets old 0 (joined (slots_of K first s)) → out ≡ written_over old (in_one (decode_set W set first rows end s (room (length old))))
+  pub set-written : k ≡ Ok tt → (out : List ℕ) → out ≡ sets old 0 (joined (slots_of K first s)) → out ≡ written_over old (in_one (decode_set W set first rows end s (room (length old))))
   set-written h out f =
       let n = lent-room K set first rows end s (length old) k e h in
       rw decoded (list_written k _ _ old e h (omega (arith, n, readable-few K first s (readable K set first rows end s (room (length old)) k e h))) out f)
 
-  pub set-refused : (why : Refusal) → k ≡ Broken why → Refused why ≡ counted_of (in_one (decode_set W set first rows end s (room (length old))))
+  pub set-refused : (why : Refusal) → k ≡ Err why → Err why ≡ counted_of (in_one (decode_set W set first rows end s (room (length old))))
   set-refused why h = rw decoded (list-refused k _ (joined (slots_of K first s)) old e why h)
 
-  pub set-as-was : (why : Refusal) → k ≡ Broken why → old ≡ written_over old (in_one (decode_set W set first rows end s (room (length old))))
+  pub set-as-was : (why : Refusal) → k ≡ Err why → old ≡ written_over old (in_one (decode_set W set first rows end s (room (length old))))
   set-as-was why h = rw decoded (list-as-was k _ (joined (slots_of K first s)) old e why h)

@@ -11,3 +11,4 @@ pub mod Within
 pub mod Deltas
 pub mod Sections
 pub mod Served
+pub mod Handed

@@ -1,4 +1,5 @@
 -- What a ruling tells, and one rule after another.
+use Rattle.std.specs.Prelude.{Err, Ok, Result}
 use mathlib.Core.Path.{◌≡◌, refl, ap}
 use mathlib.Core.List.{[], ◌∷◌}
 use mathlib.Core.Option.{Option, none, some}
@@ -7,15 +8,13 @@ use native.Mathlib.Omega.{arith}
 use Rattle.columns.specs.Refusal.{first_of}
 use Rattle.columns.specs.Answers.{ruling}
 use Rattle.columns.specs.declared.refusal.Refusal.{Refusal}
-use Rattle.columns.specs.declared.refusal.Ruling.{Ruling}
-use Rattle.columns.specs.declared.refusal.Ruling.TheVariants.{Kept, Broken}
 
 -- a ruling tells the broken rule
-pub told : (o : Option Refusal) → {r : Ruling} → r ≡ ruling o → {x : Refusal} → r ≡ Broken x → o ≡ some x
+pub told : (o : Option Refusal) → {r : Result (Unit {0}) Refusal} → r ≡ ruling o → {x : Refusal} → r ≡ Err x → o ≡ some x
 told none e f = absurd (let z : ◌≡◌ {A = ℕ} 0 1 = cc in omega arith)
 told (some y) e {x} f = let z : y ≡ x = cc in ap some z
 
-pub told-kept : (o : Option Refusal) → {r : Ruling} → r ≡ ruling o → r ≡ Kept → o ≡ none
+pub told-kept : (o : Option Refusal) → {r : Result (Unit {0}) Refusal} → r ≡ ruling o → r ≡ Ok tt → o ≡ none
 told-kept none e f = refl
 told-kept (some y) e f = absurd (let z : ◌≡◌ {A = ℕ} 0 1 = cc in omega arith)
 
@@ -24,11 +23,11 @@ unfolding first_of
 last-rule none = refl
 last-rule (some x) = refl
 
-module _ (a b : Option Refusal) {r : Ruling} (e : r ≡ ruling a) where
-  pub stops-here : (x : Refusal) → r ≡ Broken x → Broken x ≡ ruling (first_of (a ∷ b ∷ []))
+module _ (a b : Option Refusal) {r : Result (Unit {0}) Refusal} (e : r ≡ ruling a) where
+  pub stops-here : (x : Refusal) → r ≡ Err x → Err x ≡ ruling (first_of (a ∷ b ∷ []))
   unfolding first_of
   stops-here x f = rw (told a e f)
 
-  pub goes_on : r ≡ Kept → {s : Ruling} → s ≡ ruling b → s ≡ ruling (first_of (a ∷ b ∷ []))
+  pub goes_on : r ≡ Ok tt → {s : Result (Unit {0}) Refusal} → s ≡ ruling b → s ≡ ruling (first_of (a ∷ b ∷ []))
   unfolding first_of
   goes_on f g = rw (told-kept a e f, last-rule b) g

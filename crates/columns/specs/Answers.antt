@@ -1,5 +1,5 @@
 -- What a reader answers and leaves in the slices that it is lent, as a view of the verdict that the definitions give.
-use Rattle.std.specs.Prelude.{Bool, List, [], ◌∷◌, ◌++◌, ℕ, ltb, ℤ, pos, ◌-ℤ◌, length, drop}
+use Rattle.std.specs.Prelude.{Bool, List, [], ◌∷◌, ◌++◌, ℕ, ltb, ℤ, pos, ◌-ℤ◌, length, drop, Err, Ok, Result}
 use Rattle.std.proofs.Math.Option.{Option, none, some}
 use Rattle.lists.specs.Lists.{any, joined}
 use Rattle.columns.specs.Limits.{numbers_room, max_records, end32}
@@ -14,10 +14,6 @@ use Rattle.columns.specs.declared.set.Set.{Set}
 use Rattle.columns.specs.declared.set.Set.TheVariants.{Forward, Reverse, Inbound}
 use Rattle.columns.specs.declared.refusal.Refusal.{Refusal}
 use Rattle.columns.specs.declared.refusal.Refusal.TheVariants.{SliceShort, OverRecords, OverNumbers}
-use Rattle.columns.specs.declared.refusal.Ruling.{Ruling}
-use Rattle.columns.specs.declared.refusal.Ruling.TheVariants.{Kept, Broken}
-use Rattle.columns.specs.declared.refusal.Counted.{Counted}
-use Rattle.columns.specs.declared.refusal.Counted.TheVariants.{Entries, Refused}
 
 -- a kind's place among the slots of a row
 abbrev pub kind_of : Kind → ℕ
@@ -73,9 +69,9 @@ unfoldable pub both_rules : (K : ℕ) → ℕ → ℕ → ℕ → EdgeSet → Ed
 both_rules K first rows end r i = first_of (set_rules K reverse first rows end r ∷ set_rules K inbound first rows end i ∷ [])
 
 -- what is answered of rules: the first that is broken, if one is
-abbrev pub ruling : Option Refusal → Ruling
-ruling none = Kept
-ruling (some r) = Broken r
+abbrev pub ruling : Option Refusal → Result (Unit {0}) Refusal
+ruling none = Ok tt
+ruling (some r) = Err r
 
 -- ── lists of numbers as answers ──────────────────────────────────────────────────────────────
 
@@ -85,9 +81,9 @@ in_one (refused r) = refused r
 in_one (accepted lists) = accepted (joined lists)
 
 -- how many numbers there are, or the refusal
-unfoldable pub counted_of : Verdict (List ℕ) → Counted
-counted_of (refused r) = Refused r
-counted_of (accepted l) = Entries (length l)
+unfoldable pub counted_of : Verdict (List ℕ) → Result ℕ Refusal
+counted_of (refused r) = Err r
+counted_of (accepted l) = Ok (length l)
 
 -- a lent slice after numbers were written: they stand from its start on, and behind them it is as it was. A slice keeps its length, so
 -- that there are no more numbers than it has places

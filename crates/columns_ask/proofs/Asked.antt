@@ -1,4 +1,5 @@
 -- What a question for parents or children answers, and leaves in the slice that it is lent.
+use Rattle.std.specs.Prelude.{Err, Ok, Result}
 use mathlib.Core.Path.{◌≡◌, refl, ◌∙◌, ap, sym}
 use mathlib.Core.Bool.{Bool, true, false}
 use mathlib.Core.List.{List, [], ◌∷◌, ◌++◌}
@@ -19,9 +20,6 @@ use Rattle.columns.specs.Answers.{kind_of, room, lent_rules, ruling, counted_of,
 use Rattle.columns.specs.Readable.{Readable}
 use Rattle.columns_ask.specs.Views.{children_rules, asked_rules}
 use Rattle.columns.specs.declared.kind.Kind.{Kind}
-use Rattle.columns.specs.declared.refusal.Ruling.{Ruling}
-use Rattle.columns.specs.declared.refusal.Ruling.TheVariants.{Kept, Broken}
-use Rattle.columns.specs.declared.refusal.Counted.TheVariants.{Entries, Refused}
 use Rattle.columns.specs.declared.refusal.Refusal.{Refusal}
 use Rattle.columns.proofs.Checks.{room-kept, readable, list-few, lent-room, list_counted, list_written, list-refused, list-as-was, then-rest, then-broken, first-append}
 use Rattle.columns.specs.declared.refusal.Refusal.TheVariants.{OverNumbers}
@@ -32,15 +30,15 @@ use Rattle.columns_ask.proofs.Limited.{readable-reverse, readable-inbound}
 -- ── parents ──────────────────────────────────────────────────────────────────────────────────
 
 -- a host names the number of kinds, and W is that number
-module _ (W K : ℕ) (w : K ≡ W) (first rows end : ℕ) (s : EdgeSet) (kind : Kind) (slot number : ℕ) (old : List ℕ) (k : Ruling)
+module _ (W K : ℕ) (w : K ≡ W) (first rows end : ℕ) (s : EdgeSet) (kind : Kind) (slot number : ℕ) (old : List ℕ) (k : Result (Unit {0}) Refusal)
     (e : k ≡ ruling (lent_rules K 0 first rows end s (room (length old)))) where
   asked : parents W first rows end s (kind_of kind) number (room (length old))
       ≡ unless (lent_rules K 0 first rows end s (room (length old))) (list_of K first (slots_of K first s) (kind_of kind) number)
   unfolding parents lent_rules
   asked = rw (← w)
 
-  module _ (h : k ≡ Kept) (i : slot ≡ kind_of kind) where
-    pub parents-counted : (n : ℕ) → n ≡ 0 + length (list_of K first (slots_of K first s) slot number) → Entries n ≡ counted_of (parents W first rows end s (kind_of kind) number (room (length old)))
+  module _ (h : k ≡ Ok tt) (i : slot ≡ kind_of kind) where
+    pub parents-counted : (n : ℕ) → n ≡ 0 + length (list_of K first (slots_of K first s) slot number) → Ok n ≡ counted_of (parents W first rows end s (kind_of kind) number (room (length old)))
     parents-counted n f = rw asked (list_counted k _ _ old e h n (rw (← i) (f ∙ omega arith)))
 
     pub parents-written : (out : List ℕ) → out ≡ sets old 0 (list_of K first (slots_of K first s) slot number)
@@ -49,10 +47,10 @@ module _ (W K : ℕ) (w : K ≡ W) (first rows end : ℕ) (s : EdgeSet) (kind : 
         let n = list-few K first s (readable K 0 first rows end s (room (length old)) k e h) (kind_of kind) number in
         rw asked (list_written k _ _ old e h (omega (arith, n, lent-room K 0 first rows end s (length old) k e h)) out (rw (← i) f))
 
-  pub parents-refused : (why : Refusal) → k ≡ Broken why → Refused why ≡ counted_of (parents W first rows end s (kind_of kind) number (room (length old)))
+  pub parents-refused : (why : Refusal) → k ≡ Err why → Err why ≡ counted_of (parents W first rows end s (kind_of kind) number (room (length old)))
   parents-refused why h = rw asked (list-refused k _ (list_of K first (slots_of K first s) (kind_of kind) number) old e why h)
 
-  pub parents-as-were : (why : Refusal) → k ≡ Broken why → old ≡ written_over old (parents W first rows end s (kind_of kind) number (room (length old)))
+  pub parents-as-were : (why : Refusal) → k ≡ Err why → old ≡ written_over old (parents W first rows end s (kind_of kind) number (room (length old)))
   parents-as-were why h = rw asked (list-as-was k _ (list_of K first (slots_of K first s) (kind_of kind) number) old e why h)
 
 -- ── children ─────────────────────────────────────────────────────────────────────────────────
@@ -78,35 +76,35 @@ module _ (K first : ℕ) (r i : EdgeSet) (kind number n : ℕ) (e : n ≡ 0 + le
   both-written old mid out g p = p ∙ rw (e, g, sets-append old 0 (list_of K first (slots_of K first r) kind number) (list_of K first (slots_of K first i) kind number))
 
 -- the rules of the two sets, then that of the answer
-module _ (K first rows end : ℕ) (r i : EdgeSet) (kind number : ℕ) (lent : List Lent) (k : Ruling) (e : k ≡ ruling (children_rules K first rows end r i lent)) where
-  module _ (h : k ≡ Kept) (over : Bool) (f : over ≡ ltb max_numbers (length (children_of K first r i kind number))) where
-    pub over-children : over ≡ true → Broken OverNumbers ≡ ruling (asked_rules K first rows end r i kind number lent)
+module _ (K first rows end : ℕ) (r i : EdgeSet) (kind number : ℕ) (lent : List Lent) (k : Result (Unit {0}) Refusal) (e : k ≡ ruling (children_rules K first rows end r i lent)) where
+  module _ (h : k ≡ Ok tt) (over : Bool) (f : over ≡ ltb max_numbers (length (children_of K first r i kind number))) where
+    pub over-children : over ≡ true → Err OverNumbers ≡ ruling (asked_rules K first rows end r i kind number lent)
     unfolding asked_rules first_of
     over-children g = then-rest k (children_rules K first rows end r i lent) (refuse OverNumbers (ltb max_numbers (length (children_of K first r i kind number))) ∷ []) e h
-        (Broken OverNumbers) (rw (← f, g))
+        (Err OverNumbers) (rw (← f, g))
 
-    pub few_children : over ≡ false → Kept ≡ ruling (asked_rules K first rows end r i kind number lent)
+    pub few_children : over ≡ false → (Ok tt) ≡ ruling (asked_rules K first rows end r i kind number lent)
     unfolding asked_rules first_of
-    few_children g = then-rest k (children_rules K first rows end r i lent) (refuse OverNumbers (ltb max_numbers (length (children_of K first r i kind number))) ∷ []) e h Kept (rw (← f, g))
+    few_children g = then-rest k (children_rules K first rows end r i lent) (refuse OverNumbers (ltb max_numbers (length (children_of K first r i kind number))) ∷ []) e h (Ok tt) (rw (← f, g))
 
-  pub sets-refused : (why : Refusal) → k ≡ Broken why → Broken why ≡ ruling (asked_rules K first rows end r i kind number lent)
+  pub sets-refused : (why : Refusal) → k ≡ Err why → Err why ≡ ruling (asked_rules K first rows end r i kind number lent)
   unfolding asked_rules
   sets-refused why h = then-broken k _ _ e why h
 
-module _ (K first rows end : ℕ) (r i : EdgeSet) (slot number : ℕ) (old : List ℕ) (k : Ruling)
-    (e : k ≡ ruling (asked_rules K first rows end r i slot number (room (length old)))) (h : k ≡ Kept) where
+module _ (K first rows end : ℕ) (r i : EdgeSet) (slot number : ℕ) (old : List ℕ) (k : Result (Unit {0}) Refusal)
+    (e : k ≡ ruling (asked_rules K first rows end r i slot number (room (length old)))) (h : k ≡ Ok tt) where
   kept-both : children_rules K first rows end r i (room (length old)) ≡ none
   unfolding asked_rules
   kept-both = (each_none _ (told-kept _ e h)).0
 
   pub reverse-readable : Readable K first r
-  reverse-readable = readable-reverse K first rows end r i (room (length old)) Kept (ap ruling (sym kept-both)) refl
+  reverse-readable = readable-reverse K first rows end r i (room (length old)) (Ok tt) (ap ruling (sym kept-both)) refl
 
   pub inbound-readable : Readable K first i
-  inbound-readable = readable-inbound K first rows end r i (room (length old)) Kept (ap ruling (sym kept-both)) refl
+  inbound-readable = readable-inbound K first rows end r i (room (length old)) (Ok tt) (ap ruling (sym kept-both)) refl
 
 -- a host names the number of kinds, and W is that number
-module _ (W K : ℕ) (w : K ≡ W) (first rows end : ℕ) (r i : EdgeSet) (kind : Kind) (slot number : ℕ) (j : slot ≡ kind_of kind) (old : List ℕ) (k : Ruling)
+module _ (W K : ℕ) (w : K ≡ W) (first rows end : ℕ) (r i : EdgeSet) (kind : Kind) (slot number : ℕ) (j : slot ≡ kind_of kind) (old : List ℕ) (k : Result (Unit {0}) Refusal)
     (e : k ≡ ruling (asked_rules K first rows end r i slot number (room (length old)))) where
   asked-both : children W first rows end r i (kind_of kind) number (room (length old)) ≡ unless (asked_rules K first rows end r i slot number (room (length old))) (children_of K first r i slot number)
   unfolding children asked_rules children_rules
@@ -114,8 +112,8 @@ module _ (W K : ℕ) (w : K ≡ W) (first rows end : ℕ) (r i : EdgeSet) (kind 
       (first-append (limits (rows ∷ []) (set_lengths r ++ set_lengths i) (room (length old)) ∷ set_rules K reverse first rows end r ∷ set_rules K inbound first rows end i ∷ [])
       (refuse OverNumbers (ltb max_numbers (length (children_of K first r i (kind_of kind) number))) ∷ [])))
 
-  module _ (h : k ≡ Kept) where
-    pub children-counted : (n : ℕ) → n ≡ length (children_of K first r i slot number) → Entries n ≡ counted_of (children W first rows end r i (kind_of kind) number (room (length old)))
+  module _ (h : k ≡ Ok tt) where
+    pub children-counted : (n : ℕ) → n ≡ length (children_of K first r i slot number) → Ok n ≡ counted_of (children W first rows end r i (kind_of kind) number (room (length old)))
     children-counted n f = rw asked-both (list_counted k _ _ old e h n f)
 
     fits_both : length (children_of K first r i slot number) ≤ length old
@@ -127,8 +125,8 @@ module _ (W K : ℕ) (w : K ≡ W) (first rows end : ℕ) (r i : EdgeSet) (kind 
     pub children-written : (out : List ℕ) → out ≡ sets old 0 (children_of K first r i slot number) → out ≡ written_over old (children W first rows end r i (kind_of kind) number (room (length old)))
     children-written out f = rw asked-both (list_written k _ _ old e h fits_both out f)
 
-  pub children-refused : (why : Refusal) → k ≡ Broken why → Refused why ≡ counted_of (children W first rows end r i (kind_of kind) number (room (length old)))
+  pub children-refused : (why : Refusal) → k ≡ Err why → Err why ≡ counted_of (children W first rows end r i (kind_of kind) number (room (length old)))
   children-refused why h = rw asked-both (list-refused k _ (children_of K first r i slot number) old e why h)
 
-  pub children-as-were : (why : Refusal) → k ≡ Broken why → old ≡ written_over old (children W first rows end r i (kind_of kind) number (room (length old)))
+  pub children-as-were : (why : Refusal) → k ≡ Err why → old ≡ written_over old (children W first rows end r i (kind_of kind) number (room (length old)))
   children-as-were why h = rw asked-both (list-as-was k _ (children_of K first r i slot number) old e why h)

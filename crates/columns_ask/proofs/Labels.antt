@@ -1,4 +1,5 @@
 -- What a question for a label answers.
+use Rattle.std.specs.Prelude.{Err, None, Ok, Result, Some, Option}
 use mathlib.Core.Path.{◌≡◌, refl}
 use mathlib.Core.Bool.{true}
 use mathlib.Core.List.{List, [], ◌∷◌}
@@ -15,12 +16,8 @@ use Rattle.columns.specs.Reading.{labels_of}
 use Rattle.columns.specs.Questions.{label_at, label}
 use Rattle.columns.specs.Answers.{short32, label_columns, ruling}
 use Rattle.columns_ask.specs.Views.{lent_label_rules, labelled_of}
-use Rattle.columns.specs.declared.refusal.Ruling.{Ruling}
-use Rattle.columns.specs.declared.refusal.Ruling.TheVariants.{Kept, Broken}
-use Rattle.columns_ask.specs.declared.Labelled.{Labelled}
-use Rattle.columns_ask.specs.declared.Labelled.TheVariants as labelled
-use Rattle.columns_ask.specs.declared.Labelled.TheVariants.{At, Unlabelled}
 use Rattle.columns.specs.declared.refusal.Refusal.{Refusal}
+use Rattle.columns_ask.specs.declared.ChainLabel.{ChainLabel}
 use Rattle.columns.proofs.Told.{told-kept, told}
 
 pub short-at : (l : List ℕ) (i : ℕ) → all short32 l ≡ true → i < length l → get_or l i 0 < end32
@@ -47,25 +44,26 @@ a-label (c ∷ cs) (s ∷ ss) zero h e = refl
 a-label (c ∷ cs) (s ∷ ss) (suc i) h e = a-label cs ss i (omega arith) (omega arith)
 
 module _ (first : ℕ) (chains seqs : List ℕ) (number : ℕ) where
-  pub label-below : number < first → Unlabelled ≡ labelled_of (accepted (label_at first (labels_of chains seqs) number))
+  pub label-below : number < first → (Ok None) ≡ labelled_of (accepted (label_at first (labels_of chains seqs) number))
   unfolding label_at
   label-below h = rw (lt-ltb number first h)
 
   module _ (h : first ≤ number) where
-    pub label-past : length chains ≤ number - first → Unlabelled ≡ labelled_of (accepted (label_at first (labels_of chains seqs) number))
+    pub label-past : length chains ≤ number - first → (Ok None) ≡ labelled_of (accepted (label_at first (labels_of chains seqs) number))
     unfolding label_at
     label-past k = rw (le-ltb number first h, no_label chains seqs (number - first) k)
 
     pub label-told : (c s : ℕ) → number - first < length chains → length seqs ≡ length chains → c ≡ get_or chains (number - first) 0 → s ≡ get_or seqs (number - first) 0
-        → At (record { chain = c; seq = s }) ≡ labelled_of (accepted (label_at first (labels_of chains seqs) number))
+        → Ok (Some (record { chain = c; seq = s })) ≡ labelled_of (accepted (label_at first (labels_of chains seqs) number))
     unfolding label_at
     label-told c s k i f g = rw (le-ltb number first h, a-label chains seqs (number - first) k i, f, g)
 
-  module _ (rows : ℕ) (k : Ruling) (e : k ≡ ruling (lent_label_rules rows (label_columns chains seqs))) where
-    pub label_kept : k ≡ Kept → (r : Labelled) → r ≡ labelled_of (accepted (label_at first (labels_of chains seqs) number)) → r ≡ labelled_of (label first rows (label_columns chains seqs) number)
+  module _ (rows : ℕ) (k : Result (Unit {0}) Refusal) (e : k ≡ ruling (lent_label_rules rows (label_columns chains seqs))) where
+    pub label_kept : k ≡ Ok tt → (r : Result (Option ChainLabel) Refusal) → r ≡ labelled_of (accepted (label_at first (labels_of chains seqs) number))
+        → r ≡ labelled_of (label first rows (label_columns chains seqs) number)
     unfolding label lent_label_rules unless
     label_kept h r f = rw (told-kept (lent_label_rules rows (label_columns chains seqs)) e h) f
 
-    pub label-refused : (why : Refusal) → k ≡ Broken why → labelled.Refused why ≡ labelled_of (label first rows (label_columns chains seqs) number)
+    pub label-refused : (why : Refusal) → k ≡ Err why → Err why ≡ labelled_of (label first rows (label_columns chains seqs) number)
     unfolding label lent_label_rules unless
     label-refused why h = rw (told (lent_label_rules rows (label_columns chains seqs)) e h)

@@ -1,4 +1,5 @@
 -- The limits and rules of what a question reads, one after the other, and what is known of columns that keep them.
+use Rattle.std.specs.Prelude.{Err, Ok, Result}
 use mathlib.Core.Path.{◌≡◌, sym, ◌∙◌, ap}
 use mathlib.Core.Bool.{Bool, true, false, or-false}
 use mathlib.Core.List.{List, [], ◌∷◌, ◌++◌}
@@ -18,8 +19,6 @@ use Rattle.columns.specs.EdgeSet.{EdgeSet, reverse, inbound}
 use Rattle.columns.specs.Reading.{set_rules, set_lengths, label_rules}
 use Rattle.columns.specs.Answers.{short32, columns_of, label_columns, room, limits_of, both_rules, ruling}
 use Rattle.columns.specs.Readable.{Readable}
-use Rattle.columns.specs.declared.refusal.Ruling.{Ruling}
-use Rattle.columns.specs.declared.refusal.Ruling.TheVariants.{Kept, Broken}
 use Rattle.columns.specs.declared.refusal.Refusal.{Refusal}
 use Rattle.columns.specs.declared.refusal.Refusal.TheVariants.{LabelColumns, LabelRange}
 use Rattle.columns.proofs.FirstBroken.{each_none, passed}
@@ -30,40 +29,40 @@ use Rattle.columns_ask.specs.Views.{children_rules, lent_label_rules}
 -- ── limits ───────────────────────────────────────────────────────────────────────────────────
 
 -- a reverse set and an inbound set
-module _ (K first rows end rc : ℕ) (ro : List ℕ) (rd : List ℤ) (ic : ℕ) (io : List ℕ) (id : List ℤ) (out : ℕ) (over : Bool) (k : Ruling)
+module _ (K first rows end rc : ℕ) (ro : List ℕ) (rd : List ℤ) (ic : ℕ) (io : List ℕ) (id : List ℤ) (out : ℕ) (over : Bool) (k : Result (Unit {0}) Refusal)
     (f : over ≡ any (ltb max_numbers) (length ro ∷ length rd ∷ length io ∷ length id ∷ []))
     (e : k ≡ ruling (limits_of rows over (ltb out 4096))) where
   both-limits : limits (rows ∷ []) (set_lengths (columns_of rc ro rd) ++ set_lengths (columns_of ic io id)) (room out) ≡ limits_of rows over (ltb out 4096)
   unfolding limits limits_of set_lengths short any
   both-limits = rw (f, or-false (ltb out 4096))
 
-  pub children-kept : k ≡ Kept → (q : Ruling) → q ≡ ruling (both_rules K first rows end (columns_of rc ro rd) (columns_of ic io id))
+  pub children-kept : k ≡ Ok tt → (q : Result (Unit {0}) Refusal) → q ≡ ruling (both_rules K first rows end (columns_of rc ro rd) (columns_of ic io id))
       → q ≡ ruling (children_rules K first rows end (columns_of rc ro rd) (columns_of ic io id) (room out))
   unfolding children_rules both_rules
   children-kept h q g = then-rest k _ _ (e ∙ ap ruling (sym both-limits)) h q g
 
-  pub children-broken : (why : Refusal) → k ≡ Broken why → Broken why ≡ ruling (children_rules K first rows end (columns_of rc ro rd) (columns_of ic io id) (room out))
+  pub children-broken : (why : Refusal) → k ≡ Err why → Err why ≡ ruling (children_rules K first rows end (columns_of rc ro rd) (columns_of ic io id) (room out))
   unfolding children_rules
   children-broken why h = then-broken k _ _ (e ∙ ap ruling (sym both-limits)) why h
 
 -- label columns
-module _ (rows : ℕ) (chains seqs : List ℕ) (over : Bool) (k : Ruling) (f : over ≡ any (ltb max_numbers) (length chains ∷ length seqs ∷ []))
+module _ (rows : ℕ) (chains seqs : List ℕ) (over : Bool) (k : Result (Unit {0}) Refusal) (f : over ≡ any (ltb max_numbers) (length chains ∷ length seqs ∷ []))
     (e : k ≡ ruling (limits_of rows over false)) where
   label-limits : limits (rows ∷ []) (length chains ∷ length seqs ∷ []) [] ≡ limits_of rows over false
   unfolding limits limits_of any
   label-limits = rw f
 
-  pub labels_in : k ≡ Kept → (q : Ruling) → q ≡ ruling (label_rules rows (label_columns chains seqs)) → q ≡ ruling (lent_label_rules rows (label_columns chains seqs))
+  pub labels_in : k ≡ Ok tt → (q : Result (Unit {0}) Refusal) → q ≡ ruling (label_rules rows (label_columns chains seqs)) → q ≡ ruling (lent_label_rules rows (label_columns chains seqs))
   unfolding lent_label_rules
   labels_in h q g = then-rest k _ _ (e ∙ ap ruling (sym label-limits)) h q (g ∙ ap ruling (sym (last-rule (label_rules rows (label_columns chains seqs)))))
 
-  pub labels-out : (why : Refusal) → k ≡ Broken why → Broken why ≡ ruling (lent_label_rules rows (label_columns chains seqs))
+  pub labels-out : (why : Refusal) → k ≡ Err why → Err why ≡ ruling (lent_label_rules rows (label_columns chains seqs))
   unfolding lent_label_rules
   labels-out why h = then-broken k _ _ (e ∙ ap ruling (sym label-limits)) why h
 
 -- ── columns whose rules are kept ─────────────────────────────────────────────────────────────
 
-module _ (K first rows end : ℕ) (r i : EdgeSet) (lent : List Lent) (k : Ruling) (e : k ≡ ruling (children_rules K first rows end r i lent)) (h : k ≡ Kept) where
+module _ (K first rows end : ℕ) (r i : EdgeSet) (lent : List Lent) (k : Result (Unit {0}) Refusal) (e : k ≡ ruling (children_rules K first rows end r i lent)) (h : k ≡ Ok tt) where
   apart : (any (ltb max_numbers) (set_lengths r) ≡ false) × (any (ltb max_numbers) (set_lengths i) ≡ false)
   unfolding children_rules
   apart = or-is-false _ _ (sym (any_append (ltb max_numbers) (set_lengths r) (set_lengths i)) ∙ few-numbers _ _ lent (each_none _ (told-kept _ e h)).0)
@@ -81,7 +80,7 @@ module _ (K first rows end : ℕ) (r i : EdgeSet) (lent : List Lent) (k : Ruling
   readable-inbound = record { set = inbound; rows = rows; end = end; kept = rules.1; few = few-deltas i apart.1 }
 
 -- label columns
-module _ (rows : ℕ) (chains seqs : List ℕ) (k : Ruling) (e : k ≡ ruling (lent_label_rules rows (label_columns chains seqs))) (h : k ≡ Kept) where
+module _ (rows : ℕ) (chains seqs : List ℕ) (k : Result (Unit {0}) Refusal) (e : k ≡ ruling (lent_label_rules rows (label_columns chains seqs))) (h : k ≡ Ok tt) where
   lent-labels : label_rules rows (label_columns chains seqs) ≡ none
   unfolding lent_label_rules
   lent-labels = (each_none _ (told-kept _ e h)).1.0

@@ -1,4 +1,5 @@
 -- State roots: one turn of each loop over the events, and what each test of `state_root_entries` says of its verdict.
+use Rattle.std.specs.Prelude.{Err, Ok}
 use mathlib.Core.Path.{◌≡◌, sym, ◌∙◌}
 use mathlib.Core.Bool.{Bool, true, false, not, ◌&&◌}
 use mathlib.Core.List.{List, [], ◌∷◌, ◌++◌}
@@ -16,7 +17,6 @@ use Rattle.columns.specs.Roots.{root_entries}
 use Rattle.columns_build.specs.Written.{records, roots_answer, over, rows_of}
 use Rattle.columns.specs.declared.refusal.Refusal.{Refusal}
 use Rattle.columns.specs.declared.refusal.Refusal.TheVariants.{RootOutside, SliceShort, OverRecords}
-use Rattle.columns_build.specs.declared.roots.Roots.TheVariants.{Rows, Refused}
 use Rattle.columns_rules.proofs.records.FileNumbers.{in-file-low}
 
 -- ── every event ──────────────────────────────────────────────────────────────────────────────
@@ -70,7 +70,7 @@ rows-done first i events out₀ out e h k =
 
 -- ── the verdict ──────────────────────────────────────────────────────────────────────────────
 
-pub answer-refused : (x : Refusal) {v : Verdict (List ℕ)} → v ≡ refused x → Refused x ≡ roots_answer v
+pub answer-refused : (x : Refusal) {v : Verdict (List ℕ)} → v ≡ refused x → Err x ≡ roots_answer v
 unfolding roots_answer
 answer-refused x e = rw e
 
@@ -102,7 +102,7 @@ module _ (first rows : ℕ) (events out : List ℕ) where
         unfolding rows_of root_entries unless limits any first_of short
         roots-taken q = rw (le-ltb 1024 rows h, le-ltb 1024 (length events) k, le-ltb (length out) 1024 l, ← e, not-false r q)
 
-        pub roots-answer : not r ≡ false → Rows (length events) ≡ roots_answer (root_entries first rows events (records out ∷ []))
+        pub roots-answer : not r ≡ false → Ok (length events) ≡ roots_answer (root_entries first rows events (records out ∷ []))
         unfolding roots_answer
         roots-answer q = rw (roots-taken q, length-rows first events)
 

@@ -1,9 +1,8 @@
 -- What building's functions hand back: a verdict as the answer of a call, and as the columns that the call was lent.
-use Rattle.std.specs.Prelude.{List, ◌++◌, map, ℕ, ◌-◌, length, drop}
+use Rattle.std.specs.Prelude.{List, ◌++◌, map, ℕ, ◌-◌, length, drop, Err, Ok, Result}
 use Rattle.columns.specs.Limits.{records_room}
+use Rattle.columns.specs.declared.refusal.Refusal.{Refusal}
 use Rattle.columns.specs.Refusal.{Verdict, refused, accepted, Lent}
-use Rattle.columns_build.specs.declared.roots.Roots.{Roots}
-use Rattle.columns_build.specs.declared.roots.Roots.TheVariants.{Rows, Refused}
 
 -- ── lent slices ──────────────────────────────────────────────────────────────────────────────
 
@@ -19,9 +18,9 @@ over (accepted l) was = l ++ drop (length l) was
 -- ── state roots ──────────────────────────────────────────────────────────────────────────────
 
 -- the answer of `state_root_entries`: how many rows there are
-unfoldable pub roots_answer : Verdict (List ℕ) → Roots
-roots_answer (refused r) = Refused r
-roots_answer (accepted l) = Rows (length l)
+unfoldable pub roots_answer : Verdict (List ℕ) → Result ℕ Refusal
+roots_answer (refused r) = Err r
+roots_answer (accepted l) = Ok (length l)
 
 -- the rows of events of a file that starts at `first`
 unfoldable pub rows_of : ℕ → List ℕ → List ℕ

@@ -3,8 +3,9 @@ ghost use Rattle.std.specs.Prelude.{length};
 ghost use Rattle.columns_encode.specs.Lent.{build_lent, slices_of, Answers};
 
 use columns::depth::Depth;
-use columns_encode::kept::Encoded;
+use columns::refusal::Refusal;
 use columns_encode::lent::encode_lent;
+use columns_encode::writing::Counts;
 
 // Builds the sets of the n rows from row `from` on: the forward set into `fo` and `fd`, offsets and deltas from the start of each slice on, the
 // reverse set into `ro` and `rd`, the inbound set into `io` and `id`. Parents come as slot offsets into targets, unresolved records and inbound
@@ -33,7 +34,7 @@ pub fn encode_graph_blocks(
     rd: &mut [i64],
     io: &mut [u64],
     id: &mut [i64],
-) -> Encoded
+) -> Result<Counts, Refusal>
     ensures { Answers (build_lent subject.now first rows offsets.now targets.now children.now kinds.now
         flags.now depth labelled chains.now seqs.now ichildren.now iparents.now ikinds.now from n
         (slices_of (length fo.old) (length fd.old) (length ro.old) (length rd.old) (length io.old)

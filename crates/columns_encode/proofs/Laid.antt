@@ -1,4 +1,5 @@
 -- The verdict on a file past its first rules, as what is answered and what is left in the six slices.
+use Rattle.std.specs.Prelude.{Err, Ok, Result}
 use mathlib.Core.Path.{◌≡◌, sym, ◌∙◌, ap}
 use mathlib.Core.Bool.{true}
 use mathlib.Core.List.{List}
@@ -20,8 +21,6 @@ use Rattle.columns.specs.declared.refusal.Refusal.TheVariants.{GranuleRows, Delt
 use Rattle.columns.proofs.FirstBroken.{each_none, not-refused, passed}
 use Rattle.columns.proofs.ReadBack.{cut-joined, starts-form}
 use Rattle.columns.specs.Answers.{ruling}
-use Rattle.columns.specs.declared.refusal.Ruling.{Ruling}
-use Rattle.columns.specs.declared.refusal.Ruling.TheVariants.{Kept, Broken}
 use Rattle.columns.proofs.Told.{told, told-kept}
 use Rattle.columns_rules.specs.records.Recorded.{inbound_of}
 use Rattle.columns_rules.specs.spans.Spanned.{span_rules}
@@ -32,17 +31,16 @@ use Rattle.columns_encode.specs.Grouped.{late_rules}
 use Rattle.columns_encode.specs.Encoded.{counts_of, Early, Arranged, Ready}
 use Rattle.columns_encode.specs.Answered.{late_verdict, encoded_of, offsets_laid, deltas_laid}
 use Rattle.columns_encode.specs.declared.writing.Counts.{Counts}
-use Rattle.columns_encode.specs.declared.kept.Encoded.TheVariants.{Edges, Refused}
 
-module _ (first rows from n : ℕ) (offsets targets cs ps ks : List ℕ) {r : Ruling} (e : r ≡ ruling (late_rules first rows (cut offsets targets) (inbound_of cs ps ks) from n)) where
+module _ (first rows from n : ℕ) (offsets targets cs ps ks : List ℕ) {r : Result (Unit {0}) Refusal} (e : r ≡ ruling (late_rules first rows (cut offsets targets) (inbound_of cs ps ks) from n)) where
   -- ── refused ──────────────────────────────────────────────────────────────────────────────────
 
-  module _ (x : Refusal) (f : r ≡ Broken x) where
+  module _ (x : Refusal) (f : r ≡ Err x) where
     verdict-broken : late_verdict first rows (cut offsets targets) (inbound_of cs ps ks) from n ≡ refused x
     unfolding late_verdict unless
     verdict-broken = rw (told (late_rules first rows (cut offsets targets) (inbound_of cs ps ks) from n) e f)
 
-    pub late-refused : Refused x ≡ encoded_of (late_verdict first rows (cut offsets targets) (inbound_of cs ps ks) from n)
+    pub late-refused : Err x ≡ encoded_of (late_verdict first rows (cut offsets targets) (inbound_of cs ps ks) from n)
     unfolding encoded_of
     late-refused = rw verdict-broken
 
@@ -56,7 +54,7 @@ module _ (first rows from n : ℕ) (offsets targets cs ps ks : List ℕ) {r : Ru
 
   -- ── accepted ─────────────────────────────────────────────────────────────────────────────────
 
-  module _ (f : r ≡ Kept) where
+  module _ (f : r ≡ Ok tt) where
     late-none : late_rules first rows (cut offsets targets) (inbound_of cs ps ks) from n ≡ none
     late-none = told-kept (late_rules first rows (cut offsets targets) (inbound_of cs ps ks) from n) e f
 
@@ -110,7 +108,7 @@ module _ (first rows from n : ℕ) (offsets targets cs ps ks : List ℕ) {r : Ru
     unfolding deltas_laid
     reverse_deltas was out h = rw verdict-kept h
 
-    module _ (offs list : List ℕ) (a : r ≡ Kept → Arranged rows (inbound_lists kinds first rows (inbound_of cs ps ks)) offs list) (m : ℕ) (q : m ≡ get_or offs (2 * rows) 0) where
+    module _ (offs list : List ℕ) (a : r ≡ Ok tt → Arranged rows (inbound_lists kinds first rows (inbound_of cs ps ks)) offs list) (m : ℕ) (q : m ≡ get_or offs (2 * rows) 0) where
       many_is : m ≡ length (joined (inbound_lists kinds first rows (inbound_of cs ps ks)))
       many_is =
           q ∙ sym (get_or-take (2 * rows + 1) offs (2 * rows) 0 (omega arith)) ∙ ap (λ l. get_or l (2 * rows) 0) (a f).offsets
@@ -150,9 +148,9 @@ module _ (first rows from n : ℕ) (offsets targets cs ps ks : List ℕ) {r : Ru
 
       pub late-counted : (c : Counts) → c ≡ counts_of (set_at first from n (cut offsets targets))
           (set_at first from n (reverse_lists kinds first rows (cut offsets targets))) (set_at first from n (cut (take (2 * rows + 1) offs) (take m list)))
-          → Edges c ≡ encoded_of (late_verdict first rows (cut offsets targets) (inbound_of cs ps ks) from n)
+          → Ok c ≡ encoded_of (late_verdict first rows (cut offsets targets) (inbound_of cs ps ks) from n)
       unfolding encoded_of
-      late-counted c h = rw verdict-kept (ap Edges (rw back at h))
+      late-counted c h = rw verdict-kept (ap Ok (rw back at h))
 
       pub inbound_offsets : (was out : List ℕ) → out ≡ sets was 0 (set_at first from n (cut (take (2 * rows + 1) offs) (take m list))).offsets
           → out ≡ offsets_laid 2 (late_verdict first rows (cut offsets targets) (inbound_of cs ps ks) from n) was

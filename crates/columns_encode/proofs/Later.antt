@@ -1,4 +1,5 @@
 -- The rules of inbound edges and of a granule, one after another, and the inbound lists as they are left for writing.
+use Rattle.std.specs.Prelude.{Err, Ok, Result}
 use mathlib.Core.Path.{◌≡◌, refl, sym, ◌∙◌, ap}
 use mathlib.Core.Bool.{Bool, true, false, not}
 use mathlib.Core.List.{List, [], ◌∷◌, ◌++◌}
@@ -18,8 +19,6 @@ use Rattle.columns.specs.Building.{record_count, inbound_lists}
 use Rattle.columns.specs.declared.refusal.Refusal.{Refusal}
 use Rattle.columns.specs.declared.refusal.Refusal.TheVariants.{InboundTwice}
 use Rattle.columns.specs.Answers.{ruling}
-use Rattle.columns.specs.declared.refusal.Ruling.{Ruling}
-use Rattle.columns.specs.declared.refusal.Ruling.TheVariants.{Kept, Broken}
 use Rattle.columns.proofs.Told.{told-kept, last-rule, stops-here, goes_on}
 use Rattle.columns_rules.specs.records.Recorded.{inbound_of, inbound_from}
 use Rattle.columns_encode.proofs.KeptEdges.{edges-given}
@@ -32,11 +31,11 @@ use Rattle.columns_encode.specs.Encoded.{Early, Arranged}
 -- ── 13, then 14 and 15 ───────────────────────────────────────────────────────────────────────
 
 module _ (first rows : ℕ) (lists inbound : List (List ℕ)) (from n : ℕ) {a : Bool} (e : a ≡ all distinct inbound) where
-  pub given-twice : not a ≡ true → Broken InboundTwice ≡ ruling (table_rules first rows lists inbound from n)
+  pub given-twice : not a ≡ true → Err InboundTwice ≡ ruling (table_rules first rows lists inbound from n)
   unfolding table_rules first_of
   given-twice p = rw (← e, not-true a p)
 
-  pub then-spans : not a ≡ false → {s : Ruling} → s ≡ ruling (span_rules first rows lists inbound from n) → s ≡ ruling (table_rules first rows lists inbound from n)
+  pub then-spans : not a ≡ false → {s : Result (Unit {0}) Refusal} → s ≡ ruling (span_rules first rows lists inbound from n) → s ≡ ruling (table_rules first rows lists inbound from n)
   unfolding table_rules first_of
   then-spans p k = rw (← e, not-false a p) (k ∙ ap ruling (sym (last-rule (span_rules first rows lists inbound from n))))
 
@@ -73,7 +72,7 @@ module _ (first rows : ℕ) (cs ps ks : List ℕ) (m : ℕ) (e : m ≡ length (j
     short = omega (arith, given.edges);
   }
 
-  pub arranged-says : (lists : List (List ℕ)) (from n : ℕ) {r : Ruling} → r ≡ ruling (table_rules first rows lists (cut (take (2 * rows + 1) offs) (take m list)) from n)
+  pub arranged-says : (lists : List (List ℕ)) (from n : ℕ) {r : Result (Unit {0}) Refusal} → r ≡ ruling (table_rules first rows lists (cut (take (2 * rows + 1) offs) (take m list)) from n)
       → r ≡ ruling (table_rules first rows lists (inbound_lists kinds first rows (inbound_of cs ps ks)) from n)
   arranged-says lists from n h = rw (arrived-back first rows (inbound_of cs ps ks) m e offs (drop (2 * rows + 1) was) f list (drop m old) g) at h
 
@@ -86,7 +85,7 @@ regroup none (some x) c = refl
 regroup none none (some x) = refl
 regroup none none none = refl
 
-module _ (first rows : ℕ) (lists : List (List ℕ)) (cs ps ks : List ℕ) (from n : ℕ) {r : Ruling}
+module _ (first rows : ℕ) (lists : List (List ℕ)) (cs ps ks : List ℕ) (from n : ℕ) {r : Result (Unit {0}) Refusal}
     (e : r ≡ ruling (inbound_from first (first + rows) cs ps ks 0 (record_count cs ps ks))) where
   late-are : late_rules first rows lists (inbound_of cs ps ks) from n
       ≡ first_of (inbound_from first (first + rows) cs ps ks 0 (record_count cs ps ks) ∷ table_rules first rows lists (inbound_lists kinds first rows (inbound_of cs ps ks)) from n ∷ [])
@@ -94,17 +93,18 @@ module _ (first rows : ℕ) (lists : List (List ℕ)) (cs ps ks : List ℕ) (fro
   late-are = regroup (inbound_from first (first + rows) cs ps ks 0 (record_count cs ps ks))
       (refuse InboundTwice (not (all distinct (inbound_lists kinds first rows (inbound_of cs ps ks))))) (span_rules first rows lists (inbound_lists kinds first rows (inbound_of cs ps ks)) from n)
 
-  pub late-stops : (x : Refusal) → r ≡ Broken x → Broken x ≡ ruling (late_rules first rows lists (inbound_of cs ps ks) from n)
+  pub late-stops : (x : Refusal) → r ≡ Err x → Err x ≡ ruling (late_rules first rows lists (inbound_of cs ps ks) from n)
   late-stops x f = rw late-are (stops-here (inbound_from first (first + rows) cs ps ks 0 (record_count cs ps ks))
       (table_rules first rows lists (inbound_lists kinds first rows (inbound_of cs ps ks)) from n) e x f)
 
-  pub late-then : r ≡ Kept → {s : Ruling} → s ≡ ruling (table_rules first rows lists (inbound_lists kinds first rows (inbound_of cs ps ks)) from n)
+  pub late-then : r ≡ Ok tt → {s : Result (Unit {0}) Refusal} → s ≡ ruling (table_rules first rows lists (inbound_lists kinds first rows (inbound_of cs ps ks)) from n)
       → s ≡ ruling (late_rules first rows lists (inbound_of cs ps ks) from n)
   late-then f k = rw late-are (goes_on (inbound_from first (first + rows) cs ps ks 0 (record_count cs ps ks))
       (table_rules first rows lists (inbound_lists kinds first rows (inbound_of cs ps ks)) from n) e f k)
 
-pub late-edges : (first rows : ℕ) (cs ps ks : List ℕ) {r : Ruling} → r ≡ ruling (inbound_from first (first + rows) cs ps ks 0 (record_count cs ps ks)) → r ≡ Kept → Edges first rows cs ps ks
+pub late-edges : (first rows : ℕ) (cs ps ks : List ℕ) {r : Result (Unit {0}) Refusal} → r ≡ ruling (inbound_from first (first + rows) cs ps ks 0 (record_count cs ps ks)) → r ≡ Ok tt
+    → Edges first rows cs ps ks
 late-edges first rows cs ps ks e f = edges-given first rows cs ps ks (told-kept (inbound_from first (first + rows) cs ps ks 0 (record_count cs ps ks)) e f)
 
-pub never-kept : {A : Type 0} {x : Refusal} → Broken x ≡ Kept → A
+pub never-kept : {A : Type 0} {x : Refusal} → ◌≡◌ {A = Result (Unit {0}) Refusal} (Err x) (Ok tt) → A
 never-kept e = let z : ◌≡◌ {A = ℕ} 0 1 = cc in absurd (omega arith)

@@ -1,4 +1,5 @@
 -- The limits of building, and its first rules after them.
+use Rattle.std.specs.Prelude.{Err, Ok, Result}
 use mathlib.Core.Path.{◌≡◌, refl, sym, ◌∙◌, ap}
 use mathlib.Core.Bool.{Bool, true, false, ◌||◌, or-false, or_comm}
 use mathlib.Core.List.{List, [], ◌∷◌, ◌++◌}
@@ -19,8 +20,6 @@ use Rattle.columns.specs.declared.refusal.Refusal.TheVariants.{SliceShort, OverR
 use Rattle.columns.proofs.FirstBroken.{each_none, not-refused}
 use Rattle.columns.specs.Answers.{ruling}
 use Rattle.columns_rules.specs.Ruled.{file_rules}
-use Rattle.columns.specs.declared.refusal.Ruling.{Ruling}
-use Rattle.columns.specs.declared.refusal.Ruling.TheVariants.{Kept, Broken}
 use Rattle.columns.proofs.Told.{told-kept, stops-here, goes_on}
 use Rattle.columns_rules.specs.records.Recorded.{labels_given, record_rules}
 use Rattle.columns_encode.specs.Encoded.{rooms, limit_rules, input_rules, early_rules}
@@ -71,43 +70,44 @@ module _ (fo fd ro rd io id : ℕ) (a : Bool) (e : a ≡ any short (rooms fo fd)
 -- ── limits ───────────────────────────────────────────────────────────────────────────────────
 
 module _ (rows records : ℕ) (over tight : Bool) where
-  pub many-rows : 1024 < rows → Broken OverRecords ≡ ruling (limit_rules rows records over tight)
+  pub many-rows : 1024 < rows → Err OverRecords ≡ ruling (limit_rules rows records over tight)
   unfolding limit_rules first_of any
   many-rows h = rw (lt-ltb 1024 rows h)
 
   module _ (h : rows ≤ 1024) where
-    pub many-records : 1024 < records → Broken OverRecords ≡ ruling (limit_rules rows records over tight)
+    pub many-records : 1024 < records → Err OverRecords ≡ ruling (limit_rules rows records over tight)
     unfolding limit_rules first_of any
     many-records g = rw (le-ltb 1024 rows h, lt-ltb 1024 records g)
 
     module _ (g : records ≤ 1024) where
-      pub long-column : over ≡ true → Broken OverNumbers ≡ ruling (limit_rules rows records over tight)
+      pub long-column : over ≡ true → Err OverNumbers ≡ ruling (limit_rules rows records over tight)
       unfolding limit_rules first_of any
       long-column f = rw (le-ltb 1024 rows h, le-ltb 1024 records g, f)
 
       module _ (f : over ≡ false) where
-        pub short-slice : tight ≡ true → Broken SliceShort ≡ ruling (limit_rules rows records over tight)
+        pub short-slice : tight ≡ true → Err SliceShort ≡ ruling (limit_rules rows records over tight)
         unfolding limit_rules first_of any
         short-slice t = rw (le-ltb 1024 rows h, le-ltb 1024 records g, f, t)
 
-        pub in_limits : tight ≡ false → Kept ≡ ruling (limit_rules rows records over tight)
+        pub in_limits : tight ≡ false → (Ok tt) ≡ ruling (limit_rules rows records over tight)
         unfolding limit_rules first_of any
         in_limits t = rw (le-ltb 1024 rows h, le-ltb 1024 records g, f, t)
 
-pub few_rows : (rows records : ℕ) (over tight : Bool) (r : Ruling) → r ≡ ruling (limit_rules rows records over tight) → r ≡ Kept → rows ≤ 1024
+pub few_rows : (rows records : ℕ) (over tight : Bool) (r : Result (Unit {0}) Refusal) → r ≡ ruling (limit_rules rows records over tight) → r ≡ Ok tt → rows ≤ 1024
 unfolding limit_rules any
 few_rows rows records over tight r e h =
     ltb-false 1024 rows (or-is-false (ltb 1024 rows) _ (not-refused OverRecords _ (each_none _ (told-kept (limit_rules rows records over tight) e h)).0)).0
 
 -- ── the limits, then 1 to 10 ─────────────────────────────────────────────────────────────────
 
-module _ (subject : List ℕ) (first rows : ℕ) (offsets targets cs ks fs : List ℕ) (depth : Option Depth) (labels : Option Labels) {r : Ruling}
+module _ (subject : List ℕ) (first rows : ℕ) (offsets targets cs ks fs : List ℕ) (depth : Option Depth) (labels : Option Labels) {r : Result (Unit {0}) Refusal}
     (e : r ≡ ruling (file_rules subject first rows offsets targets)) where
-  pub file-stops : (x : Refusal) → r ≡ Broken x → Broken x ≡ ruling (input_rules subject first rows offsets targets cs ks fs depth labels)
+  pub file-stops : (x : Refusal) → r ≡ Err x → Err x ≡ ruling (input_rules subject first rows offsets targets cs ks fs depth labels)
   unfolding input_rules
   file-stops x f = stops-here (file_rules subject first rows offsets targets) (record_rules first rows cs ks fs depth labels) e x f
 
-  pub then-records : r ≡ Kept → {s : Ruling} → s ≡ ruling (record_rules first rows cs ks fs depth labels) → s ≡ ruling (input_rules subject first rows offsets targets cs ks fs depth labels)
+  pub then-records : r ≡ Ok tt → {s : Result (Unit {0}) Refusal} → s ≡ ruling (record_rules first rows cs ks fs depth labels)
+      → s ≡ ruling (input_rules subject first rows offsets targets cs ks fs depth labels)
   unfolding input_rules
   then-records f k = goes_on (file_rules subject first rows offsets targets) (record_rules first rows cs ks fs depth labels) e f k
 
@@ -123,18 +123,18 @@ counted o t c p k false chains seqs =
 
 module _ (subject : List ℕ) (first rows : ℕ) (offsets targets cs ks fs : List ℕ) (depth : Option Depth) (labelled : Bool) (chains seqs : List ℕ) (c p k : ℕ) (tight : Bool)
     (over : Bool) (f : over ≡ any (ltb max_numbers) (length offsets ∷ length targets ∷ c ∷ p ∷ k ∷ length chains ∷ length seqs ∷ []))
-    (records : ℕ) (g : records ≡ record_count cs ks fs) {r : Ruling} (e : r ≡ ruling (limit_rules rows records over tight)) where
+    (records : ℕ) (g : records ≡ record_count cs ks fs) {r : Result (Unit {0}) Refusal} (e : r ≡ ruling (limit_rules rows records over tight)) where
   limited : limit_rules rows records over tight
       ≡ limit_rules rows (record_count cs ks fs) (any (ltb max_numbers)
       (idle_labels labelled chains seqs ++ (length offsets ∷ length targets ∷ c ∷ p ∷ k ∷ label_lengths (labels_given labelled chains seqs)))) tight
   limited = rw (counted (length offsets) (length targets) c p k labelled chains seqs, f, g)
 
-  pub limits-stop : (x : Refusal) → r ≡ Broken x → Broken x ≡ ruling
+  pub limits-stop : (x : Refusal) → r ≡ Err x → Err x ≡ ruling
       (early_rules (idle_labels labelled chains seqs) subject first rows offsets targets cs ks fs depth (labels_given labelled chains seqs) c p k tight)
   unfolding early_rules
   limits-stop x h = stops-here _ (input_rules subject first rows offsets targets cs ks fs depth (labels_given labelled chains seqs)) (e ∙ ap ruling limited) x h
 
-  pub limits-then : r ≡ Kept → {s : Ruling} → s ≡ ruling (input_rules subject first rows offsets targets cs ks fs depth (labels_given labelled chains seqs))
+  pub limits-then : r ≡ Ok tt → {s : Result (Unit {0}) Refusal} → s ≡ ruling (input_rules subject first rows offsets targets cs ks fs depth (labels_given labelled chains seqs))
       → s ≡ ruling (early_rules (idle_labels labelled chains seqs) subject first rows offsets targets cs ks fs depth (labels_given labelled chains seqs) c p k tight)
   unfolding early_rules
   limits-then h q = goes_on _ (input_rules subject first rows offsets targets cs ks fs depth (labels_given labelled chains seqs)) (e ∙ ap ruling limited) h q

@@ -1,4 +1,5 @@
 -- Building as a whole: its limits and first rules, then the rest. What the definition answers is what the two parts of the code do.
+use Rattle.std.specs.Prelude.{Err, Ok, Result}
 use mathlib.Core.Path.{◌≡◌, refl, sym, ◌∙◌, ap}
 use mathlib.Core.Bool.{Bool, true, false}
 use mathlib.Core.List.{List, [], ◌∷◌, ◌++◌}
@@ -21,16 +22,13 @@ use Rattle.columns.specs.declared.refusal.Refusal.TheVariants.{EdgeEntries, Numb
 use Rattle.columns.proofs.FirstBroken.{each_none, not-refused, passed}
 use Rattle.columns.specs.Answers.{ruling}
 use Rattle.columns_rules.specs.Ruled.{file_rules}
-use Rattle.columns.specs.declared.refusal.Ruling.{Ruling}
-use Rattle.columns.specs.declared.refusal.Ruling.TheVariants.{Kept, Broken}
 use Rattle.columns.proofs.Told.{told, told-kept, last-rule}
 use Rattle.columns_rules.specs.records.Recorded.{depth_of, labels_given, inbound_of}
 use Rattle.columns.specs.declared.depth.Depth as given
+use Rattle.columns_encode.specs.declared.writing.Counts.{Counts}
 use Rattle.columns_encode.specs.Grouped.{late_rules}
 use Rattle.columns_encode.specs.Encoded.{rooms, Rooms, Early, limit_rules, input_rules, early_rules}
 use Rattle.columns_encode.specs.Answered.{late_verdict, encoded_of, offsets_laid, deltas_laid}
-use Rattle.columns_encode.specs.declared.kept.Encoded.{Encoded}
-use Rattle.columns_encode.specs.declared.kept.Encoded.TheVariants.{Refused}
 use Rattle.columns_encode.proofs.RuleGroups.{all-rules}
 use Rattle.columns_encode.specs.Lent.{graph_of, slices_of, build_lent}
 
@@ -65,7 +63,7 @@ rooms-kept fo fd ro rd io id e =
 -- ── what the first rules say ─────────────────────────────────────────────────────────────────
 
 module _ (idle subject : List ℕ) (first rows : ℕ) (offsets targets cs ks fs : List ℕ) (depth : Option Depth) (labels : Option Labels) (inbound parents given : ℕ) (tight : Bool)
-    {r : Ruling} (e : r ≡ ruling (early_rules idle subject first rows offsets targets cs ks fs depth labels inbound parents given tight)) (h : r ≡ Kept) where
+    {r : Result (Unit {0}) Refusal} (e : r ≡ ruling (early_rules idle subject first rows offsets targets cs ks fs depth labels inbound parents given tight)) (h : r ≡ Ok tt) where
   both-none : (limit_rules rows (record_count cs ks fs) (any (ltb max_numbers) (idle ++ (length offsets ∷ length targets ∷ inbound ∷ parents ∷ given ∷ label_lengths labels))) tight ≡ none)
       × (input_rules subject first rows offsets targets cs ks fs depth labels ≡ none)
   unfolding early_rules
@@ -98,7 +96,7 @@ module _ (idle subject : List ℕ) (first rows : ℕ) (offsets targets cs ks fs 
 -- ── the two parts ────────────────────────────────────────────────────────────────────────────
 
 module _ (subject : List ℕ) (first rows : ℕ) (offsets targets cs ks fs : List ℕ) (depth : given.Depth) (labelled : Bool) (chains seqs ic ip ik : List ℕ) (from n : ℕ)
-    (fo fd ro rd io id : ℕ) (tight : Bool) (t : tight ≡ any short (rooms fo fd ++ (rooms ro rd ++ rooms io id))) {r : Ruling}
+    (fo fd ro rd io id : ℕ) (tight : Bool) (t : tight ≡ any short (rooms fo fd ++ (rooms ro rd ++ rooms io id))) {r : Result (Unit {0}) Refusal}
     (e : r ≡ ruling (early_rules (idle_labels labelled chains seqs) subject first rows offsets targets cs ks fs (depth_of depth) (labels_given labelled chains seqs)
     (length ic) (length ip) (length ik) tight)) where
   rules-are : first_of (limits (graph_records (graph_of subject first rows offsets targets cs ks fs depth labelled chains seqs ic ip ik from n))
@@ -109,7 +107,7 @@ module _ (subject : List ℕ) (first rows : ℕ) (offsets targets cs ks fs : Lis
   unfolding graph_records graph_lengths limits early_rules limit_rules input_rules
   rules-are = rw (all-rules (graph_of subject first rows offsets targets cs ks fs depth labelled chains seqs ic ip ik from n), t) (regroup _ _ _ _)
 
-  module _ (h : r ≡ Kept) where
+  module _ (h : r ≡ Ok tt) where
     early-none : early_rules (idle_labels labelled chains seqs) subject first rows offsets targets cs ks fs (depth_of depth) (labels_given labelled chains seqs) (length ic)
         (length ip) (length ik) tight ≡ none
     early-none = told-kept (early_rules (idle_labels labelled chains seqs) subject first rows offsets targets cs ks fs (depth_of depth) (labels_given labelled chains seqs)
@@ -122,7 +120,7 @@ module _ (subject : List ℕ) (first rows : ℕ) (offsets targets cs ks fs : Lis
         (built_of kinds (graph_of subject first rows offsets targets cs ks fs depth labelled chains seqs ic ip ik from n)))
         (last-rule (late_rules first rows (cut offsets targets) (inbound_of ic ip ik) from n)))
 
-    pub whole-answer : (x : Encoded) → x ≡ encoded_of (late_verdict first rows (cut offsets targets) (inbound_of ic ip ik) from n)
+    pub whole-answer : (x : Result Counts Refusal) → x ≡ encoded_of (late_verdict first rows (cut offsets targets) (inbound_of ic ip ik) from n)
         → x ≡ encoded_of (build_lent subject first rows offsets targets cs ks fs depth labelled chains seqs ic ip ik from n (slices_of fo fd ro rd io id))
     whole-answer x f = rw build-kept f
 
@@ -134,7 +132,7 @@ module _ (subject : List ℕ) (first rows : ℕ) (offsets targets cs ks fs : Lis
         → out ≡ deltas_laid set (build_lent subject first rows offsets targets cs ks fs depth labelled chains seqs ic ip ik from n (slices_of fo fd ro rd io id)) was
     whole-deltas set was out f = rw build-kept f
 
-  module _ (x : Refusal) (h : r ≡ Broken x) where
+  module _ (x : Refusal) (h : r ≡ Err x) where
     build-broken : build_lent subject first rows offsets targets cs ks fs depth labelled chains seqs ic ip ik from n (slices_of fo fd ro rd io id) ≡ refused x
     unfolding build_beside unless first_of
     build-broken = rw (
@@ -143,7 +141,7 @@ module _ (subject : List ℕ) (first rows : ℕ) (offsets targets cs ks fs : Lis
           (labels_given labelled chains seqs) (length ic) (length ip) (length ik) tight) e h,
     )
 
-    pub whole-refused : Refused x ≡ encoded_of (build_lent subject first rows offsets targets cs ks fs depth labelled chains seqs ic ip ik from n (slices_of fo fd ro rd io id))
+    pub whole-refused : Err x ≡ encoded_of (build_lent subject first rows offsets targets cs ks fs depth labelled chains seqs ic ip ik from n (slices_of fo fd ro rd io id))
     unfolding encoded_of
     whole-refused = rw build-broken
 

@@ -1,5 +1,5 @@
 -- What building answers and leaves in the six slices that it is lent, as views of its verdict.
-use Rattle.std.specs.Prelude.{List, ℕ, zero, suc, ℤ}
+use Rattle.std.specs.Prelude.{List, ℕ, zero, suc, ℤ, Err, Ok, Result}
 use Rattle.std.proofs.lemmas.List.Edits.{sets}
 use Rattle.columns.specs.Limits.{kinds}
 use Rattle.columns.specs.Refusal.{Verdict, refused, accepted, unless}
@@ -7,9 +7,9 @@ use Rattle.columns.specs.EdgeSet.{EdgeSet}
 use Rattle.columns.specs.Building.{InboundColumns, Built, reverse_lists, inbound_lists}
 use Rattle.columns_sets.specs.sets.Reached.{set_at}
 use Rattle.columns_encode.specs.Grouped.{late_rules}
+use Rattle.columns.specs.declared.refusal.Refusal.{Refusal}
 use Rattle.columns_encode.specs.Encoded.{counts_of}
-use Rattle.columns_encode.specs.declared.kept.Encoded.{Encoded}
-use Rattle.columns_encode.specs.declared.kept.Encoded.TheVariants.{Edges, Refused}
+use Rattle.columns_encode.specs.declared.writing.Counts.{Counts}
 
 -- the verdict of a file that keeps the limits and 1 to 10
 unfoldable pub late_verdict : ℕ → ℕ → List (List ℕ) → InboundColumns → ℕ → ℕ → Verdict Built
@@ -18,9 +18,9 @@ late_verdict first rows lists e from n =
     (record { forward = set_at first from n lists; reverse = set_at first from n (reverse_lists kinds first rows lists); inbound = set_at first from n (inbound_lists kinds first rows e) })
 
 -- how many edges each set has, or the refusal
-unfoldable pub encoded_of : Verdict Built → Encoded
-encoded_of (refused r) = Refused r
-encoded_of (accepted b) = Edges (counts_of b.forward b.reverse b.inbound)
+unfoldable pub encoded_of : Verdict Built → Result Counts Refusal
+encoded_of (refused r) = Err r
+encoded_of (accepted b) = Ok (counts_of b.forward b.reverse b.inbound)
 
 -- a set of a granule by its number
 abbrev pub set_in : ℕ → Built → EdgeSet

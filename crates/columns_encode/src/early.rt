@@ -9,7 +9,7 @@ ghost use Rattle.columns_rules.specs.records.Recorded.{labels_given, depth_of};
 ghost use Rattle.columns_encode.specs.Encoded.{rooms, limit_rules, input_rules, early_rules};
 
 use columns::depth::Depth;
-use columns::refusal::{Refusal, Ruling};
+use columns::refusal::Refusal;
 use columns_rules::file::file_rules;
 use columns_rules::records::groups::record_rules;
 use columns_rules::records::parts::longest;
@@ -60,22 +60,22 @@ pub fn are_sets_short(fo: usize, fd: usize, ro: usize, rd: usize, io: usize, id:
 }
 
 // The limits, by how many rows and unresolved records there are, whether a column is too long and whether a lent slice is too short.
-fn limit_rules(rows: usize, records: usize, over: bool, tight: bool) -> Ruling
+fn limit_rules(rows: usize, records: usize, over: bool, tight: bool) -> Result<(), Refusal>
     ensures { result ≡ ruling (limit_rules rows records over tight) }
 {
     if 1024 < rows {
-        return Ruling::Broken(Refusal::OverRecords);
+        return Err(Refusal::OverRecords);
     }
     if 1024 < records {
-        return Ruling::Broken(Refusal::OverRecords);
+        return Err(Refusal::OverRecords);
     }
     if over {
-        return Ruling::Broken(Refusal::OverNumbers);
+        return Err(Refusal::OverNumbers);
     }
     if tight {
-        return Ruling::Broken(Refusal::SliceShort);
+        return Err(Refusal::SliceShort);
     }
-    Ruling::Kept
+    Ok(())
 }
 
 // 1 to 10.
@@ -92,19 +92,16 @@ fn input_rules(
     labelled: bool,
     chains: &[u32],
     seqs: &[u32],
-) -> Ruling
+) -> Result<(), Refusal>
     requires { rows ≤ 1024 }
     ensures { result ≡ ruling (input_rules subject.now first rows offsets.now targets.now children.now kinds.now
         flags.now (depth_of depth)
         (labels_given labelled chains.now seqs.now)) }
 {
-    let r = file_rules(subject, first, rows, offsets, targets);
-    match r {
-        Ruling::Broken(x) => Ruling::Broken(x),
-        Ruling::Kept => record_rules(
-            first, rows, children, kinds, flags, depth, labelled, chains, seqs,
-        ),
-    }
+    file_rules(subject, first, rows, offsets, targets)?;
+    record_rules(
+        first, rows, children, kinds, flags, depth, labelled, chains, seqs,
+    )
 }
 
 // The limits, then 1 to 10. `tight` says whether a slice lent for the answer is too short.
@@ -125,7 +122,7 @@ pub fn early_rules(
     parents: usize,
     ikinds: usize,
     tight: bool,
-) -> Ruling
+) -> Result<(), Refusal>
     ensures { result ≡ ruling (early_rules (idle_labels labelled chains.now seqs.now) subject.now first rows offsets.now
         targets.now children.now kinds.now flags.now (depth_of depth)
         (labels_given labelled chains.now seqs.now) inbound parents ikinds tight) }
@@ -139,12 +136,9 @@ pub fn early_rules(
         chains.len(),
         seqs.len(),
     );
-    let limit = limit_rules(rows, longest(children, kinds, flags), over, tight);
-    match limit {
-        Ruling::Broken(x) => Ruling::Broken(x),
-        Ruling::Kept => input_rules(
-            subject, first, rows, offsets, targets, children, kinds, flags, depth, labelled,
-            chains, seqs,
-        ),
-    }
+    limit_rules(rows, longest(children, kinds, flags), over, tight)?;
+    input_rules(
+        subject, first, rows, offsets, targets, children, kinds, flags, depth, labelled, chains,
+        seqs,
+    )
 }

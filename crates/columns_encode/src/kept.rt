@@ -8,14 +8,7 @@ ghost use Rattle.columns_encode.specs.Answered.{late_verdict, encoded_of, offset
 use crate::late::late_rules;
 use crate::writing::{Counts, write_sets};
 use arrays::index;
-use columns::refusal::{Refusal, Ruling};
-
-// How many edges each set has, or why none was written.
-#[derive(Clone, Copy)]
-pub enum Encoded {
-    Edges(Counts),
-    Refused(Refusal),
-}
+use columns::refusal::Refusal;
 
 // 11 to 15, then the three sets of the n rows from row `from` on. offs, list and w are work space.
 pub fn encode_kept(
@@ -37,7 +30,7 @@ pub fn encode_kept(
     offs: &mut [u64],
     list: &mut [u64],
     w: &mut [u64],
-) -> Encoded
+) -> Result<Counts, Refusal>
     requires early { Early first rows offsets.now targets.now (length children.now) }
     requires rooms { Rooms (length fo.old) (length fd.old) (length ro.old) (length rd.old) (length io.old) (length id.old) }
     requires in_bounds { (2049 ≤ length offs.old) × ((4096 ≤ length list.old) × (4096 ≤ length w.old)) }
@@ -56,16 +49,11 @@ pub fn encode_kept(
     ensures id_after { id.new ≡ deltas_laid 2 (late_verdict first rows (cut offsets.now targets.now)
         (inbound_of children.now parents.now kinds.now) from n) id.old }
 {
-    let r = late_rules(
+    late_rules(
         first, rows, offsets, targets, children, parents, kinds, from, n, offs, list, w,
-    );
-    match r {
-        Ruling::Broken(x) => Encoded::Refused(x),
-        Ruling::Kept => {
-            let m = index(offs[2 * rows]);
-            Encoded::Edges(write_sets(
-                first, rows, from, n, offsets, targets, offs, list, m, fo, fd, ro, rd, io, id,
-            ))
-        }
-    }
+    )?;
+    let m = index(offs[2 * rows]);
+    Ok(write_sets(
+        first, rows, from, n, offsets, targets, offs, list, m, fo, fd, ro, rd, io, id,
+    ))
 }

@@ -7,13 +7,12 @@ ghost use Rattle.columns.specs.Limits.{kinds, kinds as run_kinds, end64};
 ghost use Rattle.columns.specs.EdgeSet.{offsets_form, cut};
 ghost use Rattle.columns.specs.Building.{inbound_lists};
 ghost use Rattle.columns.specs.Answers.{ruling};
-ghost use Rattle.columns.specs.declared.refusal.Ruling.TheVariants.{Kept};
 ghost use Rattle.columns_rules.specs.records.Recorded.{inbound_of};
 ghost use Rattle.columns_sets.specs.counting.GivenEdges.{Edges};
 ghost use Rattle.columns_encode.specs.Grouped.{table_rules, late_rules};
 ghost use Rattle.columns_encode.specs.Encoded.{Early, Arranged};
 
-use columns::refusal::{Refusal, Ruling};
+use columns::refusal::Refusal;
 use columns_rules::records::parts::inbound_rules;
 use columns_rules::spans::groups::span_rules;
 use columns_sets::inbound::{arrange, no_repeats};
@@ -29,7 +28,7 @@ fn table_rules(
     m: usize,
     from: usize,
     n: usize,
-) -> Ruling
+) -> Result<(), Refusal>
     requires rows_bound { (rows ≤ 1024) × (first + rows < end64) }
     requires rows_in_bounds { (2 * rows + 1 ≤ length offs.now) × (m ≤ length list.now) }
     requires offsets_value { offsets_form kinds rows (length targets.now) offsets.now ≡ true }
@@ -39,7 +38,7 @@ fn table_rules(
 {
     let k = 2 * rows + 1;
     if !no_repeats(rows, &offs[..k], &list[..m]) {
-        return Ruling::Broken(Refusal::InboundTwice);
+        return Err(Refusal::InboundTwice);
     }
     span_rules(
         first,
@@ -67,7 +66,7 @@ fn arranged_rules(
     offs: &mut [u64],
     list: &mut [u64],
     w: &mut [u64],
-) -> Ruling
+) -> Result<(), Refusal>
     requires early { Early first rows offsets.now targets.now (length children.now) }
     requires edges { Edges first rows children.now parents.now kinds.now }
     requires in_bounds { (2049 ≤ length offs.old) × ((4096 ≤ length list.old) × (4096 ≤ length w.old)) }
@@ -93,18 +92,15 @@ pub(crate) fn late_rules(
     offs: &mut [u64],
     list: &mut [u64],
     w: &mut [u64],
-) -> Ruling
+) -> Result<(), Refusal>
     requires early { Early first rows offsets.now targets.now (length children.now) }
     requires in_bounds { (2049 ≤ length offs.old) × ((4096 ≤ length list.old) × (4096 ≤ length w.old)) }
     ensures value { result ≡ ruling (late_rules first rows (cut offsets.now targets.now) (inbound_of children.now parents.now kinds.now) from n) }
-    ensures arranged { result ≡ Kept → Arranged rows (inbound_lists run_kinds first rows (inbound_of children.now parents.now kinds.now))
+    ensures arranged { result ≡ (Ok tt) → Arranged rows (inbound_lists run_kinds first rows (inbound_of children.now parents.now kinds.now))
         offs.new list.new }
 {
-    let r = inbound_rules(first, rows, children, parents, kinds);
-    match r {
-        Ruling::Broken(x) => Ruling::Broken(x),
-        Ruling::Kept => arranged_rules(
-            first, rows, offsets, targets, children, parents, kinds, from, n, offs, list, w,
-        ),
-    }
+    inbound_rules(first, rows, children, parents, kinds)?;
+    arranged_rules(
+        first, rows, offsets, targets, children, parents, kinds, from, n, offs, list, w,
+    )
 }

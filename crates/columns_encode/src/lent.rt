@@ -3,9 +3,10 @@ ghost use Rattle.std.specs.Prelude.{◌≤◌, length};
 ghost use Rattle.columns_encode.specs.Lent.{build_lent, slices_of, Answers};
 
 use crate::early::{are_sets_short, early_rules};
-use crate::kept::{Encoded, encode_kept};
+use crate::kept::encode_kept;
+use crate::writing::Counts;
 use columns::depth::Depth;
-use columns::refusal::Ruling;
+use columns::refusal::Refusal;
 
 // Builds the sets of the n rows from row `from` on: the forward set into `fo` and `fd`, offsets and deltas from the start of each slice on, the
 // reverse set into `ro` and `rd`, the inbound set into `io` and `id`. Parents come as slot offsets into targets, unresolved records and inbound
@@ -38,7 +39,7 @@ pub fn encode_lent(
     offs: &mut [u64],
     list: &mut [u64],
     w: &mut [u64],
-) -> Encoded
+) -> Result<Counts, Refusal>
     requires { (2049 ≤ length offs.old) × ((4096 ≤ length list.old) × (4096 ≤ length w.old)) }
     ensures { Answers (build_lent subject.now first rows offsets.now targets.now children.now kinds.now
         flags.now depth labelled chains.now seqs.now ichildren.now iparents.now ikinds.now from n
@@ -47,7 +48,7 @@ pub fn encode_lent(
         fd.new ro.new rd.new io.new id.new }
 {
     let tight = are_sets_short(fo.len(), fd.len(), ro.len(), rd.len(), io.len(), id.len());
-    let r = early_rules(
+    early_rules(
         subject,
         first,
         rows,
@@ -64,12 +65,9 @@ pub fn encode_lent(
         iparents.len(),
         ikinds.len(),
         tight,
-    );
-    match r {
-        Ruling::Broken(x) => Encoded::Refused(x),
-        Ruling::Kept => encode_kept(
-            first, rows, offsets, targets, ichildren, iparents, ikinds, from, n, fo, fd, ro, rd,
-            io, id, offs, list, w,
-        ),
-    }
+    )?;
+    encode_kept(
+        first, rows, offsets, targets, ichildren, iparents, ikinds, from, n, fo, fd, ro, rd, io,
+        id, offs, list, w,
+    )
 }

@@ -5,4 +5,4 @@ pub mod early;
 pub mod kept;
 mod late;
 pub mod lent;
-mod writing;
+pub mod writing;

@@ -53,8 +53,8 @@ pub(crate) fn write_sets(
     let inbound = write_table(first, rows, from, n, offs, list, m, io, id);
     let reverse = write_turned(first, rows, from, n, offsets, targets, ro, rd, offs, list);
     Counts {
-        forward: forward,
-        reverse: reverse,
-        inbound: inbound,
+        forward,
+        reverse,
+        inbound,
     }
 }

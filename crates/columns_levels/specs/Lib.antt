@@ -1,2 +1,3 @@
 pub mod frontier
 pub mod rounds
+pub mod Stored

@@ -5,73 +5,43 @@ ghost use Rattle.lists.specs.Lists.{flat};
 ghost use Rattle.lists.specs.Order.{sort};
 ghost use Rattle.columns.specs.Walk.{level};
 ghost use Rattle.arrays.specs.table.Table.{Table, Keys};
-ghost use Rattle.columns_levels.specs.frontier.Frontier.{parents_in, copied, Laid, Seen, OfKinds};
+ghost use Rattle.columns_levels.specs.frontier.Frontier.{copied, Laid, Seen};
+ghost use Rattle.columns_levels.specs.Stored.{parents_of};
 
+use crate::parents::Parents;
 use arrays::index;
-
-fn wide(x: usize) -> u64
-    ensures { result ≡ x }
-{
-    x as u64
-}
-
-// x, or n where that is less.
-fn clamp(x: u64, n: usize) -> usize
-    ensures { (result ≤ n) × (result ≡ min x n) }
-{
-    let y = index(x);
-    if y < n {
-        return y;
-    }
-    n
-}
-
-fn least(x: usize, n: usize) -> usize
-    ensures { (result ≤ n) × ((result ≤ x) × (result ≡ min x n)) }
-{
-    if x < n {
-        return x;
-    }
-    n
-}
 
 // Makes the parents of v keys.
 pub fn expand(
-    width: usize,
     keys: &mut [u64],
     links: &mut [u64],
     heads: &mut [u64],
     n: usize,
     v: u64,
-    first: u64,
-    kind: usize,
-    offsets: &[u64],
-    targets: &[u64],
+    p: Parents,
 ) -> usize
     requires table { Table keys.old links.old heads.old n }
-    requires of_kinds { OfKinds width kind }
     ensures table_2 { Table keys.new links.new heads.new result }
-    ensures keys { Keys keys.old keys.new n result (parents_in width first kind offsets.now targets.now v) }
+    ensures keys { Keys keys.old keys.new n result (parents_of p.entry v) }
 {
-    if v < first {
+    if v < p.first {
         return n;
     }
-    let d = v - first;
-    if wide(offsets.len()) <= d {
+    let d = v - p.first;
+    if p.offsets.len() as u64 <= d {
         return n;
     }
-    let s = width * index(d) + kind;
-    if offsets.len() <= s + 1 {
+    let s = p.width * index(d) + p.kind;
+    if p.offsets.len() <= s + 1 {
         return n;
     }
-    let a = index(offsets[s]);
-    let b = clamp(offsets[s + 1], targets.len());
-    arrays::table::add_list(keys, links, heads, n, targets, a, b)
+    let a = index(p.offsets[s]);
+    let b = index(p.offsets[s + 1]).min(p.targets.len());
+    arrays::table::add_list(keys, links, heads, n, p.targets, a, b)
 }
 
 // Makes the parents of each of list[lo..hi] keys.
 pub fn collect(
-    width: usize,
     list: &[u64],
     lo: usize,
     hi: usize,
@@ -79,24 +49,16 @@ pub fn collect(
     links: &mut [u64],
     heads: &mut [u64],
     n: usize,
-    first: u64,
-    kind: usize,
-    offsets: &[u64],
-    targets: &[u64],
+    p: Parents,
 ) -> usize
     requires table { Table keys.old links.old heads.old n }
-    requires of_kinds { OfKinds width kind }
     requires hi_in_bounds { hi ≤ length list.now }
     ensures table_2 { Table keys.new links.new heads.new result }
-    ensures keys { Keys keys.old keys.new n result (flat (parents_in width first kind offsets.now targets.now) (slice lo hi list.now)) }
+    ensures keys { Keys keys.old keys.new n result (flat (parents_of p.entry) (slice lo hi list.now)) }
 {
     let mut m = n;
-    let mut i = lo;
-    while i < hi {
-        m = expand(
-            width, keys, links, heads, m, list[i], first, kind, offsets, targets,
-        );
-        i += 1;
+    for i in lo..hi {
+        m = expand(keys, links, heads, m, list[i], p);
     }
     m
 }
@@ -106,10 +68,8 @@ pub fn copy(l: &mut [u64], at: usize, src: &[u64], from: usize, k: usize)
     requires { (at + k ≤ length l.old) × (from + k ≤ length src.now) }
     ensures { l.new ≡ copied l.old at (slice from (from + k) src.now) }
 {
-    let mut i = 0;
-    while i < k {
+    for i in 0..k {
         l[at + i] = src[from + i];
-        i += 1;
     }
 }
 
@@ -131,7 +91,7 @@ pub fn gather(
     let k = r - n;
     copy(buf, base, keys, n, k);
     arrays::sorting::sort_part(buf, base, base + k, w);
-    base + least(k, left)
+    base + k.min(left)
 }
 
 // Where a level ends, and how many keys there are then.
@@ -143,34 +103,28 @@ pub struct Step {
 
 // Lays the level after buf[lo..m] behind buf[..m], which holds all that was visited.
 pub fn advance(
-    width: usize,
     buf: &mut [u64],
     lo: usize,
     m: usize,
     left: usize,
-    first: u64,
-    kind: usize,
-    offsets: &[u64],
-    targets: &[u64],
+    p: Parents,
     keys: &mut [u64],
     links: &mut [u64],
     heads: &mut [u64],
     n: usize,
     w: &mut [u64],
 ) -> Step
-    requires lo_le_m { (lo ≤ m) × ((m ≤ n) × (OfKinds width kind)) }
+    requires lo_le_m { (lo ≤ m) × (m ≤ n) }
     requires keys_in_bounds { (length keys.old ≤ length buf.old) × (length keys.old ≤ length w.old) }
     requires table { Table keys.old links.old heads.old n }
-    requires seen { Seen left n (take m buf.old) keys.old targets.now }
+    requires seen { Seen left n (take m buf.old) keys.old p.targets.now }
     ensures end_le_n { (result.end ≤ result.n) × (result.end ≤ m + left) }
     ensures laid { Laid m buf.old buf.new result.end
-        (level (parents_in width first kind offsets.now targets.now) left (take m buf.old) (slice lo m buf.old)) }
+        (level (parents_of p.entry) left (take m buf.old) (slice lo m buf.old)) }
     ensures table_2 { Table keys.new links.new heads.new result.n }
-    ensures seen_2 { Seen (left - (result.end - m)) result.n (take result.end buf.new) keys.new targets.now }
+    ensures seen_2 { Seen (left - (result.end - m)) result.n (take result.end buf.new) keys.new p.entry.targets.now }
 {
-    let r = collect(
-        width, buf, lo, m, keys, links, heads, n, first, kind, offsets, targets,
-    );
+    let r = collect(buf, lo, m, keys, links, heads, n, p);
     let e = gather(buf, m, left, keys, n, r, w);
     Step { end: e, n: r }
 }

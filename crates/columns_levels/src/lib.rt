@@ -2,5 +2,6 @@
 #![tactic(auto)]
 
 pub mod frontier;
+pub mod parents;
 pub mod rounds;
 pub mod targets;

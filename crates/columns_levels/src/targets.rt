@@ -4,7 +4,7 @@ ghost use Rattle.columns.specs.Reading.{decode_set};
 ghost use Rattle.columns.specs.Answers.{columns_of, room, in_one, counted_of, written_over, width_of};
 
 use columns::kind::Kinds;
-use columns::refusal::Counted;
+use columns::refusal::Refusal;
 use columns::set::Set;
 
 // Reads the forward set into the first n of the targets.
@@ -18,7 +18,7 @@ pub fn read(
     count: u64,
     offsets: &[u64],
     deltas: &[i64],
-) -> Counted
+) -> Result<usize, Refusal>
     requires { n ≤ length targets.old }
     ensures value { result ≡ counted_of (in_one (decode_set (width_of kinds) 0 first rows end (columns_of count offsets.now deltas.now) (room n))) }
     ensures targets_after { targets.new ≡ written_over (take n targets.old)

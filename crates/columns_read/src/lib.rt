@@ -10,17 +10,17 @@ ghost use Rattle.columns.specs.Limits.{max_numbers, Served};
 ghost use Rattle.columns.specs.Refusal.{short};
 ghost use Rattle.columns.specs.Reading.{slots_of, cover_rules, granule_rules};
 ghost use Rattle.columns.specs.Answers.{columns_of, ruling, written_over, width_of};
-ghost use Rattle.columns_read.specs.Granules.{cover_of, lent_granule, rooms, sets_rules, lent_granule_rules, read_lent, counts_of, decoded_of, set_in};
+ghost use Rattle.columns_read.specs.Granules.{cover_of, granule_columns, rooms, sets_rules, lent_granule_rules, read_lent, counts_of, decoded_of, set_in};
 ghost use Rattle.columns.specs.Readable.{Readable};
+ghost use Rattle.columns_slots.specs.Lent.{edges};
 
-use columns::kind;
 use columns::kind::Kinds;
-use columns::refusal::{Refusal, Ruling};
+use columns::refusal::Refusal;
 use columns::set::Set;
+use columns_slots::sets::{Columns, both_rules};
 
 // What a granule is lent with besides its columns: its first number, its rows, the number past its file's last one, the edge count of each
-// set, and whether there is a cover. In the functions below `fo` and `fd` are the offsets and deltas of the forward set, `ro` and `rd` those
-// of the reverse set, `io` and `id` those of the inbound set.
+// set, and whether there is a cover.
 #[derive(Clone, Copy)]
 pub struct Head {
     pub first: u64,
@@ -38,13 +38,6 @@ pub struct Counts {
     pub forward: usize,
     pub reverse: usize,
     pub inbound: usize,
-}
-
-// What reading a granule answers.
-#[derive(Clone, Copy)]
-pub enum Decoded {
-    Edges(Counts),
-    Refused(Refusal),
 }
 
 // ── limits ──
@@ -84,116 +77,78 @@ fn is_any_short(f: usize, r: usize, i: usize) -> bool
 // ── rules ──
 
 // The rules of the label columns, where there is a cover.
-fn cover_rules(rows: usize, cover: bool, chains: &[u64], seqs: &[u64]) -> Ruling
+fn cover_rules(rows: usize, cover: bool, chains: &[u64], seqs: &[u64]) -> Result<(), Refusal>
     ensures { result ≡ ruling (cover_rules rows (cover_of cover chains.now seqs.now)) }
 {
     if cover {
         return columns_slots::sets::label_rules(rows, chains, seqs);
     }
-    Ruling::Kept
+    Ok(())
 }
 
 // The rules of the three sets.
 fn sets_rules(
     width: usize,
     head: Head,
-    fo: &[u64],
-    fd: &[i64],
-    ro: &[u64],
-    rd: &[i64],
-    io: &[u64],
-    id: &[i64],
-) -> Ruling
+    forward: Columns,
+    reverse: Columns,
+    inbound: Columns,
+) -> Result<(), Refusal>
     requires { Served width }
-    ensures { result ≡ ruling (sets_rules width head fo.now fd.now ro.now rd.now io.now id.now) }
+    ensures { result ≡ ruling (sets_rules width head (edges forward.entry) (edges reverse.entry) (edges inbound.entry)) }
 {
     let first = head.first;
     let rows = head.rows;
     let end = head.end;
-    let rules = columns_slots::sets::set_rules(
-        width,
-        Set::Forward,
-        first,
-        rows,
-        end,
-        head.forward,
-        fo,
-        fd,
-    );
-    match rules {
-        Ruling::Kept => columns_slots::sets::both_rules(
-            width,
-            first,
-            rows,
-            end,
-            head.reverse,
-            ro,
-            rd,
-            head.inbound,
-            io,
-            id,
-        ),
-        Ruling::Broken(why) => Ruling::Broken(why),
-    }
+    forward.rules(width, Set::Forward, first, rows, end)?;
+    both_rules(width, first, rows, end, reverse, inbound)
 }
 
 // The rules of the three sets, then those of the labels.
 fn edge_rules(
     width: usize,
     head: Head,
-    fo: &[u64],
-    fd: &[i64],
-    ro: &[u64],
-    rd: &[i64],
-    io: &[u64],
-    id: &[i64],
+    forward: Columns,
+    reverse: Columns,
+    inbound: Columns,
     chains: &[u64],
     seqs: &[u64],
-) -> Ruling
+) -> Result<(), Refusal>
     requires { Served width }
     ensures { result ≡ ruling (granule_rules width head.first head.rows head.end
-        (lent_granule head fo.now fd.now ro.now rd.now io.now id.now chains.now seqs.now)) }
+        (granule_columns head (edges forward.entry) (edges reverse.entry) (edges inbound.entry) chains.now seqs.now)) }
 {
-    let rules = sets_rules(width, head, fo, fd, ro, rd, io, id);
-    match rules {
-        Ruling::Kept => cover_rules(head.rows, head.cover, chains, seqs),
-        Ruling::Broken(why) => Ruling::Broken(why),
-    }
+    sets_rules(width, head, forward, reverse, inbound)?;
+    cover_rules(head.rows, head.cover, chains, seqs)
 }
 
 // The limits, by whether one of the three slices is too short, and the rules of a granule.
 fn granule_rules(
     width: usize,
     head: Head,
-    fo: &[u64],
-    fd: &[i64],
-    ro: &[u64],
-    rd: &[i64],
-    io: &[u64],
-    id: &[i64],
+    forward: Columns,
+    reverse: Columns,
+    inbound: Columns,
     chains: &[u64],
     seqs: &[u64],
     tight: bool,
-) -> Ruling
+) -> Result<(), Refusal>
     requires { Served width }
-    ensures { result ≡ ruling (lent_granule_rules width head fo.now fd.now ro.now rd.now io.now id.now
+    ensures { result ≡ ruling (lent_granule_rules width head (edges forward.entry) (edges reverse.entry) (edges inbound.entry)
         chains.now seqs.now tight) }
 {
     let over = is_granule_over(
-        fo.len(),
-        fd.len(),
-        ro.len(),
-        rd.len(),
-        io.len(),
-        id.len(),
+        forward.offsets.len(),
+        forward.deltas.len(),
+        reverse.offsets.len(),
+        reverse.deltas.len(),
+        inbound.offsets.len(),
+        inbound.deltas.len(),
         chains.len(),
         seqs.len(),
     );
-    let limit = columns_slots::sets::limit_rules(head.rows, over, tight);
-    match limit {
-        Ruling::Kept => edge_rules(width, head, fo, fd, ro, rd, io, id, chains, seqs),
-        Ruling::Broken(why) => Ruling::Broken(why),
-    }
+    columns_slots::sets::limit_rules(head.rows, over, tight)?;
+    edge_rules(width, head, forward, reverse, inbound, chains, seqs)
 }
 
 // ── targets ──
@@ -202,38 +157,35 @@ fn granule_rules(
 fn write_granule(
     width: usize,
     head: Head,
-    fo: &[u64],
-    fd: &[i64],
-    ro: &[u64],
-    rd: &[i64],
-    io: &[u64],
-    id: &[i64],
+    f: Columns,
+    r: Columns,
+    i: Columns,
     forward: &mut [u64],
     reverse: &mut [u64],
     inbound: &mut [u64],
 ) -> Counts
     requires served { Served width }
-    requires readable { Readable width head.first (columns_of head.forward fo.now fd.now) }
-    requires readable_2 { Readable width head.first (columns_of head.reverse ro.now rd.now) }
-    requires readable_3 { Readable width head.first (columns_of head.inbound io.now id.now) }
-    ensures value { result ≡ counts_of (slots_of width head.first (columns_of head.forward fo.now fd.now))
-        (slots_of width head.first (columns_of head.reverse ro.now rd.now)) (slots_of width head.first (columns_of head.inbound io.now id.now)) }
-    ensures forward_after { forward.new ≡ sets forward.old 0 (joined (slots_of width head.first (columns_of head.forward fo.now fd.now))) }
-    ensures reverse_after { reverse.new ≡ sets reverse.old 0 (joined (slots_of width head.first (columns_of head.reverse ro.now rd.now))) }
-    ensures inbound_after { inbound.new ≡ sets inbound.old 0 (joined (slots_of width head.first (columns_of head.inbound io.now id.now))) }
+    requires readable { Readable width head.first (edges f) }
+    requires readable_2 { Readable width head.first (edges r) }
+    requires readable_3 { Readable width head.first (edges i) }
+    ensures value { result ≡ counts_of (slots_of width head.first (edges f.entry))
+        (slots_of width head.first (edges r.entry)) (slots_of width head.first (edges i.entry)) }
+    ensures forward_after { forward.new ≡ sets forward.old 0 (joined (slots_of width head.first (edges f.entry))) }
+    ensures reverse_after { reverse.new ≡ sets reverse.old 0 (joined (slots_of width head.first (edges r.entry))) }
+    ensures inbound_after { inbound.new ≡ sets inbound.old 0 (joined (slots_of width head.first (edges i.entry))) }
 {
-    let first = head.first;
-    let f = columns_slots::sets::write_csr(width, first, head.forward, fo, fd, forward);
-    let r = columns_slots::sets::write_csr(width, first, head.reverse, ro, rd, reverse);
-    let i = columns_slots::sets::write_csr(width, first, head.inbound, io, id, inbound);
+    let nf = f.write(width, head.first, forward);
+    let nr = r.write(width, head.first, reverse);
+    let ni = i.write(width, head.first, inbound);
     Counts {
-        forward: f,
-        reverse: r,
-        inbound: i,
+        forward: nf,
+        reverse: nr,
+        inbound: ni,
     }
 }
 
 // Reads a granule: the targets of each set into a slice of its own, slot after slot. A refused granule leaves all three as they were.
+// `fo` and `fd` are the offsets and deltas of the forward set, `ro` and `rd` those of the reverse set, `io` and `id` those of the inbound set.
 pub fn decode_granule_edges(
     kinds: Kinds,
     head: Head,
@@ -248,7 +200,7 @@ pub fn decode_granule_edges(
     forward: &mut [u64],
     reverse: &mut [u64],
     inbound: &mut [u64],
-) -> Decoded
+) -> Result<Counts, Refusal>
     ensures value { result ≡ decoded_of (read_lent (width_of kinds) head fo.now fd.now ro.now rd.now io.now
         id.now chains.now seqs.now (rooms (length forward.old) (length reverse.old) (length inbound.old))) }
     ensures forward_after { forward.new ≡ written_over forward.old
@@ -261,13 +213,23 @@ pub fn decode_granule_edges(
         (set_in 2 (read_lent (width_of kinds) head fo.now fd.now ro.now rd.now io.now id.now
         chains.now seqs.now (rooms (length forward.old) (length reverse.old) (length inbound.old)))) }
 {
-    let width = kind::width(kinds);
+    let width = kinds.width();
     let tight = is_any_short(forward.len(), reverse.len(), inbound.len());
-    let rules = granule_rules(width, head, fo, fd, ro, rd, io, id, chains, seqs, tight);
-    match rules {
-        Ruling::Kept => Decoded::Edges(write_granule(
-            width, head, fo, fd, ro, rd, io, id, forward, reverse, inbound,
-        )),
-        Ruling::Broken(why) => Decoded::Refused(why),
-    }
+    let f = Columns {
+        count: head.forward,
+        offsets: fo,
+        deltas: fd,
+    };
+    let r = Columns {
+        count: head.reverse,
+        offsets: ro,
+        deltas: rd,
+    };
+    let i = Columns {
+        count: head.inbound,
+        offsets: io,
+        deltas: id,
+    };
+    granule_rules(width, head, f, r, i, chains, seqs, tight)?;
+    Ok(write_granule(width, head, f, r, i, forward, reverse, inbound))
 }

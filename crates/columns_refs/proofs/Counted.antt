@@ -12,6 +12,8 @@ use lib.Seq.{drop-cons}
 use borrow.Author.Tests.{lt-ltb, le-ltb, ltb-true, ltb-false, eq-eqb, ne_eqb}
 use Rattle.lists.specs.Lists.{filter, is_empty}
 use Rattle.lists.proofs.Tests.{tested}
+use Rattle.std.specs.Prelude.{min}
+use Rattle.std.proofs.Math.Nat.{min-eq_left, min-eq_right}
 use Rattle.columns_refs.specs.References.{references_of, names, is_unresolved}
 use Rattle.columns_refs.specs.Resolved.{absent, lesser}
 use Rattle.columns_refs.specs.declared.refs.Reference.{Reference}
@@ -19,13 +21,19 @@ use Rattle.columns_refs.specs.declared.refs.Reference.{Reference}
 -- ── the lesser of two ────────────────────────────────────────────────────────────────────────
 
 module _ (a b : ℕ) where
-  pub lesser-first : a ≤ b → a ≡ lesser a b
+  lesser-first : a ≤ b → a ≡ lesser a b
   unfolding lesser
   lesser-first h = rw (le-ltb b a h)
 
-  pub lesser-second : b < a → b ≡ lesser a b
+  lesser-second : b < a → b ≡ lesser a b
   unfolding lesser
   lesser-second h = rw (lt-ltb b a h)
+
+min-lesser : (a b : ℕ) → min a b ≡ lesser a b
+min-lesser a b = elim (tested (ltb b a)) [
+  | inl e ↦ let h = ltb-true b a e in min-eq_right {n = b} {m = a} (omega arith) ∙ lesser-second a b h
+  | inr e ↦ let h = ltb-false b a e in min-eq_left h ∙ lesser-first a b h
+]
 
 lesser-zero : (b : ℕ) → lesser 0 b ≡ 0
 lesser-zero b = sym (lesser-first 0 b (omega arith))
@@ -60,9 +68,9 @@ references-many (k ∷ ks) (s ∷ ss) (t ∷ ts) (v ∷ vs) (n ∷ ns) =
     )
     (ap suc (references-many ks ss ts vs ns))
 
-pub given-many : (ks ss ts vs ns : List ℕ) (a b c r : ℕ) → a ≡ lesser (length vs) (length ns) → b ≡ lesser (length ts) a → c ≡ lesser (length ss) b → r ≡ lesser (length ks) c
+pub given-many : (ks ss ts vs ns : List ℕ) (a b c r : ℕ) → a ≡ min (length vs) (length ns) → b ≡ min (length ts) a → c ≡ min (length ss) b → r ≡ min (length ks) c
     → r ≡ length (references_of ks ss ts vs ns)
-given-many ks ss ts vs ns a b c r e f g h = h ∙ rw (g, f, e) (sym (references-many ks ss ts vs ns))
+given-many ks ss ts vs ns a b c r e f g h = h ∙ rw (g, f, e, min-lesser, min-lesser, min-lesser, min-lesser) (sym (references-many ks ss ts vs ns))
 
 -- columns of one length hold as many references
 pub even-many : (ks ss ts vs ns : List ℕ) → length ss ≡ length ks → length ts ≡ length ks → length vs ≡ length ks → length ns ≡ length ks
@@ -144,10 +152,10 @@ module _ {t : ℕ} (xs : List Reference) (n i count : ℕ) (m : n ≡ length xs)
   counted-all h = rw (e, drop_of_length-le xs {i = i} (omega arith)) (omega arith)
 
   module _ (h : i < n) (x : Reference) (f : x ≡ get_or xs i absent) {r : Bool} (g : r ≡ is_unresolved x) where
-    pub counted-one : r ≡ true → t ≡ (count + 1) + length (filter is_unresolved (drop (i + 1) xs))
+    pub counted-one : r ≡ true → (now : ℕ) → now ≡ count + 1 → t ≡ now + length (filter is_unresolved (drop (i + 1) xs))
     unfolding filter
-    counted-one q = let k : i < length xs = omega arith in rw (e, drop-cons xs i absent k, ← f, ← g, q, add-one i) (omega arith)
+    counted-one q now u = let k : i < length xs = omega arith in rw (u, e, drop-cons xs i absent k, ← f, ← g, q, add-one i) (omega arith)
 
-    pub counted_none : r ≡ false → t ≡ count + length (filter is_unresolved (drop (i + 1) xs))
+    pub counted_none : r ≡ false → (now : ℕ) → now ≡ count → t ≡ now + length (filter is_unresolved (drop (i + 1) xs))
     unfolding filter
-    counted_none q = let k : i < length xs = omega arith in rw (e, drop-cons xs i absent k, ← f, ← g, q, add-one i)
+    counted_none q now u = let k : i < length xs = omega arith in rw (u, e, drop-cons xs i absent k, ← f, ← g, q, add-one i)

@@ -1,4 +1,5 @@
 -- What is known of references whose rules are kept, and what `resolve_graph` answers and leaves in the slices that it is lent.
+use Rattle.std.specs.Prelude.{Err, Ok, Result}
 use mathlib.Core.Path.{◌≡◌, refl, ◌∙◌}
 use mathlib.Core.Bool.{true, false, ◌&&◌}
 use mathlib.Core.List.{List, [], ◌∷◌, map}
@@ -22,15 +23,12 @@ use Rattle.columns.specs.Building.{numbers_ok}
 use Rattle.columns.specs.Answers.{ruling, written_in}
 use Rattle.columns.specs.declared.refusal.Refusal.{Refusal}
 use Rattle.columns.specs.declared.refusal.Refusal.TheVariants.{EdgeEntries, NumberRange, SliceShort, OverRecords, OverNumbers}
-use Rattle.columns.specs.declared.refusal.Ruling.{Ruling}
-use Rattle.columns.specs.declared.refusal.Ruling.TheVariants.{Kept, Broken}
 use Rattle.columns.proofs.FirstBroken.{each_none, not-refused, passed}
 use Rattle.columns.proofs.Told.{told, told-kept}
 use Rattle.columns_refs.specs.References.{Referred, Unresolved, references_in, rows_in, is_unresolved, parent_lists, unresolved_from, referred_ok, Resolution}
 use Rattle.columns_refs.specs.References.{resolution_of, referred_lengths, input_rules, resolve_rules, resolve_graph}
 use Rattle.columns_refs.specs.Resolved.{slices_of, Noted, RowsForm, Ready, resolved_of, laid, offsets_column, parents_column, Answers}
 use Rattle.columns_refs.specs.declared.Made.{Made}
-use Rattle.columns_refs.specs.declared.Resolved.TheVariants.{Written, Refused}
 use Rattle.columns_refs.proofs.Counted.{even-many}
 use Rattle.columns_refs.proofs.Slots.{length-lists}
 use Rattle.columns_refs.proofs.Bounds.{parents-few, records-many, Accepted, records-accepted, lists-form}
@@ -143,15 +141,15 @@ long o p c k h e =
 -- ── the call ─────────────────────────────────────────────────────────────────────────────────
 
 module _ (g : Referred) (os ps cs us hs : List ℕ) where
-  module _ {q : Ruling} (e : q ≡ ruling (resolve_rules g (slices_of (length os) (length ps) (length cs) (length us) (length hs)))) where
-    pub nothing_written : (why : Refusal) → q ≡ Broken why → Answers (resolve_graph g (slices_of (length os) (length ps) (length cs) (length us) (length hs)))
-        (Refused why) os ps cs us hs os ps cs us hs
+  module _ {q : Result (Unit {0}) Refusal} (e : q ≡ ruling (resolve_rules g (slices_of (length os) (length ps) (length cs) (length us) (length hs)))) where
+    pub nothing_written : (why : Refusal) → q ≡ Err why → Answers (resolve_graph g (slices_of (length os) (length ps) (length cs) (length us) (length hs)))
+        (Err why) os ps cs us hs os ps cs us hs
     unfolding resolve_graph unless resolved_of laid
     nothing_written why f =
         rw (told (resolve_rules g (slices_of (length os) (length ps) (length cs) (length us) (length hs))) e f)
         (record { answer = refl; offsets = refl; parents = refl; children = refl; kinds = refl; handles = refl })
 
-    module _ (f : q ≡ Kept) where
+    module _ (f : q ≡ Ok tt) where
       kept : resolve_rules g (slices_of (length os) (length ps) (length cs) (length us) (length hs)) ≡ none
       kept = told-kept (resolve_rules g (slices_of (length os) (length ps) (length cs) (length us) (length hs))) e f
 
@@ -177,15 +175,15 @@ module _ (g : Referred) (os ps cs us hs : List ℕ) where
             records = record { children = omega (arith, n, l.children); kinds = omega (arith, n, l.kinds); handles = omega (arith, n, l.handles) };
           }
 
-      pub made_is : (m : Made) (os' ps' cs' us' hs' : List ℕ) → Answers (accepted (resolution_of g)) (Written m) os ps cs us hs os' ps' cs' us' hs'
-          → Answers (resolve_graph g (slices_of (length os) (length ps) (length cs) (length us) (length hs))) (Written m) os ps cs us hs os' ps' cs' us' hs'
+      pub made_is : (m : Made) (os' ps' cs' us' hs' : List ℕ) → Answers (accepted (resolution_of g)) (Ok m) os ps cs us hs os' ps' cs' us' hs'
+          → Answers (resolve_graph g (slices_of (length os) (length ps) (length cs) (length us) (length hs))) (Ok m) os ps cs us hs os' ps' cs' us' hs'
       unfolding resolve_graph unless
       made_is m os' ps' cs' us' hs' a = rw kept a
 
   pub all_written : Ready g os ps cs us hs → (os' ps' cs' us' hs' : List ℕ) (made noted : ℕ) → made ≡ length (joined (parent_lists (rows_in g)))
       → os' ≡ sets os 0 (Lists.starts 0 (parent_lists (rows_in g))) → ps' ≡ sets ps 0 (joined (parent_lists (rows_in g)))
       → Noted (unresolved_from g.first 0 (rows_in g)) 0 noted cs us hs cs' us' hs'
-      → Answers (accepted (resolution_of g)) (Written (record { parents = made; unresolved = noted })) os ps cs us hs os' ps' cs' us' hs'
+      → Answers (accepted (resolution_of g)) (Ok (record { parents = made; unresolved = noted })) os ps cs us hs os' ps' cs' us' hs'
   unfolding resolution_of resolved_of laid
   all_written r os' ps' cs' us' hs' made noted a b d n =
       let m : noted ≡ length (unresolved_from g.first 0 (rows_in g)) = omega (arith, n.next) in

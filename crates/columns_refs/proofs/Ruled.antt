@@ -1,4 +1,5 @@
 -- What `resolve_graph` refuses, test by test: the limits, then 2 and 3.
+use Rattle.std.specs.Prelude.{Err, Ok, Result}
 use mathlib.Core.Path.{◌≡◌, refl, ◌∙◌, ap}
 use mathlib.Core.Bool.{Bool, true, false, ◌&&◌, not, or-false}
 use mathlib.Core.List.{List, [], ◌∷◌}
@@ -15,8 +16,6 @@ use Rattle.columns.specs.Refusal.{first_of, short, limits}
 use Rattle.columns.specs.EdgeSet.{from_to}
 use Rattle.columns.specs.Building.{numbers_ok}
 use Rattle.columns.specs.Answers.{ruling}
-use Rattle.columns.specs.declared.refusal.Ruling.{Ruling}
-use Rattle.columns.specs.declared.refusal.Ruling.TheVariants.{Kept, Broken}
 use Rattle.columns.specs.declared.refusal.Refusal.{Refusal}
 use Rattle.columns.specs.declared.refusal.Refusal.TheVariants.{EdgeEntries, NumberRange, SliceShort, OverRecords, OverNumbers}
 use Rattle.columns.proofs.Told.{stops-here, goes_on}
@@ -57,26 +56,26 @@ module _ (o p c k h : ℕ) where
         handles-short e = rw (le-ltb o 2049 a, le-ltb p 4096 b, le-ltb c 1024 d, le-ltb k 1024 e, or-false (ltb h 1024))
 
 module _ (rows records : ℕ) (over tight : Bool) where
-  pub many-rows : 1024 < rows → Broken OverRecords ≡ ruling (limit_rules rows records over tight)
+  pub many-rows : 1024 < rows → Err OverRecords ≡ ruling (limit_rules rows records over tight)
   unfolding limit_rules first_of any
   many-rows h = rw (lt-ltb 1024 rows h)
 
   module _ (h : rows ≤ 1024) where
-    pub many-records : 1024 < records → Broken OverRecords ≡ ruling (limit_rules rows records over tight)
+    pub many-records : 1024 < records → Err OverRecords ≡ ruling (limit_rules rows records over tight)
     unfolding limit_rules first_of any
     many-records g = rw (le-ltb 1024 rows h, lt-ltb 1024 records g)
 
     module _ (g : records ≤ 1024) where
-      pub long-column : over ≡ true → Broken OverNumbers ≡ ruling (limit_rules rows records over tight)
+      pub long-column : over ≡ true → Err OverNumbers ≡ ruling (limit_rules rows records over tight)
       unfolding limit_rules first_of any
       long-column f = rw (le-ltb 1024 rows h, le-ltb 1024 records g, f)
 
       module _ (f : over ≡ false) where
-        pub short-slice : tight ≡ true → Broken SliceShort ≡ ruling (limit_rules rows records over tight)
+        pub short-slice : tight ≡ true → Err SliceShort ≡ ruling (limit_rules rows records over tight)
         unfolding limit_rules first_of any
         short-slice t = rw (le-ltb 1024 rows h, le-ltb 1024 records g, f, t)
 
-        pub in_limits : tight ≡ false → Kept ≡ ruling (limit_rules rows records over tight)
+        pub in_limits : tight ≡ false → (Ok tt) ≡ ruling (limit_rules rows records over tight)
         unfolding limit_rules first_of any
         in_limits t = rw (le-ltb 1024 rows h, le-ltb 1024 records g, f, t)
 
@@ -122,21 +121,21 @@ module _ (k s t v n : ℕ) where
 
 module _ (first rows : ℕ) (starts ks ss ts vs ns : List ℕ) {a : Bool}
     (e : a ≡ (eqb (length ss) (length ks) && (eqb (length ts) (length ks) && (eqb (length vs) (length ks) && eqb (length ns) (length ks))))) where
-  pub uneven : not a ≡ true → Broken EdgeEntries ≡ ruling (input_rules (referred first rows starts ks ss ts vs ns))
+  pub uneven : not a ≡ true → Err EdgeEntries ≡ ruling (input_rules (referred first rows starts ks ss ts vs ns))
   unfolding input_rules first_of referred_ok
   uneven h = rw (← e, not-true a h)
 
   module _ (h : not a ≡ false) {b : Bool} (f : b ≡ (eqb (length starts) (rows + 1) && from_to 0 (length ks) starts)) where
-    pub misplaced : not b ≡ true → Broken EdgeEntries ≡ ruling (input_rules (referred first rows starts ks ss ts vs ns))
+    pub misplaced : not b ≡ true → Err EdgeEntries ≡ ruling (input_rules (referred first rows starts ks ss ts vs ns))
     unfolding input_rules first_of referred_ok
     misplaced k = rw (← e, not-false a h, ← f, not-true b k)
 
     module _ (k : not b ≡ false) {c : Bool} (g : c ≡ numbers_ok first rows) where
-      pub numbers-past : not c ≡ true → Broken NumberRange ≡ ruling (input_rules (referred first rows starts ks ss ts vs ns))
+      pub numbers-past : not c ≡ true → Err NumberRange ≡ ruling (input_rules (referred first rows starts ks ss ts vs ns))
       unfolding input_rules first_of referred_ok
       numbers-past m = rw (← e, not-false a h, ← f, not-false b k, ← g, not-true c m)
 
-      pub input-kept : not c ≡ false → Kept ≡ ruling (input_rules (referred first rows starts ks ss ts vs ns))
+      pub input-kept : not c ≡ false → (Ok tt) ≡ ruling (input_rules (referred first rows starts ks ss ts vs ns))
       unfolding input_rules first_of referred_ok
       input-kept m = rw (← e, not-false a h, ← f, not-false b k, ← g, not-false c m)
 
@@ -145,17 +144,17 @@ module _ (first rows : ℕ) (starts ks ss ts vs ns : List ℕ) {a : Bool}
 module _ (first rows : ℕ) (starts ks ss ts vs ns : List ℕ) (o p c k h records : ℕ) (over tight : Bool)
     (m : records ≡ length (filter is_unresolved (references_of ks ss ts vs ns)))
     (a : over ≡ any (ltb max_numbers) (length starts ∷ length ks ∷ length ss ∷ length ts ∷ length vs ∷ length ns ∷ []))
-    (b : tight ≡ any short (slices_of o p c k h)) {q : Ruling} (e : q ≡ ruling (limit_rules rows records over tight)) where
+    (b : tight ≡ any short (slices_of o p c k h)) {q : Result (Unit {0}) Refusal} (e : q ≡ ruling (limit_rules rows records over tight)) where
   same-limits : limit_rules rows records over tight
       ≡ limits (rows ∷ length (filter is_unresolved (references_of ks ss ts vs ns)) ∷ []) (referred_lengths (referred first rows starts ks ss ts vs ns)) (slices_of o p c k h)
   unfolding limit_rules limits referred_lengths
   same-limits = rw (m, a, b)
 
-  pub limits-stop : (why : Refusal) → q ≡ Broken why → Broken why ≡ ruling (resolve_rules (referred first rows starts ks ss ts vs ns) (slices_of o p c k h))
+  pub limits-stop : (why : Refusal) → q ≡ Err why → Err why ≡ ruling (resolve_rules (referred first rows starts ks ss ts vs ns) (slices_of o p c k h))
   unfolding resolve_rules
   limits-stop why f = stops-here _ (input_rules (referred first rows starts ks ss ts vs ns)) (e ∙ ap ruling same-limits) why f
 
-  pub limits-then : q ≡ Kept → {r : Ruling} → r ≡ ruling (input_rules (referred first rows starts ks ss ts vs ns))
+  pub limits-then : q ≡ Ok tt → {r : Result (Unit {0}) Refusal} → r ≡ ruling (input_rules (referred first rows starts ks ss ts vs ns))
       → r ≡ ruling (resolve_rules (referred first rows starts ks ss ts vs ns) (slices_of o p c k h))
   unfolding resolve_rules
   limits-then f g = goes_on _ (input_rules (referred first rows starts ks ss ts vs ns)) (e ∙ ap ruling same-limits) f g

@@ -159,9 +159,9 @@ module _ (rows : ℕ) (offsets : List ℕ) (xs : List Reference) (f : RowsForm r
 
   module _ (q : ℕ) (h : 2 * rows ≤ q) {was out : List ℕ} (p : ℕ) where
     pub starts-done : Storing was 0 (starts 0 (parent_lists (cut offsets xs))) out q (starts p (drop q (parent_lists (cut offsets xs))))
-        → set out q p ≡ sets was 0 (starts 0 (parent_lists (cut offsets xs)))
+        → q ≤ 2 * rows → set out (2 * rows) p ≡ sets was 0 (starts 0 (parent_lists (cut offsets xs)))
     unfolding starts
-    starts-done s = stored-all (storing-on s (p ∷ []) [] (rw (lists-over q h)) (set out q p) (q + 1) refl refl) refl
+    starts-done s k = let end : 2 * rows ≡ q = omega arith in rw end (stored-all (storing-on s (p ∷ []) [] (rw (lists-over q h)) (set out q p) (q + 1) refl refl) refl)
 
     module _ (s : Storing was 0 (joined (parent_lists (cut offsets xs))) out p (joined (drop q (parent_lists (cut offsets xs))))) where
       none_left : joined (drop q (parent_lists (cut offsets xs))) ≡ []

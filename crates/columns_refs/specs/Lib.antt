@@ -1,3 +1,4 @@
 pub mod References
 pub mod Computes
 pub mod Resolved
+pub mod Lent

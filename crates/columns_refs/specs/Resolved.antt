@@ -1,5 +1,5 @@
 -- What `resolve_graph` is lent, as a file's references and as slices for what it makes, what it answers, and what it leaves in the slices.
-use Rattle.std.specs.Prelude.{◌≡◌, Bool, true, cond, List, [], ◌∷◌, map, ℕ, ◌+◌, ◌*◌, ◌≤◌, ◌<◌, ltb, length}
+use Rattle.std.specs.Prelude.{◌≡◌, Bool, true, cond, List, [], ◌∷◌, map, ℕ, ◌+◌, ◌*◌, ◌≤◌, ◌<◌, ltb, length, Err, Ok, Result}
 use Rattle.std.proofs.Math.Option.{Option}
 use Rattle.std.proofs.lemmas.List.Edits.{sets}
 use Rattle.lists.specs.Lists.{any, joined, starts}
@@ -11,8 +11,7 @@ use Rattle.columns.specs.declared.refusal.Refusal.{Refusal}
 use Rattle.columns.specs.declared.refusal.Refusal.TheVariants.{SliceShort, OverRecords, OverNumbers}
 use Rattle.columns_refs.specs.References.{Referred, references_in, rows_in, Unresolved, Resolution, parent_lists, unresolved_from}
 use Rattle.columns_refs.specs.declared.refs.Reference.{Reference}
-use Rattle.columns_refs.specs.declared.Resolved.{Resolved}
-use Rattle.columns_refs.specs.declared.Resolved.TheVariants.{Written, Refused}
+use Rattle.columns_refs.specs.declared.Made.{Made}
 
 -- ── what is lent ─────────────────────────────────────────────────────────────────────────────
 
@@ -97,9 +96,9 @@ pub record Ready (g : Referred) (os ps cs ks hs : List ℕ) : Type 0 where
 -- ── answers ──────────────────────────────────────────────────────────────────────────────────
 
 -- how many targets the parent lists have, and how many records there are
-unfoldable pub resolved_of : Verdict Resolution → Resolved
-resolved_of (refused r) = Refused r
-resolved_of (accepted x) = Written (record { parents = length (joined x.lists); unresolved = length x.unresolved })
+unfoldable pub resolved_of : Verdict Resolution → Result Made Refusal
+resolved_of (refused r) = Err r
+resolved_of (accepted x) = Ok (record { parents = length (joined x.lists); unresolved = length x.unresolved })
 
 -- a lent slice after a verdict: a column of what was made, and behind it the slice as it was; as it was after a refusal
 unfoldable pub laid : (Resolution → List ℕ) → Verdict Resolution → List ℕ → List ℕ
@@ -123,7 +122,7 @@ abbrev pub handles_column : Resolution → List ℕ
 handles_column x = handles_of x.unresolved
 
 -- the answer of a verdict, and what five slices hold after it
-pub record Answers (v : Verdict Resolution) (r : Resolved) (os ps cs ks hs os' ps' cs' ks' hs' : List ℕ) : Type 0 where
+pub record Answers (v : Verdict Resolution) (r : Result Made Refusal) (os ps cs ks hs os' ps' cs' ks' hs' : List ℕ) : Type 0 where
   pub answer : r ≡ resolved_of v
   pub offsets : os' ≡ laid offsets_column v os
   pub parents : ps' ≡ laid parents_column v ps

@@ -3,10 +3,11 @@ ghost use Rattle.std.specs.Prelude.{[], ◌∷◌, ◌+◌, ◌≤◌, length};
 ghost use Rattle.std.proofs.Math.Seq.{slice};
 ghost use Rattle.columns.specs.Limits.{end64};
 ghost use Rattle.columns.specs.EdgeSet.{cut};
-ghost use Rattle.columns_refs.specs.References.{references_of, records_from, unresolved_from};
+ghost use Rattle.columns_refs.specs.Lent.{references};
+ghost use Rattle.columns_refs.specs.References.{records_from, unresolved_from};
 ghost use Rattle.columns_refs.specs.Resolved.{RowsForm, RecordsRoom, Noted};
 
-use crate::refs::{Reference, is_unresolved, reference_at};
+use crate::refs::{Lent, Reference, is_unresolved, reference_at};
 use arrays::index;
 
 // Writes the record of a reference, if it is unresolved; answers the place after it.
@@ -34,11 +35,7 @@ fn note(
 
 // The same for each reference from place `from` up to `to`.
 fn note_row(
-    kinds: &[u8],
-    spaces: &[u8],
-    targets: &[u64],
-    known: &[u8],
-    numbers: &[u64],
+    lent: Lent,
     from: usize,
     to: usize,
     event: u64,
@@ -47,19 +44,17 @@ fn note_row(
     handles: &mut [u64],
     at: usize,
 ) -> usize
-    requires to_in_bounds { to ≤ length (references_of kinds.now spaces.now targets.now known.now numbers.now) }
-    requires records_room { RecordsRoom (at + length (records_from event from (slice from to (references_of kinds.now spaces.now targets.now known.now numbers.now))))
+    requires to_in_bounds { to ≤ length (references lent) }
+    requires records_room { RecordsRoom (at + length (records_from event from (slice from to (references lent))))
         children.old ukinds.old handles.old }
     ensures { Noted (records_from event from (slice from to
-        (references_of kinds.now spaces.now targets.now known.now numbers.now))) at result children.old
+        (references lent.entry))) at result children.old
         ukinds.old handles.old children.new ukinds.new handles.new }
 {
     let mut p = at;
-    let mut i = from;
-    while i < to {
-        let x = reference_at(kinds, spaces, targets, known, numbers, i);
+    for i in from..to {
+        let x = reference_at(lent, i);
         p = note(x, event, i, children, ukinds, handles, p);
-        i += 1;
     }
     p
 }
@@ -69,33 +64,25 @@ pub(crate) fn note_rows(
     first: u64,
     rows: usize,
     starts: &[u64],
-    kinds: &[u8],
-    spaces: &[u8],
-    targets: &[u64],
-    known: &[u8],
-    numbers: &[u64],
+    lent: Lent,
     children: &mut [u64],
     ukinds: &mut [u64],
     handles: &mut [u64],
 ) -> usize
     requires rows_bound { first + rows ≤ end64 }
-    requires rows_form { RowsForm rows starts.now (references_of kinds.now spaces.now targets.now known.now numbers.now) }
-    requires records_room { RecordsRoom (length (unresolved_from first 0 (cut starts.now (references_of kinds.now spaces.now targets.now known.now numbers.now))))
+    requires rows_form { RowsForm rows starts.now (references lent) }
+    requires records_room { RecordsRoom (length (unresolved_from first 0 (cut starts.now (references lent))))
         children.old ukinds.old handles.old }
     ensures { Noted (unresolved_from first 0 (cut starts.now
-        (references_of kinds.now spaces.now targets.now known.now numbers.now))) 0 result children.old
+        (references lent.entry))) 0 result children.old
         ukinds.old handles.old children.new ukinds.new handles.new }
 {
     let mut p = 0;
-    let mut r = 0;
-    while r < rows {
+    for r in 0..rows {
         let from = index(starts[r]);
         let to = index(starts[r + 1]);
         let event = first + (r as u64);
-        p = note_row(
-            kinds, spaces, targets, known, numbers, from, to, event, children, ukinds, handles, p,
-        );
-        r += 1;
+        p = note_row(lent, from, to, event, children, ukinds, handles, p);
     }
     p
 }

@@ -1,7 +1,8 @@
 // One reference out of the columns, and the unresolved ones counted.
 ghost use Rattle.std.specs.Prelude.{◌≡◌, ◌<◌, length, get_or};
 ghost use Rattle.lists.specs.Lists.{filter};
-ghost use Rattle.columns_refs.specs.References.{references_of, is_unresolved};
+ghost use Rattle.columns_refs.specs.Lent.{references};
+ghost use Rattle.columns_refs.specs.References.{is_unresolved};
 ghost use Rattle.columns_refs.specs.Resolved.{absent, lesser};
 
 // A reference with the answer of its lookup: whether the target is known, 0 for no, and its number.
@@ -14,49 +15,37 @@ pub struct Reference {
     pub number: u64,
 }
 
-fn least(a: usize, b: usize) -> usize
-    ensures { result ≡ lesser a b }
-{
-    if b < a {
-        return b;
-    }
-    a
+// The references of a file as they are lent, a column for each part.
+#[derive(Clone, Copy)]
+pub(crate) struct Lent<'a> {
+    pub kinds: &'a [u8],
+    pub spaces: &'a [u8],
+    pub targets: &'a [u64],
+    pub known: &'a [u8],
+    pub numbers: &'a [u64],
 }
 
 // How many references the columns hold: as many as every column has.
-pub(crate) fn given(
-    kinds: &[u8],
-    spaces: &[u8],
-    targets: &[u64],
-    known: &[u8],
-    numbers: &[u64],
-) -> usize
-    ensures { result ≡ length (references_of kinds.now spaces.now targets.now known.now numbers.now) }
+pub(crate) fn given(lent: Lent) -> usize
+    ensures { result ≡ length (references lent.entry) }
 {
-    let a = least(known.len(), numbers.len());
-    let b = least(targets.len(), a);
-    let c = least(spaces.len(), b);
-    least(kinds.len(), c)
+    let a = lent.known.len().min(lent.numbers.len());
+    let b = lent.targets.len().min(a);
+    let c = lent.spaces.len().min(b);
+    lent.kinds.len().min(c)
 }
 
 // The reference at place i.
-pub(crate) fn reference_at(
-    kinds: &[u8],
-    spaces: &[u8],
-    targets: &[u64],
-    known: &[u8],
-    numbers: &[u64],
-    i: usize,
-) -> Reference
-    requires { i < length (references_of kinds.now spaces.now targets.now known.now numbers.now) }
-    ensures { result ≡ get_or (references_of kinds.now spaces.now targets.now known.now numbers.now) i absent }
+pub(crate) fn reference_at(lent: Lent, i: usize) -> Reference
+    requires { i < length (references lent) }
+    ensures { result ≡ get_or (references lent.entry) i absent }
 {
     Reference {
-        kind: kinds[i],
-        space: spaces[i],
-        target: targets[i],
-        known: known[i],
-        number: numbers[i],
+        kind: lent.kinds[i],
+        space: lent.spaces[i],
+        target: lent.targets[i],
+        known: lent.known[i],
+        number: lent.numbers[i],
     }
 }
 
@@ -74,24 +63,14 @@ pub(crate) fn is_unresolved(x: Reference) -> bool
 }
 
 // How many references are unresolved.
-pub(crate) fn count_unresolved(
-    kinds: &[u8],
-    spaces: &[u8],
-    targets: &[u64],
-    known: &[u8],
-    numbers: &[u64],
-) -> usize
-    ensures { result ≡ length (filter is_unresolved (references_of kinds.now spaces.now targets.now known.now numbers.now)) }
+pub(crate) fn count_unresolved(lent: Lent) -> usize
+    ensures { result ≡ length (filter is_unresolved (references lent.entry)) }
 {
-    let n = given(kinds, spaces, targets, known, numbers);
+    let n = given(lent);
     let mut count = 0;
-    let mut i = 0;
-    while i < n {
-        if is_unresolved(reference_at(kinds, spaces, targets, known, numbers, i)) {
+    for i in 0..n {
+        if is_unresolved(reference_at(lent, i)) {
             count += 1;
-            i += 1;
-        } else {
-            i += 1;
         }
     }
     count

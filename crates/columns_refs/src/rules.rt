@@ -8,10 +8,11 @@ ghost use Rattle.columns.specs.EdgeSet.{from_to};
 ghost use Rattle.columns.specs.Building.{numbers_ok};
 ghost use Rattle.columns.specs.Answers.{ruling};
 ghost use Rattle.columns_refs.specs.References.{input_rules, resolve_rules};
+ghost use Rattle.columns_refs.specs.Lent.{referred_lent};
 ghost use Rattle.columns_refs.specs.Resolved.{referred, slices_of, limit_rules};
 
-use crate::refs::count_unresolved;
-use columns::refusal::{Refusal, Ruling};
+use crate::refs::{Lent, count_unresolved};
+use columns::refusal::Refusal;
 use columns_slots::sets::{is_any_over, is_over};
 
 // ── 42, 43, 41 ──
@@ -53,22 +54,22 @@ fn are_short(offsets: usize, parents: usize, children: usize, ukinds: usize, han
 }
 
 // The limits, by how many rows and unresolved records there are, whether a column is too long and whether a lent slice is too short.
-fn limit_rules(rows: usize, records: usize, over: bool, tight: bool) -> Ruling
+fn limit_rules(rows: usize, records: usize, over: bool, tight: bool) -> Result<(), Refusal>
     ensures { result ≡ ruling (limit_rules rows records over tight) }
 {
     if 1024 < rows {
-        return Ruling::Broken(Refusal::OverRecords);
+        return Err(Refusal::OverRecords);
     }
     if 1024 < records {
-        return Ruling::Broken(Refusal::OverRecords);
+        return Err(Refusal::OverRecords);
     }
     if over {
-        return Ruling::Broken(Refusal::OverNumbers);
+        return Err(Refusal::OverNumbers);
     }
     if tight {
-        return Ruling::Broken(Refusal::SliceShort);
+        return Err(Refusal::SliceShort);
     }
-    Ruling::Kept
+    Ok(())
 }
 
 // ── 2, 3 ──
@@ -78,14 +79,12 @@ fn climbs(high: u64, starts: &[u64]) -> bool
     ensures { result ≡ climbs_to high 0 (drop 1 starts.now) }
 {
     let mut low = 0;
-    let mut i = 1;
-    while i < starts.len() {
+    for i in 1..starts.len() {
         let next = starts[i];
         if next < low {
             return false;
         }
         low = next;
-        i += 1;
     }
     low == high
 }
@@ -130,35 +129,25 @@ fn numbers_fit(first: u64, rows: usize) -> bool
 }
 
 // 2, then 3.
-fn input_rules(
-    first: u64,
-    rows: usize,
-    starts: &[u64],
-    kinds: &[u8],
-    spaces: &[u8],
-    targets: &[u64],
-    known: &[u8],
-    numbers: &[u64],
-) -> Ruling
-    ensures { result ≡ ruling (input_rules (referred first rows starts.now kinds.now spaces.now targets.now
-        known.now numbers.now)) }
+fn input_rules(first: u64, rows: usize, starts: &[u64], lent: Lent) -> Result<(), Refusal>
+    ensures { result ≡ ruling (input_rules (referred_lent first rows starts.now lent.entry)) }
 {
     if !are_even(
-        kinds.len(),
-        spaces.len(),
-        targets.len(),
-        known.len(),
-        numbers.len(),
+        lent.kinds.len(),
+        lent.spaces.len(),
+        lent.targets.len(),
+        lent.known.len(),
+        lent.numbers.len(),
     ) {
-        return Ruling::Broken(Refusal::EdgeEntries);
+        return Err(Refusal::EdgeEntries);
     }
-    if !are_rows(rows, kinds.len(), starts) {
-        return Ruling::Broken(Refusal::EdgeEntries);
+    if !are_rows(rows, lent.kinds.len(), starts) {
+        return Err(Refusal::EdgeEntries);
     }
     if !numbers_fit(first, rows) {
-        return Ruling::Broken(Refusal::NumberRange);
+        return Err(Refusal::NumberRange);
     }
-    Ruling::Kept
+    Ok(())
 }
 
 // ── in order ──
@@ -168,33 +157,25 @@ pub(crate) fn resolve_rules(
     first: u64,
     rows: usize,
     starts: &[u64],
-    kinds: &[u8],
-    spaces: &[u8],
-    targets: &[u64],
-    known: &[u8],
-    numbers: &[u64],
+    lent: Lent,
     offsets: usize,
     parents: usize,
     children: usize,
     ukinds: usize,
     handles: usize,
-) -> Ruling
-    ensures { result ≡ ruling (resolve_rules (referred first rows starts.now kinds.now spaces.now targets.now
-        known.now numbers.now) (slices_of offsets parents children ukinds handles)) }
+) -> Result<(), Refusal>
+    ensures { result ≡ ruling (resolve_rules (referred_lent first rows starts.now lent.entry) (slices_of offsets parents children ukinds handles)) }
 {
-    let records = count_unresolved(kinds, spaces, targets, known, numbers);
+    let records = count_unresolved(lent);
     let over = are_over(
         starts.len(),
-        kinds.len(),
-        spaces.len(),
-        targets.len(),
-        known.len(),
-        numbers.len(),
+        lent.kinds.len(),
+        lent.spaces.len(),
+        lent.targets.len(),
+        lent.known.len(),
+        lent.numbers.len(),
     );
     let tight = are_short(offsets, parents, children, ukinds, handles);
-    let limit = limit_rules(rows, records, over, tight);
-    match limit {
-        Ruling::Broken(why) => Ruling::Broken(why),
-        Ruling::Kept => input_rules(first, rows, starts, kinds, spaces, targets, known, numbers),
-    }
+    limit_rules(rows, records, over, tight)?;
+    input_rules(first, rows, starts, lent)
 }

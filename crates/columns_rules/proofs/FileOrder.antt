@@ -1,16 +1,16 @@
 -- The rules of a file, one after another.
+use Rattle.std.specs.Prelude.{Err, Result}
 use Prim.Native.Nat.{ℕ, ◌+◌, ◌-◌, ◌<◌}
 use Rattle.columns.specs.Building.{subject_ok, numbers_ok, slot_rules}
 use Rattle.columns.specs.EdgeSet.{offsets_form, cut}
 use Rattle.columns.specs.Limits.{kinds, end64}
 use Rattle.columns.specs.Refusal.{first_of}
+use Rattle.columns.specs.declared.refusal.Refusal.{Refusal}
 use Rattle.columns.specs.declared.refusal.Refusal.TheVariants.{SubjectLength, EdgeEntries, NumberRange}
 use Rattle.lists.proofs.Tests.{tested}
 use Rattle.columns.proofs.Told.{last-rule}
 use Rattle.columns.specs.Answers.{ruling}
 use Rattle.columns_rules.specs.Ruled.{file_rules}
-use Rattle.columns.specs.declared.refusal.Ruling.TheVariants.{Broken}
-use Rattle.columns.specs.declared.refusal.Ruling.{Ruling}
 use borrow.Author.Tests.{lt-ltb, le-ltb, leb-true, leb-false, not-true, not-false, ltb-true}
 use lib.Dec.{leb}
 use lib.ListN.{length}
@@ -44,21 +44,21 @@ numbers-are first rows f = elim (tested (leb first (18446744073709551615 - rows)
 -- ── 1 to 5 ───────────────────────────────────────────────────────────────────────────────────
 
 module _ (subject : List ℕ) (first rows : ℕ) (offsets targets : List ℕ) {a : Bool} (e : a ≡ subject_ok subject) where
-  pub subject-bad : not a ≡ true → Broken SubjectLength ≡ ruling (file_rules subject first rows offsets targets)
+  pub subject-bad : not a ≡ true → Err SubjectLength ≡ ruling (file_rules subject first rows offsets targets)
   unfolding file_rules first_of
   subject-bad p = rw (← e, not-true a p)
 
   module _ (p : not a ≡ false) {b : Bool} (f : b ≡ offsets_form kinds rows (length targets) offsets) where
-    pub entries-bad : not b ≡ true → Broken EdgeEntries ≡ ruling (file_rules subject first rows offsets targets)
+    pub entries-bad : not b ≡ true → Err EdgeEntries ≡ ruling (file_rules subject first rows offsets targets)
     unfolding file_rules first_of
     entries-bad q = rw (← e, not-false a p, ← f, not-true b q)
 
     module _ (q : not b ≡ false) {d : Bool} (g : d ≡ numbers_ok first rows) where
-      pub numbers-bad : not d ≡ true → Broken NumberRange ≡ ruling (file_rules subject first rows offsets targets)
+      pub numbers-bad : not d ≡ true → Err NumberRange ≡ ruling (file_rules subject first rows offsets targets)
       unfolding file_rules first_of
       numbers-bad r = rw (← e, not-false a p, ← f, not-false b q, ← g, not-true d r)
 
-      pub then-parents : not d ≡ false → {s : Ruling} → s ≡ ruling (slot_rules kinds first 0 (cut offsets targets)) → s ≡ ruling (file_rules subject first rows offsets targets)
+      pub then-parents : not d ≡ false → {s : Result (Unit {0}) Refusal} → s ≡ ruling (slot_rules kinds first 0 (cut offsets targets)) → s ≡ ruling (file_rules subject first rows offsets targets)
       unfolding file_rules first_of
       then-parents r k = rw (← e, not-false a p, ← f, not-false b q, ← g, not-false d r) (k ∙ ap ruling (sym (last-rule (slot_rules kinds first 0 (cut offsets targets)))))
 

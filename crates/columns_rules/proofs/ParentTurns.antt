@@ -1,4 +1,5 @@
 -- Parents in turn: one turn over the parents of a slot, and one over the slots.
+use Rattle.std.specs.Prelude.{Err, Ok, Result}
 use mathlib.Core.Path.{◌≡◌, refl, sym, ◌∙◌, ap}
 use mathlib.Core.Bool.{Bool, true, false, ◌||◌, or_comm}
 use mathlib.Core.List.{List, [], ◌∷◌, ◌++◌}
@@ -19,8 +20,6 @@ use Rattle.columns.specs.Building.{parent_rules, slot_rules}
 use Rattle.columns.specs.Answers.{ruling}
 use Rattle.columns.specs.declared.refusal.Refusal.{Refusal}
 use Rattle.columns.specs.declared.refusal.Refusal.TheVariants.{ParentNotEarlier, ParentTwice}
-use Rattle.columns.specs.declared.refusal.Ruling.{Ruling}
-use Rattle.columns.specs.declared.refusal.Ruling.TheVariants.{Kept, Broken}
 use Rattle.columns.proofs.Told.{told, told-kept, last-rule}
 use Rattle.columns_rules.proofs.SlotTables.{table_of, length_cut, get_or-cut}
 
@@ -36,18 +35,18 @@ unfolding parent_rules mem
 parents-seen event s t [] h = refl
 parents-seen event s t (p ∷ ps) h = rw (h p, parents-seen event (p ∷ s) (p ∷ t) ps (λ x. ap (λ b. eqb x p || b) (h x)))
 
-module _ {t : Ruling} (event from to j : ℕ) (l : List ℕ) (e : t ≡ ruling (parent_rules event (slice from j l) (slice j to l))) where
-  pub parents-done : to ≤ j → Kept ≡ t
+module _ {t : Result (Unit {0}) Refusal} (event from to j : ℕ) (l : List ℕ) (e : t ≡ ruling (parent_rules event (slice from j l) (slice j to l))) where
+  pub parents-done : to ≤ j → (Ok tt) ≡ t
   unfolding parent_rules
   parents-done h = rw (e, slice-none j to l h)
 
   module _ (h : j < to) (k : to ≤ length l) where
-    pub parent-late : event ≤ get_or l j 0 → Broken ParentNotEarlier ≡ t
+    pub parent-late : event ≤ get_or l j 0 → Err ParentNotEarlier ≡ t
     unfolding parent_rules first_of
     parent-late f = rw (e, slice-cons j to l 0, le-leb event (get_or l j 0) f)
 
     module _ (f : get_or l j 0 < event) {r : Bool} (g : r ≡ mem (get_or l j 0) (slice from j l)) where
-      pub parent-again : r ≡ true → Broken ParentTwice ≡ t
+      pub parent-again : r ≡ true → Err ParentTwice ≡ t
       unfolding parent_rules first_of
       parent-again q = rw (e, slice-cons j to l 0, lt-leb event (get_or l j 0) f, ← g, q)
 
@@ -81,27 +80,28 @@ module _ (rows : ℕ) (offsets targets : List ℕ) (ok : offsets_form kinds rows
     pub slot-list : get_or (cut offsets targets) s [] ≡ slice a b targets
     slot-list = rw (p, q) (get_or-cut (2 * rows) offsets targets (table_of rows (length targets) offsets ok).long s h)
 
-    pub slot-says : (event : ℕ) (f : ℕ) → event ≡ f → {r : Ruling} → r ≡ ruling (parent_rules event [] (slice a b targets)) → r ≡ ruling (parent_rules f [] (get_or (cut offsets targets) s []))
+    pub slot-says : (event : ℕ) (f : ℕ) → event ≡ f → {r : Result (Unit {0}) Refusal} → r ≡ ruling (parent_rules event [] (slice a b targets))
+        → r ≡ ruling (parent_rules f [] (get_or (cut offsets targets) s []))
     slot-says event f d k = rw (slot-list, ← d) k
 
-module _ {t : Ruling} (first rows s : ℕ) (offsets targets : List ℕ) (ok : offsets_form kinds rows (length targets) offsets ≡ true)
+module _ {t : Result (Unit {0}) Refusal} (first rows s : ℕ) (offsets targets : List ℕ) (ok : offsets_form kinds rows (length targets) offsets ≡ true)
     (e : t ≡ ruling (slot_rules kinds first s (drop s (cut offsets targets)))) where
   long : length (cut offsets targets) ≡ 2 * rows
   long = length_cut (2 * rows) 0 offsets targets (table_of rows (length targets) offsets ok).long
 
-  pub slots-done : 2 * rows ≤ s → Kept ≡ t
+  pub slots-done : 2 * rows ≤ s → (Ok tt) ≡ t
   unfolding slot_rules
   slots-done h = rw (e, drop_of_length-le (cut offsets targets) {i = s} (omega (arith, long)))
 
-  module _ (h : s < 2 * rows) {r : Ruling} (k : r ≡ ruling (parent_rules (event_of kinds first s) [] (get_or (cut offsets targets) s []))) where
+  module _ (h : s < 2 * rows) {r : Result (Unit {0}) Refusal} (k : r ≡ ruling (parent_rules (event_of kinds first s) [] (get_or (cut offsets targets) s []))) where
     here : drop s (cut offsets targets) ≡ get_or (cut offsets targets) s [] ∷ drop (suc s) (cut offsets targets)
     here = drop-cons (cut offsets targets) s [] (omega (arith, long))
 
-    pub slots-stop : {x : Refusal} → r ≡ Broken x → Broken x ≡ t
+    pub slots-stop : {x : Refusal} → r ≡ Err x → Err x ≡ t
     unfolding slot_rules first_of
     slots-stop g = rw (e, here, told (parent_rules (event_of kinds first s) [] (get_or (cut offsets targets) s [])) k g)
 
-    pub slots-on : r ≡ Kept → t ≡ ruling (slot_rules kinds first (s + 1) (drop (s + 1) (cut offsets targets)))
+    pub slots-on : r ≡ Ok tt → t ≡ ruling (slot_rules kinds first (s + 1) (drop (s + 1) (cut offsets targets)))
     unfolding slot_rules first_of
     slots-on g =
         rw (e, here, told-kept (parent_rules (event_of kinds first s) [] (get_or (cut offsets targets) s [])) k g, add-one)

@@ -6,7 +6,7 @@ ghost use Rattle.columns_rules.specs.Ruled.{file_rules};
 
 use crate::slots::slot_rules;
 use columns::kind::KINDS;
-use columns::refusal::{Refusal, Ruling};
+use columns::refusal::Refusal;
 use columns_slots::sets::is_form;
 
 fn subject_fits(subject: &[u8]) -> bool
@@ -32,18 +32,18 @@ pub fn file_rules(
     rows: usize,
     offsets: &[u64],
     targets: &[u64],
-) -> Ruling
+) -> Result<(), Refusal>
     requires { rows ≤ 1024 }
     ensures { result ≡ ruling (file_rules subject.now first rows offsets.now targets.now) }
 {
     if !subject_fits(subject) {
-        return Ruling::Broken(Refusal::SubjectLength);
+        return Err(Refusal::SubjectLength);
     }
     if !is_form(KINDS, rows, targets.len() as u64, offsets) {
-        return Ruling::Broken(Refusal::EdgeEntries);
+        return Err(Refusal::EdgeEntries);
     }
     if !numbers_fit(first, rows) {
-        return Ruling::Broken(Refusal::NumberRange);
+        return Err(Refusal::NumberRange);
     }
     slot_rules(first, rows, offsets, targets)
 }

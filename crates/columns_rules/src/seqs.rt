@@ -48,12 +48,10 @@ fn rise_in(
     requires chains_len { (length chains.now ≡ length seqs.now) × (length chains.now ≤ length keys.old) }
     ensures { result ≡ seqs_rise [] (labels_of chains.now seqs.now) }
 {
-    let mut n = 0;
-    while n < chains.len() {
+    for n in 0..chains.len() {
         if !take_row(chains, seqs, keys, links, heads, n) {
             return false;
         }
-        n += 1;
     }
     true
 }

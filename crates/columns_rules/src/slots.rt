@@ -8,29 +8,33 @@ ghost use Rattle.columns.specs.Answers.{ruling};
 
 use arrays::index;
 use arrays::searching::among;
-use columns::refusal::{Refusal, Ruling};
+use columns::refusal::Refusal;
 
 // Each parent of one slot in turn: below its event, and not one of those before it.
-fn parent_rules(event: u64, targets: &[u64], from: usize, to: usize) -> Ruling
+fn parent_rules(event: u64, targets: &[u64], from: usize, to: usize) -> Result<(), Refusal>
     requires { (from ≤ to) × (to ≤ length targets.now) }
     ensures { result ≡ ruling (parent_rules event [] (slice from to targets.now)) }
 {
-    let mut j = from;
-    while j < to {
+    for j in from..to {
         let p = targets[j];
         if event <= p {
-            return Ruling::Broken(Refusal::ParentNotEarlier);
+            return Err(Refusal::ParentNotEarlier);
         }
         if among(targets, from, j, p) {
-            return Ruling::Broken(Refusal::ParentTwice);
+            return Err(Refusal::ParentTwice);
         }
-        j += 1;
     }
-    Ruling::Kept
+    Ok(())
 }
 
 // The parents of slot s.
-fn slot_rule(first: u64, rows: usize, offsets: &[u64], targets: &[u64], s: usize) -> Ruling
+fn slot_rule(
+    first: u64,
+    rows: usize,
+    offsets: &[u64],
+    targets: &[u64],
+    s: usize,
+) -> Result<(), Refusal>
     requires s_bound { (s < 2 * rows) × ((rows ≤ 1024) × (first + rows < end64)) }
     requires offsets_value { offsets_form kinds rows (length targets.now) offsets.now ≡ true }
     ensures { result ≡ ruling (parent_rules (event_of kinds first s) [] (get_or (cut offsets.now targets.now) s [])) }
@@ -43,22 +47,13 @@ fn slot_rule(first: u64, rows: usize, offsets: &[u64], targets: &[u64], s: usize
 }
 
 // Row by row, kinds rising.
-pub fn slot_rules(first: u64, rows: usize, offsets: &[u64], targets: &[u64]) -> Ruling
+pub fn slot_rules(first: u64, rows: usize, offsets: &[u64], targets: &[u64]) -> Result<(), Refusal>
     requires rows_bound { (rows ≤ 1024) × (first + rows < end64) }
     requires offsets_value { offsets_form kinds rows (length targets.now) offsets.now ≡ true }
     ensures { result ≡ ruling (slot_rules kinds first 0 (cut offsets.now targets.now)) }
 {
-    let mut s = 0;
-    while s < 2 * rows {
-        let r = slot_rule(first, rows, offsets, targets, s);
-        match r {
-            Ruling::Broken(x) => {
-                return Ruling::Broken(x);
-            }
-            Ruling::Kept => {
-                s += 1;
-            }
-        }
+    for s in 0..2 * rows {
+        slot_rule(first, rows, offsets, targets, s)?;
     }
-    Ruling::Kept
+    Ok(())
 }

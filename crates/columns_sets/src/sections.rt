@@ -43,11 +43,9 @@ fn write_list(
     ensures value { result ≡ at + length (deltas_within low high event (get_or (cut offsets.now targets.now) s [])) }
 {
     let b = index(offsets[s + 1]);
-    let mut j = index(offsets[s]);
     let mut p = at;
-    while j < b {
+    for j in index(offsets[s])..b {
         p = write_delta(out, p, event, targets[j], low, high);
-        j += 1;
     }
     p
 }

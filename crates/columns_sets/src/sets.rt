@@ -30,10 +30,8 @@ fn write_slot(event: u64, targets: &[u64], a: usize, b: usize, base: usize, out:
     requires targets_value { spans_fit event (slice a b targets.now) ≡ true }
     ensures { out.new ≡ sets out.old (a - base) (map (delta_of event) (slice a b targets.now)) }
 {
-    let mut j = a;
-    while j < b {
+    for j in a..b {
         out[j - base] = delta(event, targets[j]);
-        j += 1;
     }
 }
 
@@ -78,10 +76,8 @@ fn write_deltas(
     ensures { out.new ≡ sets out.old 0 (joined (deltas_from kinds (first + from) 0 (part (2 * from) (2 * n) (cut offsets.now targets.now)))) }
 {
     let base = index(offsets[2 * from]);
-    let mut q = 0;
-    while q < 2 * n {
+    for q in 0..2 * n {
         write_slot_of(first, rows, from, q, base, offsets, targets, out);
-        q += 1;
     }
 }
 
@@ -99,10 +95,8 @@ fn write_starts(
     ensures { out.new ≡ sets out.old 0 (starts 0 (part (2 * from) (2 * n) (cut offsets.now targets.now))) }
 {
     let base = offsets[2 * from];
-    let mut s = 0;
-    while s < 2 * n + 1 {
+    for s in 0..2 * n + 1 {
         out[s] = offsets[2 * from + s] - base;
-        s += 1;
     }
 }
 

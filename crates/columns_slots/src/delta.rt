@@ -7,11 +7,7 @@ ghost use Rattle.columns.specs.Answers.{named};
 fn magnitude(delta: i64) -> u64
     ensures { result ≡ nat_abs delta }
 {
-    if delta < 0 {
-        let less: i64 = -1 - delta;
-        return (less as u64) + 1;
-    }
-    delta as u64
+    delta.unsigned_abs()
 }
 
 // The number event minus delta.
@@ -48,7 +44,7 @@ pub(crate) fn is_sound(set: u64, end: u64, event: u64, delta: i64) -> bool
 {
     let far = magnitude(delta);
     if delta < 0 {
-        if event <= 18446744073709551615 - far {
+        if event <= u64::MAX - far {
             return is_allowed(set, end, event, event + far);
         }
         return false;

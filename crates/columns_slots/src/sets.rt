@@ -9,11 +9,20 @@ ghost use Rattle.columns.specs.EdgeSet.{cut, event_of, from_to, offsets_form, ta
 ghost use Rattle.columns.specs.Reading.{sound_from, targets_from, slots_of, set_rules, label_rules};
 ghost use Rattle.columns.specs.Answers.{set_number, named, short32, columns_of, label_columns, room, limits_of, lent_rules, both_rules, ruling};
 ghost use Rattle.columns.specs.Readable.{Readable, Edged};
+ghost use Rattle.columns_slots.specs.Lent.{edges};
 
 use super::delta;
 use arrays::index;
-use columns::refusal::{Refusal, Ruling};
+use columns::refusal::Refusal;
 use columns::set::Set;
+
+// The columns of a set of edges, as they are lent: how many edges there are, where each slot's deltas start, and the deltas.
+#[derive(Clone, Copy)]
+pub struct Columns<'a> {
+    pub count: u64,
+    pub offsets: &'a [u64],
+    pub deltas: &'a [i64],
+}
 
 // ── offsets: 17 ──
 
@@ -22,14 +31,12 @@ fn climbs(high: u64, offsets: &[u64]) -> bool
     ensures { result ≡ climbs_to high 0 (drop 1 offsets.now) }
 {
     let mut low = 0;
-    let mut i = 1;
-    while i < offsets.len() {
+    for i in 1..offsets.len() {
         let next = offsets[i];
         if next < low {
             return false;
         }
         low = next;
-        i += 1;
     }
     low == high
 }
@@ -61,7 +68,7 @@ pub fn is_form(width: usize, rows: usize, count: u64, offsets: &[u64]) -> bool
 fn has_event(first: u64, row: usize) -> bool
     ensures { result ≡ ltb (first + row) end64 }
 {
-    first <= 18446744073709551615 - (row as u64)
+    first <= u64::MAX - (row as u64)
 }
 
 // That number.
@@ -74,17 +81,12 @@ fn event(first: u64, row: usize) -> u64
 
 // Whether each of an event's deltas from one place up to another is sound. The set is given by its number, which costs less to hand on than the enum.
 fn all_sound(set: u64, end: u64, event: u64, deltas: &[i64], from: usize, to: usize) -> bool
-    requires { to ≤ length deltas.now }
+    requires { (from ≤ to) × (to ≤ length deltas.now) }
     ensures { result ≡ all (sound set end event) (slice from to deltas.now) }
 {
-    let mut i = from;
-    while i < to {
-        if !delta::is_sound(set, end, event, deltas[i]) {
-            return false;
-        }
-        i += 1;
-    }
-    true
+    deltas[from..to]
+        .iter()
+        .all(|&delta| delta::is_sound(set, end, event, delta))
 }
 
 // Whether a row has a number and the deltas of its slots are sound.
@@ -93,45 +95,34 @@ fn is_row_sound(
     set: u64,
     first: u64,
     end: u64,
-    offsets: &[u64],
-    deltas: &[i64],
+    s: Columns,
     slot: usize,
     row: usize,
 ) -> bool
     requires served { Served width }
-    requires width_in_bounds { (slot + width < length offsets.now) × (from_to 0 (length deltas.now) offsets.now ≡ true) }
-    ensures { result ≡ (ltb (first + row) end64 && all (sound set end (first + row)) (joined (part slot width (cut offsets.now deltas.now)))) }
+    requires width_in_bounds { (slot + width < length s.offsets.now) × (from_to 0 (length s.deltas.now) s.offsets.now ≡ true) }
+    ensures { result ≡ (ltb (first + row) end64 && all (sound set end (first + row)) (joined (part slot width (cut s.entry.offsets.now s.entry.deltas.now)))) }
 {
     if !has_event(first, row) {
         return false;
     }
-    let from = index(offsets[slot]);
-    let to = index(offsets[slot + width]);
-    all_sound(set, end, event(first, row), deltas, from, to)
+    let from = index(s.offsets[slot]);
+    let to = index(s.offsets[slot + width]);
+    all_sound(set, end, event(first, row), s.deltas, from, to)
 }
 
 // The same of every row.
-fn are_sound(
-    width: usize,
-    set: u64,
-    first: u64,
-    rows: usize,
-    end: u64,
-    offsets: &[u64],
-    deltas: &[i64],
-) -> bool
+fn are_sound(width: usize, set: u64, first: u64, rows: usize, end: u64, s: Columns) -> bool
     requires served { Served width }
-    requires offsets_len { (length offsets.now ≡ width * rows + 1) × (from_to 0 (length deltas.now) offsets.now ≡ true) }
-    ensures { result ≡ sound_from width set first end 0 (cut offsets.now deltas.now) }
+    requires offsets_len { (length s.offsets.now ≡ width * rows + 1) × (from_to 0 (length s.deltas.now) s.offsets.now ≡ true) }
+    ensures { result ≡ sound_from width set first end 0 (cut s.entry.offsets.now s.entry.deltas.now) }
 {
     let mut slot = 0;
-    let mut row = 0;
-    while row < rows {
-        if !is_row_sound(width, set, first, end, offsets, deltas, slot, row) {
+    for row in 0..rows {
+        if !is_row_sound(width, set, first, end, s, slot, row) {
             return false;
         }
         slot += width;
-        row += 1;
     }
     true
 }
@@ -147,26 +138,38 @@ fn number_of(set: Set) -> u64
     }
 }
 
-// The same of a set.
-fn is_set_sound(
-    width: usize,
-    set: Set,
-    first: u64,
-    rows: usize,
-    end: u64,
-    offsets: &[u64],
-    deltas: &[i64],
-) -> bool
-    requires served { Served width }
-    requires offsets_len { (length offsets.now ≡ width * rows + 1) × (from_to 0 (length deltas.now) offsets.now ≡ true) }
-    ensures { result ≡ sound_from width (set_number set) first end 0 (cut offsets.now deltas.now) }
-{
-    are_sound(width, number_of(set), first, rows, end, offsets, deltas)
-}
-
 // ── the rules of one set ──
 
-// 17, 18, 19. A set without edges has no deltas to look at.
+impl<'a> Columns<'a> {
+    // 17, 18, 19. A set without edges has no deltas to look at.
+    pub fn rules(
+        self,
+        width: usize,
+        set: Set,
+        first: u64,
+        rows: usize,
+        end: u64,
+    ) -> Result<(), Refusal>
+        requires { Served width }
+        ensures { result ≡ ruling (set_rules width (set_number set) first rows end (edges self.entry)) }
+    {
+        if !is_form(width, rows, self.count, self.offsets) {
+            return Err(Refusal::OffsetsForm);
+        }
+        if self.count == 0 {
+            return Ok(());
+        }
+        if self.deltas.len() as u64 != self.count {
+            return Err(Refusal::DeltaCount);
+        }
+        if !are_sound(width, number_of(set), first, rows, end, self) {
+            return Err(Refusal::TargetSide);
+        }
+        Ok(())
+    }
+}
+
+// The rules of a set whose columns are given one by one.
 pub fn set_rules(
     width: usize,
     set: Set,
@@ -176,23 +179,16 @@ pub fn set_rules(
     count: u64,
     offsets: &[u64],
     deltas: &[i64],
-) -> Ruling
+) -> Result<(), Refusal>
     requires { Served width }
     ensures { result ≡ ruling (set_rules width (set_number set) first rows end (columns_of count offsets.now deltas.now)) }
 {
-    if !is_form(width, rows, count, offsets) {
-        return Ruling::Broken(Refusal::OffsetsForm);
-    }
-    if count == 0 {
-        return Ruling::Kept;
-    }
-    if deltas.len() as u64 != count {
-        return Ruling::Broken(Refusal::DeltaCount);
-    }
-    if !is_set_sound(width, set, first, rows, end, offsets, deltas) {
-        return Ruling::Broken(Refusal::TargetSide);
-    }
-    Ruling::Kept
+    let s = Columns {
+        count,
+        offsets,
+        deltas,
+    };
+    s.rules(width, set, first, rows, end)
 }
 
 // ── limits: 42, 43, 41 ──
@@ -201,36 +197,30 @@ pub fn set_rules(
 pub fn is_over(a: usize, b: usize) -> bool
     ensures { result ≡ any (ltb max_numbers) (a ∷ b ∷ []) }
 {
-    if 4096 < a {
-        return true;
-    }
-    4096 < b
+    4096 < a || 4096 < b
 }
 
 // Whether one of four columns is too long.
 pub fn is_any_over(a: usize, b: usize, c: usize, d: usize) -> bool
     ensures { result ≡ any (ltb max_numbers) (a ∷ b ∷ c ∷ d ∷ []) }
 {
-    if is_over(a, b) {
-        return true;
-    }
-    is_over(c, d)
+    is_over(a, b) || is_over(c, d)
 }
 
 // The limits, by whether a column is too long and whether a lent slice is too short.
-pub fn limit_rules(rows: usize, over: bool, short: bool) -> Ruling
+pub fn limit_rules(rows: usize, over: bool, short: bool) -> Result<(), Refusal>
     ensures { result ≡ ruling (limits_of rows over short) }
 {
     if 1024 < rows {
-        return Ruling::Broken(Refusal::OverRecords);
+        return Err(Refusal::OverRecords);
     }
     if over {
-        return Ruling::Broken(Refusal::OverNumbers);
+        return Err(Refusal::OverNumbers);
     }
     if short {
-        return Ruling::Broken(Refusal::SliceShort);
+        return Err(Refusal::SliceShort);
     }
-    Ruling::Kept
+    Ok(())
 }
 
 // The limits and the rules of one set that is lent by itself, with a slice of length `out` for its answer.
@@ -240,20 +230,15 @@ pub fn csr_rules(
     first: u64,
     rows: usize,
     end: u64,
-    count: u64,
-    offsets: &[u64],
-    deltas: &[i64],
+    s: Columns,
     out: usize,
-) -> Ruling
+) -> Result<(), Refusal>
     requires { Served width }
-    ensures { result ≡ ruling (lent_rules width (set_number set) first rows end (columns_of count offsets.now deltas.now) (room out)) }
+    ensures { result ≡ ruling (lent_rules width (set_number set) first rows end (edges s.entry) (room out)) }
 {
-    let over = is_over(offsets.len(), deltas.len());
-    let limit = limit_rules(rows, over, out < 4096);
-    match limit {
-        Ruling::Kept => set_rules(width, set, first, rows, end, count, offsets, deltas),
-        Ruling::Broken(why) => Ruling::Broken(why),
-    }
+    let over = is_over(s.offsets.len(), s.deltas.len());
+    limit_rules(rows, over, out < 4096)?;
+    s.rules(width, set, first, rows, end)
 }
 
 // The rules of a reverse set, then those of an inbound set.
@@ -262,39 +247,14 @@ pub fn both_rules(
     first: u64,
     rows: usize,
     end: u64,
-    rcount: u64,
-    roffsets: &[u64],
-    rdeltas: &[i64],
-    icount: u64,
-    ioffsets: &[u64],
-    ideltas: &[i64],
-) -> Ruling
+    reverse: Columns,
+    inbound: Columns,
+) -> Result<(), Refusal>
     requires { Served width }
-    ensures { result ≡ ruling (both_rules width first rows end (columns_of rcount roffsets.now rdeltas.now) (columns_of icount ioffsets.now ideltas.now)) }
+    ensures { result ≡ ruling (both_rules width first rows end (edges reverse.entry) (edges inbound.entry)) }
 {
-    let rules = set_rules(
-        width,
-        Set::Reverse,
-        first,
-        rows,
-        end,
-        rcount,
-        roffsets,
-        rdeltas,
-    );
-    match rules {
-        Ruling::Kept => set_rules(
-            width,
-            Set::Inbound,
-            first,
-            rows,
-            end,
-            icount,
-            ioffsets,
-            ideltas,
-        ),
-        Ruling::Broken(why) => Ruling::Broken(why),
-    }
+    reverse.rules(width, Set::Reverse, first, rows, end)?;
+    inbound.rules(width, Set::Inbound, first, rows, end)
 }
 
 // ── label columns: 20, 21 ──
@@ -303,33 +263,26 @@ pub fn both_rules(
 fn all_short(column: &[u64]) -> bool
     ensures { result ≡ all short32 column.now }
 {
-    let mut i = 0;
-    while i < column.len() {
-        if 4294967295 < column[i] {
-            return false;
-        }
-        i += 1;
-    }
-    true
+    column.iter().all(|&x| x <= 4294967295)
 }
 
 // A label for each row, in numbers of 32 bits.
-pub fn label_rules(rows: usize, chains: &[u64], seqs: &[u64]) -> Ruling
+pub fn label_rules(rows: usize, chains: &[u64], seqs: &[u64]) -> Result<(), Refusal>
     ensures { result ≡ ruling (label_rules rows (label_columns chains.now seqs.now)) }
 {
     if chains.len() != rows {
-        return Ruling::Broken(Refusal::LabelColumns);
+        return Err(Refusal::LabelColumns);
     }
     if seqs.len() != rows {
-        return Ruling::Broken(Refusal::LabelColumns);
+        return Err(Refusal::LabelColumns);
     }
     if !all_short(chains) {
-        return Ruling::Broken(Refusal::LabelRange);
+        return Err(Refusal::LabelRange);
     }
     if !all_short(seqs) {
-        return Ruling::Broken(Refusal::LabelRange);
+        return Err(Refusal::LabelRange);
     }
-    Ruling::Kept
+    Ok(())
 }
 
 // ── writing targets ──
@@ -358,11 +311,9 @@ fn write_targets(
     ensures out_after { out.new ≡ sets out.old at (map (target_of event) (slice from to deltas.now)) }
 {
     let mut past = at;
-    let mut i = from;
-    while i < to {
+    for i in from..to {
         put(out, past, delta::target(event, deltas[i]));
         past += 1;
-        i += 1;
     }
     past
 }
@@ -383,11 +334,9 @@ fn write_within(
     ensures out_after { out.new ≡ sets out.old at (map (target_of event) (slice from to deltas.now)) }
 {
     let mut past = at;
-    let mut i = from;
-    while i < to {
+    for i in from..to {
         out[past] = delta::target(event, deltas[i]);
         past += 1;
-        i += 1;
     }
     past
 }
@@ -396,67 +345,81 @@ fn write_within(
 pub fn write_slot(
     width: usize,
     first: u64,
-    offsets: &[u64],
-    deltas: &[i64],
+    s: Columns,
     slot: usize,
     event: u64,
     out: &mut [u64],
     at: usize,
 ) -> usize
-    requires slot_in_bounds { (slot + 1 < length offsets.now) × ((event ≡ event_of width first slot) × (at ≤ max_numbers)) }
-    requires edged { Edged width first offsets.now deltas.now }
-    ensures value { result ≡ at + length (get_or (targets_from width first 0 (cut offsets.now deltas.now)) slot []) }
-    ensures out_after { out.new ≡ sets out.old at (get_or (targets_from width first 0 (cut offsets.now deltas.now)) slot []) }
+    requires slot_in_bounds { (slot + 1 < length s.offsets.now) × ((event ≡ event_of width first slot) × (at ≤ max_numbers)) }
+    requires edged { Edged width first s.offsets.now s.deltas.now }
+    ensures value { result ≡ at + length (get_or (targets_from width first 0 (cut s.entry.offsets.now s.entry.deltas.now)) slot []) }
+    ensures out_after { out.new ≡ sets out.old at (get_or (targets_from width first 0 (cut s.entry.offsets.now s.entry.deltas.now)) slot []) }
 {
-    let from = index(offsets[slot]);
-    let to = index(offsets[slot + 1]);
-    write_targets(event, deltas, from, to, out, at)
+    let from = index(s.offsets[slot]);
+    let to = index(s.offsets[slot + 1]);
+    write_targets(event, s.deltas, from, to, out, at)
 }
 
 // Writes the targets of a row's slots.
 fn write_row(
     width: usize,
     first: u64,
-    offsets: &[u64],
-    deltas: &[i64],
+    s: Columns,
     slot: usize,
     row: usize,
     out: &mut [u64],
     at: usize,
 ) -> usize
     requires served { Served width }
-    requires slot_value { (slot ≡ width * row) × ((slot + width < length offsets.now) × (at ≤ max_numbers)) }
-    requires edged { Edged width first offsets.now deltas.now }
-    ensures value { result ≡ at + length (joined (part slot width (targets_from width first 0 (cut offsets.now deltas.now)))) }
-    ensures out_after { out.new ≡ sets out.old at (joined (part slot width (targets_from width first 0 (cut offsets.now deltas.now)))) }
+    requires slot_value { (slot ≡ width * row) × ((slot + width < length s.offsets.now) × (at ≤ max_numbers)) }
+    requires edged { Edged width first s.offsets.now s.deltas.now }
+    ensures value { result ≡ at + length (joined (part slot width (targets_from width first 0 (cut s.entry.offsets.now s.entry.deltas.now)))) }
+    ensures out_after { out.new ≡ sets out.old at (joined (part slot width (targets_from width first 0 (cut s.entry.offsets.now s.entry.deltas.now)))) }
 {
-    let from = index(offsets[slot]);
-    let to = index(offsets[slot + width]);
+    let from = index(s.offsets[slot]);
+    let to = index(s.offsets[slot + width]);
     if at + (to - from) <= out.len() {
-        return write_within(event(first, row), deltas, from, to, out, at);
+        return write_within(event(first, row), s.deltas, from, to, out, at);
     }
-    write_targets(event(first, row), deltas, from, to, out, at)
+    write_targets(event(first, row), s.deltas, from, to, out, at)
 }
 
 // Writes the targets of all slots, row by row.
-fn write_set(width: usize, first: u64, offsets: &[u64], deltas: &[i64], out: &mut [u64]) -> usize
+fn write_set(width: usize, first: u64, s: Columns, out: &mut [u64]) -> usize
     requires served { Served width }
-    requires edged { Edged width first offsets.now deltas.now }
-    ensures value { result ≡ length (joined (targets_from width first 0 (cut offsets.now deltas.now))) }
-    ensures out_after { out.new ≡ sets out.old 0 (joined (targets_from width first 0 (cut offsets.now deltas.now))) }
+    requires edged { Edged width first s.offsets.now s.deltas.now }
+    ensures value { result ≡ length (joined (targets_from width first 0 (cut s.entry.offsets.now s.entry.deltas.now))) }
+    ensures out_after { out.new ≡ sets out.old 0 (joined (targets_from width first 0 (cut s.entry.offsets.now s.entry.deltas.now))) }
 {
     let mut at = 0;
     let mut slot = 0;
     let mut row = 0;
-    while slot + width < offsets.len() {
-        at = write_row(width, first, offsets, deltas, slot, row, out, at);
+    // No `for`: the slot moves by a row's width.
+    while slot + width < s.offsets.len() {
+        at = write_row(width, first, s, slot, row, out, at);
         slot += width;
         row += 1;
     }
     at
 }
 
-// Writes the targets of a set whose rules are kept, and answers how many there are.
+impl<'a> Columns<'a> {
+    // Writes the targets of a set whose rules are kept, and answers how many there are.
+    pub fn write(self, width: usize, first: u64, out: &mut [u64]) -> usize
+        requires served { Served width }
+        requires readable { Readable width first (edges self) }
+        ensures value { result ≡ length (joined (slots_of width first (edges self.entry))) }
+        ensures out_after { out.new ≡ sets out.old 0 (joined (slots_of width first (edges self.entry))) }
+    {
+        if self.count == 0 {
+            return 0;
+        }
+        write_set(width, first, self, out)
+    }
+}
+
+// The same of a set whose columns are given one by one.
 pub fn write_csr(
     width: usize,
     first: u64,
@@ -470,8 +433,10 @@ pub fn write_csr(
     ensures value { result ≡ length (joined (slots_of width first (columns_of count offsets.now deltas.now))) }
     ensures out_after { out.new ≡ sets out.old 0 (joined (slots_of width first (columns_of count offsets.now deltas.now))) }
 {
-    if count == 0 {
-        return 0;
-    }
-    write_set(width, first, offsets, deltas, out)
+    let s = Columns {
+        count,
+        offsets,
+        deltas,
+    };
+    s.write(width, first, out)
 }

@@ -16,7 +16,6 @@ use Rattle.arrays.specs.table.Table.{Table, add_cap}
 use Rattle.columns_levels.specs.frontier.Frontier.{copied, Seen}
 use Rattle.columns_levels.specs.rounds.Rounds.{ends_from, Ran}
 use Rattle.columns_levels.proofs.rounds.Closed.{first-within}
-use Rattle.columns_walk.specs.declared.Handed.TheVariants.{Levels}
 
 -- ── fill ─────────────────────────────────────────────────────────────────────────────────────
 
@@ -58,7 +57,7 @@ pub start-set : (start : ℕ) (l : List ℕ) → 0 < length l → take 1 (set l 
 start-set start l h = take-suc-set l 0 start h ∙ ap (λ (m : List ℕ). m ++ (start ∷ [])) (take_none l)
 
 module _ (ls : List (List ℕ)) (ends₀ buf ends : List ℕ) (m k : ℕ) (r : Ran ls ends₀ buf ends m k) where
-  pub counted : Levels k (m - 1) ≡ Levels (length ls) (sum length ls)
+  pub counted : ◌≡◌ {A = ℕ × ℕ} (k, m - 1) (length ls, sum length ls)
   counted =
       let a : k ≡ length ls = sym (sym (length-ends 0 ls) ∙ ap length r.stops ∙ length-take-le k ends r.fits) in
       let b : m - 1 ≡ sum length ls = sym (sym (length-joined ls) ∙ ap length r.numbers ∙ length-slice 1 m buf r.upto) in

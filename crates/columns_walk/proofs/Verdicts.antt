@@ -1,4 +1,6 @@
 -- The verdict of a walk or a shared ancestor from the verdict of the reading.
+use Rattle.std.specs.Prelude.{Err, None, Ok, Result, Some}
+use Rattle.std.specs.declared.option.Option as rust
 use mathlib.Core.Path.{◌≡◌, sym, ◌∙◌, ap, subst}
 use mathlib.Core.Logic.{inl, inr}
 use mathlib.Core.List.{List, [], ◌++◌}
@@ -18,18 +20,10 @@ use Rattle.columns.specs.Walk.{walked, levels}
 use Rattle.columns.specs.Walk as definition
 use Rattle.columns.specs.Answers.{room, lent_rules, in_one, counted_of, written_in, written_over}
 use Rattle.columns.specs.declared.refusal.Refusal.{Refusal}
-use Rattle.columns.specs.declared.refusal.Counted.{Counted}
-use Rattle.columns.specs.declared.refusal.Counted.TheVariants as counted
 use Rattle.columns_levels.specs.frontier.Frontier.{parents_in}
 use Rattle.columns_levels.specs.rounds.Rounds.{ends_from}
 use Rattle.columns_levels.specs.rounds.Closure.{Answer}
-use Rattle.columns_levels.specs.declared.rounds.Found.{Found}
-use Rattle.columns_levels.specs.declared.rounds.Found.TheVariants.{Number, Nothing}
-use Rattle.columns_walk.specs.Handing.{rooms, handed_of, numbers_of, ends_of, shared_of, Promised}
-use Rattle.columns_walk.specs.declared.Handed.{Handed}
-use Rattle.columns_walk.specs.declared.Handed.TheVariants.{Levels, Refused}
-use Rattle.columns_walk.specs.declared.Shared.{Shared}
-use Rattle.columns_walk.specs.declared.Shared.TheVariants as shared
+use Rattle.columns_walk.specs.Handing.{rooms, handed_of, numbers_of, ends_of, Promised}
 use Rattle.columns_levels.proofs.targets.Verdicts.{same-alone, was_read, was-refused, whole, parents-are, parents-fun}
 
 -- ── limits ───────────────────────────────────────────────────────────────────────────────────
@@ -51,28 +45,28 @@ same-rules K n a b first rows end s e = rw (same-short n a b e)
 
 -- ── the walk ─────────────────────────────────────────────────────────────────────────────────
 
-module _ (K n a b first rows end : ℕ) (s : EdgeSet) (kind limit start : ℕ) (r : Counted) (e : r ≡ counted_of (in_one (decode_set K 0 first rows end s (room n)))) (q : ℕ)
+module _ (K n a b first rows end : ℕ) (s : EdgeSet) (kind limit start : ℕ) (r : Result ℕ Refusal) (e : r ≡ counted_of (in_one (decode_set K 0 first rows end s (room n)))) (q : ℕ)
     (mq : q ≡ min a b) (mm : n ≡ min q 4096) where
   m : n ≡ min (min a b) 4096
   m = mm ∙ ap (λ (j : ℕ). min j 4096) mq
 
-  refused-walk : (why : Refusal) → r ≡ counted.Refused why → definition.walk K first rows end s kind limit start (rooms a b) ≡ refused why
+  refused-walk : (why : Refusal) → r ≡ Err why → definition.walk K first rows end s kind limit start (rooms a b) ≡ refused why
   unfolding definition.walk lent_rules unless
   refused-walk why f = rw (sym (same-rules K n a b first rows end s m) ∙ was-refused K n first rows end s r e why f)
 
-  pub walk_refused : (why : Refusal) → r ≡ counted.Refused why → Refused why ≡ handed_of (definition.walk K first rows end s kind limit start (rooms a b))
+  pub walk_refused : (why : Refusal) → r ≡ Err why → Err why ≡ handed_of (definition.walk K first rows end s kind limit start (rooms a b))
   unfolding handed_of
   walk_refused why f = rw (refused-walk why f)
 
-  pub walk-out : (why : Refusal) → r ≡ counted.Refused why → (out : List ℕ) → out ≡ written_over out (numbers_of (definition.walk K first rows end s kind limit start (rooms a b)))
+  pub walk-out : (why : Refusal) → r ≡ Err why → (out : List ℕ) → out ≡ written_over out (numbers_of (definition.walk K first rows end s kind limit start (rooms a b)))
   unfolding written_over numbers_of
   walk-out why f out = rw (refused-walk why f)
 
-  pub walk_ends : (why : Refusal) → r ≡ counted.Refused why → (ends : List ℕ) → ends ≡ written_over ends (ends_of (definition.walk K first rows end s kind limit start (rooms a b)))
+  pub walk_ends : (why : Refusal) → r ≡ Err why → (ends : List ℕ) → ends ≡ written_over ends (ends_of (definition.walk K first rows end s kind limit start (rooms a b)))
   unfolding written_over ends_of
   walk_ends why f ends = rw (refused-walk why f)
 
-  module _ (k : ℕ) (f : r ≡ counted.Entries k) where
+  module _ (k : ℕ) (f : r ≡ Ok k) where
     all-kept : lent_rules K 0 first rows end s (room n) ≡ none
     all-kept = was_read K n first rows end s r e k f
 
@@ -91,8 +85,8 @@ module _ (K n a b first rows end : ℕ) (s : EdgeSet) (kind limit start : ℕ) (
       unfolding definition.walk lent_rules unless
       accepted-walk = rw (sym (same-rules K n a b first rows end s m) ∙ all-kept, same-parents)
 
-      pub walk-handed : (h : Handed) → h ≡ Levels (length (levels (parents_in U first slot s.offsets t) limit start)) (sum length (levels (parents_in U first slot s.offsets t) limit start))
-          → h ≡ handed_of (definition.walk K first rows end s kind limit start (rooms a b))
+      pub walk-handed : (h : ℕ × ℕ) → h ≡ (length (levels (parents_in U first slot s.offsets t) limit start), sum length (levels (parents_in U first slot s.offsets t) limit start))
+          → Ok h ≡ handed_of (definition.walk K first rows end s kind limit start (rooms a b))
       unfolding handed_of walked
       walk-handed h q = rw (accepted-walk, q)
 
@@ -108,28 +102,20 @@ module _ (K n a b first rows end : ℕ) (s : EdgeSet) (kind limit start : ℕ) (
 
 -- ── the shared ancestor ──────────────────────────────────────────────────────────────────────
 
-module _ (K first rows end : ℕ) (s : EdgeSet) (kind a b : ℕ) (r : Counted) (e : r ≡ counted_of (in_one (decode_set K 0 first rows end s (room 4096)))) where
-  pub ancestor-refused : (why : Refusal) → r ≡ counted.Refused why → lent_rules K 0 first rows end s [] ≡ some why
+module _ (K first rows end : ℕ) (s : EdgeSet) (kind a b : ℕ) (r : Result ℕ Refusal) (e : r ≡ counted_of (in_one (decode_set K 0 first rows end s (room 4096)))) where
+  pub ancestor-refused : (why : Refusal) → r ≡ Err why → lent_rules K 0 first rows end s [] ≡ some why
   ancestor-refused why f = sym (same-alone K first rows end s) ∙ was-refused K 4096 first rows end s r e why f
 
-  pub ancestor-found : (k : ℕ) → r ≡ counted.Entries k → (l t : List ℕ) → t ≡ written_over (take 4096 l) (in_one (decode_set K 0 first rows end s (room 4096))) ++ drop 4096 l
-      → (slot : ℕ) → slot ≡ kind → (U : ℕ) → U ≡ K → (o : Found) → Answer o (parents_in U first slot s.offsets t) a b → (q : Shared) → q ≡ shared_of o
-      → Promised q (lent_rules K 0 first rows end s []) (list_of K first (slots_of K first s) kind) a b
-  ancestor-found k f l t g slot ks U w o x q z =
+  pub ancestor-found : (k : ℕ) → r ≡ Ok k → (l t : List ℕ) → t ≡ written_over (take 4096 l) (in_one (decode_set K 0 first rows end s (room 4096))) ++ drop 4096 l
+      → (slot : ℕ) → slot ≡ kind → (U : ℕ) → U ≡ K → (o : rust.Option ℕ) → Answer o (parents_in U first slot s.offsets t) a b
+      → Promised (Ok o) (lent_rules K 0 first rows end s []) (list_of K first (slots_of K first s) kind) a b
+  ancestor-found k f l t g slot ks U w o x =
       let c = was_read K 4096 first rows end s r e k f in
       let d : lent_rules K 0 first rows end s [] ≡ none = sym (same-alone K first rows end s) ∙ c in
       let i : cut s.offsets t ≡ slots_of K first s = parents-are K 4096 first rows end s c l t g in
-      rw z (go o d (subst (λ (p : ℕ → List ℕ). Answer o p a b) (rw w (ap (λ (u : ℕ). parents_in K first u s.offsets t) ks ∙ parents-fun K first kind s.offsets t (slots_of K first s) i)) x))
+      go o d (subst (λ (p : ℕ → List ℕ). Answer o p a b) (rw w (ap (λ (u : ℕ). parents_in K first u s.offsets t) ks ∙ parents-fun K first kind s.offsets t (slots_of K first s) i)) x)
     where
-      go : (o : Found) → lent_rules K 0 first rows end s [] ≡ none → Answer o (list_of K first (slots_of K first s) kind) a b
-          → Promised (shared_of o) (lent_rules K 0 first rows end s []) (list_of K first (slots_of K first s) kind) a b
-      go (Number x) d y = (d, y)
-      go Nothing d y = (d, y)
-
--- ── leaves ───────────────────────────────────────────────────────────────────────────────────
-
-pub answered-number : (o : Found) (x : ℕ) → o ≡ Number x → shared.Number x ≡ shared_of o
-answered-number o x e = rw e
-
-pub answered-nothing : (o : Found) → o ≡ Nothing → shared.Nothing ≡ shared_of o
-answered-nothing o e = rw e
+      go : (o : rust.Option ℕ) → lent_rules K 0 first rows end s [] ≡ none → Answer o (list_of K first (slots_of K first s) kind) a b
+          → Promised (Ok o) (lent_rules K 0 first rows end s []) (list_of K first (slots_of K first s) kind) a b
+      go (Some x) d y = (d, y)
+      go None d y = (d, y)

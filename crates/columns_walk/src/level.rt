@@ -7,22 +7,14 @@ ghost use Rattle.lists.specs.Order.{sort};
 ghost use Rattle.columns.specs.Limits.{max_numbers};
 ghost use Rattle.columns.specs.Walk.{level};
 ghost use Rattle.columns.specs.Answers.{kind_of, columns_of, room, limits_of, counted_of, written_in, written_over, width_of};
-ghost use Rattle.columns_levels.specs.frontier.Frontier.{parents_in, OfKinds};
+ghost use Rattle.columns_levels.specs.Stored.{parents_of};
 ghost use Rattle.columns_walk.specs.level.Step as step;
 ghost use Rattle.columns_walk.specs.level.Step.{unvisited, News};
 
 use columns::kind::{Kind, Kinds};
-use columns::refusal::{Counted, Refusal};
+use columns::refusal::Refusal;
+use columns_levels::parents::Parents;
 use columns_slots::sets;
-
-fn least(x: usize, n: usize) -> usize
-    ensures { (result ≤ n) × (result ≡ min x n) }
-{
-    if x < n {
-        return x;
-    }
-    n
-}
 
 // A part of the keys.
 #[derive(Clone, Copy)]
@@ -32,24 +24,14 @@ struct Part {
 }
 
 // Makes what was visited keys, then the parents of the frontier: the part of the keys that those add.
-fn find(
-    width: usize,
-    keys: &mut [u64],
-    visited: &[u64],
-    frontier: &[u64],
-    first: u64,
-    kind: usize,
-    offsets: &[u64],
-    targets: &[u64],
-) -> Part
-    requires { (OfKinds width kind) × ((length keys.old ≡ 8192) × ((length visited.now ≤ 4096) × (length targets.now ≤ 4096))) }
-    ensures { News keys.new result.from result.to (unvisited (parents_in width first kind offsets.now targets.now) visited.now frontier.now) }
+fn find(keys: &mut [u64], visited: &[u64], frontier: &[u64], p: Parents) -> Part
+    requires { (length keys.old ≡ 8192) × ((length visited.now ≤ 4096) × (length p.targets.now ≤ 4096)) }
+    ensures { News keys.new result.from result.to (unvisited (parents_of p.entry) visited.now frontier.now) }
 {
     let mut links = [0u64; 8192];
     let mut heads = [0u64; 4099];
     let n = arrays::table::add_list(keys, &mut links, &mut heads, 0, visited, 0, visited.len());
     let r = columns_levels::frontier::collect(
-        width,
         frontier,
         0,
         frontier.len(),
@@ -57,10 +39,7 @@ fn find(
         &mut links,
         &mut heads,
         n,
-        first,
-        kind,
-        offsets,
-        targets,
+        p,
     );
     Part { from: n, to: r }
 }
@@ -79,26 +58,14 @@ fn lay(out: &mut [u64], limit: usize, keys: &[u64], n: usize, r: usize) -> usize
 }
 
 // Hands out a level over stored targets.
-fn hand(
-    width: usize,
-    out: &mut [u64],
-    limit: usize,
-    visited: &[u64],
-    frontier: &[u64],
-    first: u64,
-    kind: usize,
-    offsets: &[u64],
-    targets: &[u64],
-) -> usize
-    requires { (OfKinds width kind) × ((4096 ≤ length out.old) × ((length visited.now ≤ 4096) × (length targets.now ≤ 4096))) }
-    ensures value { result ≡ length (level (parents_in width first kind offsets.now targets.now) limit visited.now frontier.now) }
+fn hand(out: &mut [u64], limit: usize, visited: &[u64], frontier: &[u64], p: Parents) -> usize
+    requires { (4096 ≤ length out.old) × ((length visited.now ≤ 4096) × (length p.targets.now ≤ 4096)) }
+    ensures value { result ≡ length (level (parents_of p.entry) limit visited.now frontier.now) }
     ensures out_after { out.new ≡ written_in out.old
-        (level (parents_in width first kind offsets.now targets.now) limit visited.now frontier.now) }
+        (level (parents_of p.entry) limit visited.now frontier.now) }
 {
     let mut keys = [0u64; 8192];
-    let part = find(
-        width, &mut keys, visited, frontier, first, kind, offsets, targets,
-    );
+    let part = find(&mut keys, visited, frontier, p);
     let n = part.from;
     let r = part.to;
     lay(out, limit, &keys, n, r)
@@ -118,7 +85,7 @@ fn step_from(
     visited: &[u64],
     frontier: &[u64],
     out: &mut [u64],
-) -> Counted
+) -> Result<usize, Refusal>
     requires { any (ltb max_numbers) (length visited.now ∷ length frontier.now ∷ []) ≡ false }
     ensures value { result ≡ counted_of (step.next (width_of kinds) first rows end (columns_of count offsets.now deltas.now) (kind_of kind) limit
         visited.now frontier.now (room (length out.old))) }
@@ -126,10 +93,10 @@ fn step_from(
         (step.next (width_of kinds) first rows end (columns_of count offsets.now deltas.now) (kind_of kind) limit visited.now
         frontier.now (room (length out.old))) }
 {
-    let width = columns::kind::width(kinds);
+    let width = kinds.width();
     let mut decoded = [0u64; 4096];
-    let n = least(out.len(), 4096);
-    let answer = columns_levels::targets::read(
+    let n = out.len().min(4096);
+    columns_levels::targets::read(
         kinds,
         &mut decoded,
         n,
@@ -139,14 +106,15 @@ fn step_from(
         count,
         offsets,
         deltas,
-    );
-    let slot = columns::kind::slot(kind);
-    match answer {
-        Counted::Refused(why) => Counted::Refused(why),
-        Counted::Entries(_) => Counted::Entries(hand(
-            width, out, limit, visited, frontier, first, slot, offsets, &decoded,
-        )),
-    }
+    )?;
+    let p = Parents {
+        width,
+        first,
+        kind: kind.slot(),
+        offsets,
+        targets: &decoded,
+    };
+    Ok(hand(out, limit, visited, frontier, p))
 }
 
 // Why a call with a list over 4,096 numbers is refused: 42 goes before 43.
@@ -173,7 +141,7 @@ pub fn next(
     visited: &[u64],
     frontier: &[u64],
     out: &mut [u64],
-) -> Counted
+) -> Result<usize, Refusal>
     ensures value { result ≡ counted_of (step.next (width_of kinds) first rows end (columns_of count offsets.now deltas.now) (kind_of kind) limit
         visited.now frontier.now (room (length out.old))) }
     ensures out_after { out.new ≡ written_over out.old
@@ -181,7 +149,7 @@ pub fn next(
         frontier.now (room (length out.old))) }
 {
     if sets::is_over(visited.len(), frontier.len()) {
-        return Counted::Refused(too_long(rows));
+        return Err(too_long(rows));
     }
     step_from(
         kinds, first, rows, end, count, offsets, deltas, kind, limit, visited, frontier, out,

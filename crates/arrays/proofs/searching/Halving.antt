@@ -1,7 +1,9 @@
 -- Where a number stands in a column that doesn't fall, and the search that halves what is left.
-use Rattle.std.proofs.Common.{◌≡◌, ℕ, zero, suc, ◌+◌, ◌-◌, ◌/◌, ◌<◌, ◌≤◌, true, ltb, leb, List, [], ◌∷◌, length, get_or, inl, inr, le_of_suc-le-suc, not-suc-le-zero, add-one, arith, ltb-false, ltb-true, le-ltb, lt-ltb, leb-true}
+use Rattle.std.proofs.Common.{◌≡◌, ℕ, zero, suc, ◌+◌, ◌-◌, ◌/◌, ◌<◌, ◌≤◌, true, false, ltb, leb, List, [], ◌∷◌, length, get_or, inl, inr, le_of_suc-le-suc, not-suc-le-zero, add-one, arith, ltb-false, ltb-true, le-ltb, lt-ltb, leb-true}
 use Rattle.lists.specs.Order.{level_above, not_falling}
 use Rattle.lists.proofs.Tests.{tested, both}
+use Rattle.std.proofs.lemmas.Grind.{get_or_default_zero}
+use Rattle.std.specs.List.Sorted.{IsNonDecreasing, IsPartitionPoint}
 use Rattle.arrays.specs.searching.Place.{place_of}
 
 -- ── columns that don't fall ──────────────────────────────────────────────────────────────────
@@ -65,3 +67,34 @@ module _ (l : List ℕ) (x low high : ℕ) (h : low < high) (k : high ≤ length
 
 pub meet-there : (low high p : ℕ) → low ≤ p → p ≤ high → high ≤ low → low ≡ p
 meet-there low high p h k g = omega arith
+
+-- ── the place where the library's search parts a column ──────────────────────────────────────
+
+rises : (low d : ℕ) (l : List ℕ) (i j : ℕ) → level_above low l ≡ true → i ≤ j → j < length l → get_or l i d ≤ get_or l j d
+unfolding level_above
+rises low d [] i j a h k = absurd (not-suc-le-zero k)
+rises low d (x ∷ xs) zero zero a h k = omega arith
+rises low d (x ∷ xs) zero (suc j) a h k =
+    let p = both (leb low x) (level_above x xs) a in
+    rw (get_or_default_zero xs j d (le_of_suc-le-suc k)) (level-get x xs j p.1 (le_of_suc-le-suc k))
+rises low d (x ∷ xs) (suc i) zero a h k = absurd (not-suc-le-zero h)
+rises low d (x ∷ xs) (suc i) (suc j) a h k = rises x d xs i j (both (leb low x) (level_above x xs) a).1 (le_of_suc-le-suc h) (le_of_suc-le-suc k)
+
+pub never-falls : (l : List ℕ) → not_falling l ≡ true → IsNonDecreasing l
+unfolding not_falling
+never-falls l a = λ i j d h k. rises 0 d l i j a h k
+
+pub at-place : (x : ℕ) (l : List ℕ) (i : ℕ) → i ≤ length l → IsPartitionPoint (λ y. ltb y x ≡ true) (λ y. ltb y x ≡ false) l i → i ≡ place_of x l
+at-place x l i h p =
+    elim (tested (ltb i (place_of x l))) [
+      | inl e ↦
+          let below = ltb-true i (place_of x l) e in
+          let most = place-le x l in
+          absurd (omega (arith, place-below x l i below, ltb-false (get_or l i 0) x (p.1 i 0 (omega arith) (omega arith))))
+      | inr e ↦ elim (tested (ltb (place_of x l) i)) [
+        | inl f ↦
+            let above = ltb-true (place_of x l) i f in
+            absurd (omega (arith, place-stands x l (omega arith), ltb-true (get_or l (place_of x l) 0) x (p.0 (place_of x l) 0 (omega arith) above)))
+        | inr f ↦ omega (arith, ltb-false i (place_of x l) e, ltb-false (place_of x l) i f)
+      ]
+    ]

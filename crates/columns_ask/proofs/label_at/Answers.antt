@@ -7,11 +7,11 @@ returns-then-number-first c = search label-below
 pub returns-then-chains-row : goal.returns-then-chains-row
 returns-then-chains-row c = search label-past
 
-pub short-chain-requires : goal.short-chain-requires
-short-chain-requires c = search short-at
+pub overflow_cast-chain : goal.overflow_cast-chain
+overflow_cast-chain c = search short-at
 
-pub short-seq-requires : goal.short-seq-requires
-short-seq-requires c = search short-beside
+pub overflow_cast-seq : goal.overflow_cast-seq
+overflow_cast-seq c = search short-beside
 
 pub returns : goal.returns
 returns c = search label-told

@@ -64,9 +64,10 @@ module _ (K first kind v : ℕ) (offsets targets : List ℕ) where
     pub stays_after : (i : ℕ) → n ≤ length keys → first ≤ v → i ≡ v - first → length offsets ≤ K * i + kind + 1 → Keys keys keys n n (parents_in K first kind offsets targets v)
     stays_after i u h e k = stays u (after h (omega (arith, ap (λ (x : ℕ). K * x) e)))
 
-    pub expanded : {keys' : List ℕ} {r : ℕ} (i a b : ℕ) → Keys keys keys' n r (slice a b targets) → first ≤ v → i ≡ v - first → K * i + kind + 1 < length offsets
-        → a ≡ get_or offsets (K * i + kind) 0 → b ≡ min (get_or offsets (K * i + kind + 1) 0) (length targets) → Keys keys keys' n r (parents_in K first kind offsets targets v)
-    expanded i a b x h e k f g = rw (within h i (K * i + kind) a b e refl k f g) at x
+    pub expanded : {keys' : List ℕ} {r : ℕ} (i a b e : ℕ) → Keys keys keys' n r (slice a b targets) → first ≤ v → i ≡ v - first → K * i + kind + 1 < length offsets
+        → a ≡ get_or offsets (K * i + kind) 0 → e ≡ get_or offsets (K * i + kind + 1) 0 → b ≡ min e (length targets)
+        → Keys keys keys' n r (parents_in K first kind offsets targets v)
+    expanded i a b e x h d k f p g = rw (within h i (K * i + kind) a b d refl k f (rw p at g)) at x
 
 -- a number below as many as there are offsets has a slot whose place is a number of 64 bits, and so has its place in bytes
 module _ (K kind v first i m : ℕ) (offsets : List ℕ) (o : OfKinds K kind) (e : i ≡ v - first) (f : m ≡ length offsets) (h : v - first < m) (g : length offsets * 8 < 2 ^ 63) where

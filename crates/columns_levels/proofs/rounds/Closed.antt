@@ -1,4 +1,5 @@
 -- The keys from a number on end up closed under parents: then they are all that the number reaches.
+use Rattle.std.specs.Prelude.{None, Some, Option}
 use mathlib.Core.Path.{◌≡◌, refl, sym, ◌∙◌, ap, subst}
 use mathlib.Core.Bool.{Bool, true, false, not, ◌||◌, or-false, or-true, false≢true, true≢false}
 use mathlib.Core.Logic.{inl, inr}
@@ -22,8 +23,6 @@ use Rattle.columns_levels.specs.frontier.Frontier.{parents_in, hits_in}
 use Rattle.columns_levels.proofs.frontier.Slots.{parents-in}
 use Rattle.columns_levels.proofs.frontier.Fresh.{new_from, made_all}
 use Rattle.columns_levels.specs.rounds.Closure.{All, Grown, Free, Apart, Answer}
-use Rattle.columns_levels.specs.declared.rounds.Found.{Found}
-use Rattle.columns_levels.specs.declared.rounds.Found.TheVariants.{Number, Nothing}
 
 -- ── members ──────────────────────────────────────────────────────────────────────────────────
 
@@ -192,7 +191,7 @@ reach-done p a n i targets keys links heads w h t = all_closed p a targets (take
 
 -- ── common ───────────────────────────────────────────────────────────────────────────────────
 
-pub common-hit : (ks os : List ℕ) (i m n : ℕ) (t : Bool) → i < m → m ≤ length os → t ≡ mem (get_or os i 0) (take n ks) → t ≡ true → Apart (Number (get_or os i 0)) (take n ks) (take m os)
+pub common-hit : (ks os : List ℕ) (i m n : ℕ) (t : Bool) → i < m → m ≤ length os → t ≡ mem (get_or os i 0) (take n ks) → t ≡ true → Apart (Some (get_or os i 0)) (take n ks) (take m os)
 common-hit ks os i m n t h u e f =
     (sym e ∙ f, ap (λ (y : ℕ). mem y (take m os)) (sym (get_or-take m os i 0 h)) ∙ mem-at (take m os) i (let l = length-take-le m os u in omega (arith, l)))
 
@@ -210,12 +209,12 @@ free-turn ks os i m n t w e f h u = record {
       | inr y ↦ let z : mem x (get_or os i 0 ∷ []) ≡ true = rw y at d in ap (λ (v : ℕ). mem v (take n ks)) (only_one (get_or os i 0) x z) ∙ sym e ∙ f
     ]
 
-pub free-done : (ks os : List ℕ) (i m n : ℕ) → Free (take n ks) (take i os) → m ≤ i → i ≤ m → Apart Nothing (take n ks) (take m os)
+pub free-done : (ks os : List ℕ) (i m n : ℕ) → Free (take n ks) (take i os) → m ≤ i → i ≤ m → Apart None (take n ks) (take m os)
 free-done ks os i m n w h k = let z : m ≡ i = omega arith in rw z w.none
 
-pub shared-found : (r : Found) (p : ℕ → List ℕ) (a b : ℕ) (ks os : List ℕ) → Apart r ks os → All p b ks → All p a os → Answer r p a b
-shared-found (Number x) p a b ks os d s t = (t.only x d.1, s.only x d.0)
-shared-found Nothing p a b ks os d s t = λ x u v. true≢false (sym (s.every x v) ∙ d x (t.every x u))
+pub shared-found : (r : Option ℕ) (p : ℕ → List ℕ) (a b : ℕ) (ks os : List ℕ) → Apart r ks os → All p b ks → All p a os → Answer r p a b
+shared-found (Some x) p a b ks os d s t = (t.only x d.1, s.only x d.0)
+shared-found None p a b ks os d s t = λ x u v. true≢false (sym (s.every x v) ∙ d x (t.every x u))
 
 pub planted : (p : ℕ → List ℕ) (a n : ℕ) (targets keys keys' : List ℕ) → take n keys' ≡ add_cap (length keys) (take 0 keys) a → length targets < length keys → Grown p a targets (take n keys') 0
 unfolding add_cap mem

@@ -1,4 +1,5 @@
 -- What the verdict of a reading says of the set, and the parents that its stored targets have.
+use Rattle.std.specs.Prelude.{Err, Ok, Result}
 use mathlib.Core.Path.{◌≡◌, refl, sym, ◌∙◌, ap, fun_ext}
 use mathlib.Core.List.{List, [], ◌∷◌, ◌++◌, append_assoc}
 use mathlib.Core.Option.{Option, none, some}
@@ -7,21 +8,15 @@ use native.Mathlib.Omega.{arith}
 use lib.ListN.{length, take, drop}
 use lib.Seq.{length-take-le}
 use Rattle.lists.specs.Lists.{any, joined}
-use Rattle.columns.specs.Limits.{Served}
 use Rattle.columns.specs.Refusal.{unless, first_of, short, limits}
 use Rattle.columns.specs.EdgeSet.{EdgeSet, cut}
 use Rattle.columns.specs.Reading.{set_rules, slots_of, set_lengths, decode_set}
 use Rattle.columns.specs.Questions.{list_of}
-use Rattle.columns.specs.Answers.{kind_of, room, lent_rules, ruling, in_one, counted_of, written_over}
-use Rattle.columns.specs.declared.kind.Kind.{Kind}
-use Rattle.columns.specs.declared.kind.Kind.TheVariants.{Prev, Auth}
+use Rattle.columns.specs.Answers.{room, lent_rules, ruling, in_one, counted_of, written_over}
 use Rattle.columns.specs.declared.refusal.Refusal.{Refusal}
-use Rattle.columns.specs.declared.refusal.Ruling.TheVariants.{Kept}
-use Rattle.columns.specs.declared.refusal.Counted.{Counted}
-use Rattle.columns.specs.declared.refusal.Counted.TheVariants as counted
 use Rattle.columns.proofs.FirstBroken.{each_none}
 use Rattle.columns.proofs.Checks.{lent-room}
-use Rattle.columns_levels.specs.frontier.Frontier.{OfKinds, parents_in}
+use Rattle.columns_levels.specs.frontier.Frontier.{parents_in}
 use Rattle.columns_levels.proofs.targets.Stored.{stored}
 
 -- ── limits ───────────────────────────────────────────────────────────────────────────────────
@@ -36,26 +31,26 @@ same-alone K first rows end s = rw no_room
 
 -- ── the reading ──────────────────────────────────────────────────────────────────────────────
 
-module _ (K n first rows end : ℕ) (s : EdgeSet) (r : Counted) (e : r ≡ counted_of (in_one (decode_set K 0 first rows end s (room n)))) where
-  pub was_read : (k : ℕ) → r ≡ counted.Entries k → lent_rules K 0 first rows end s (room n) ≡ none
+module _ (K n first rows end : ℕ) (s : EdgeSet) (r : Result ℕ Refusal) (e : r ≡ counted_of (in_one (decode_set K 0 first rows end s (room n)))) where
+  pub was_read : (k : ℕ) → r ≡ Ok k → lent_rules K 0 first rows end s (room n) ≡ none
   unfolding counted_of in_one decode_set lent_rules unless
   was_read k f = go (first_of (limits (rows ∷ []) (set_lengths s) (room n) ∷ set_rules K 0 first rows end s ∷ [])) (sym f ∙ e)
     where
-      go : (o : Option Refusal) → counted.Entries k ≡ counted_of (in_one (unless o (slots_of K first s))) → o ≡ none
+      go : (o : Option Refusal) → Ok k ≡ counted_of (in_one (unless o (slots_of K first s))) → o ≡ none
       go none q = refl
       go (some w) q = let z : ◌≡◌ {A = ℕ} 0 1 = cc in absurd (omega arith)
 
-  pub was-refused : (why : Refusal) → r ≡ counted.Refused why → lent_rules K 0 first rows end s (room n) ≡ some why
+  pub was-refused : (why : Refusal) → r ≡ Err why → lent_rules K 0 first rows end s (room n) ≡ some why
   unfolding counted_of in_one decode_set lent_rules unless
   was-refused why f = go (first_of (limits (rows ∷ []) (set_lengths s) (room n) ∷ set_rules K 0 first rows end s ∷ [])) (sym f ∙ e)
     where
-      go : (o : Option Refusal) → counted.Refused why ≡ counted_of (in_one (unless o (slots_of K first s))) → o ≡ some why
+      go : (o : Option Refusal) → Err why ≡ counted_of (in_one (unless o (slots_of K first s))) → o ≡ some why
       go none q = let z : ◌≡◌ {A = ℕ} 0 1 = cc in absurd (omega arith)
       go (some w) q = let z : w ≡ why = cc in rw z
 
 module _ (K n first rows end : ℕ) (s : EdgeSet) (k : lent_rules K 0 first rows end s (room n) ≡ none) where
   pub whole : 4096 ≤ n
-  whole = lent-room K 0 first rows end s n Kept (ap ruling (sym k)) refl
+  whole = lent-room K 0 first rows end s n (Ok tt) (ap ruling (sym k)) refl
 
   kept : set_rules K 0 first rows end s ≡ none
   unfolding lent_rules
@@ -75,7 +70,7 @@ parents-fun K first kind offsets t lists e = fun_ext (λ v. ap (λ (g : List (Li
 
 -- ── read ─────────────────────────────────────────────────────────────────────────────────────
 
-pub read_count : (K n first rows end : ℕ) (s : EdgeSet) (l : List ℕ) (r : Counted) → r ≡ counted_of (in_one (decode_set K 0 first rows end s (room (length (take n l))))) → n ≤ length l
+pub read_count : (K n first rows end : ℕ) (s : EdgeSet) (l : List ℕ) (r : Result ℕ Refusal) → r ≡ counted_of (in_one (decode_set K 0 first rows end s (room (length (take n l))))) → n ≤ length l
     → r ≡ counted_of (in_one (decode_set K 0 first rows end s (room n)))
 read_count K n first rows end s l r e h = e ∙ ap (λ (k : ℕ). counted_of (in_one (decode_set K 0 first rows end s (room k)))) (length-take-le n l h)
 
@@ -83,9 +78,3 @@ pub read-written : (K : ℕ) {t : List ℕ} (n first rows end : ℕ) (s : EdgeSe
     → t ≡ written_over (take n l) (in_one (decode_set K 0 first rows end s (room (length (take n l))))) → n ≤ length l
     → t ++ drop n l ≡ written_over (take n l) (in_one (decode_set K 0 first rows end s (room n))) ++ drop n l
 read-written K n first rows end s l e h = ap (λ (m : List ℕ). m ++ drop n l) (e ∙ ap (λ (k : ℕ). written_over (take n l) (in_one (decode_set K 0 first rows end s (room k)))) (length-take-le n l h))
-
--- ── leaves ───────────────────────────────────────────────────────────────────────────────────
-
-pub kind-below : (K : ℕ) → Served K → (k : Kind) (n : ℕ) → n ≡ kind_of k → OfKinds K n
-kind-below K s Prev n e = record { served = s; below = omega arith }
-kind-below K s Auth n e = record { served = s; below = omega arith }

@@ -1,11 +1,10 @@
 -- All that a number reaches, as a list of keys that grows until it has the parents of each of its numbers.
-use Rattle.std.specs.Prelude.{◌≡◌, true, false, List, ◌∷◌, ℕ, ◌≤◌, ◌<◌, length, get_or}
+use Rattle.std.specs.Prelude.{◌≡◌, true, false, List, ◌∷◌, ℕ, ◌≤◌, ◌<◌, length, get_or, None, Some}
 use Rattle.std.proofs.Math.Option.{Option, none, some}
+use Rattle.std.specs.declared.option.Option as rust
 use Rattle.lists.specs.Lists.{mem}
 use Rattle.columns.specs.Ancestor.{Reaches, SharedAncestor}
 use Rattle.columns_levels.specs.frontier.Frontier.{hits_in}
-use Rattle.columns_levels.specs.declared.rounds.Found.{Found}
-use Rattle.columns_levels.specs.declared.rounds.Found.TheVariants.{Number, Nothing}
 
 -- the numbers l are those that a reaches
 pub record All (p : ℕ → List ℕ) (a : ℕ) (l : List ℕ) : Type 0 where
@@ -24,14 +23,14 @@ pub record Free (ks os : List ℕ) : Type 0 where
   pub none : (x : ℕ) → mem x os ≡ true → mem x ks ≡ false
 
 -- a number of both lists, or none where there is none
-abbrev pub Apart : Found → List ℕ → List ℕ → Type 0
-Apart (Number x) ks os = (mem x ks ≡ true) × (mem x os ≡ true)
-Apart Nothing ks os = (x : ℕ) → mem x os ≡ true → mem x ks ≡ false
+abbrev pub Apart : rust.Option ℕ → List ℕ → List ℕ → Type 0
+Apart (Some x) ks os = (mem x ks ≡ true) × (mem x os ≡ true)
+Apart None ks os = (x : ℕ) → mem x os ≡ true → mem x ks ≡ false
 
-abbrev pub found_of : Found → Option ℕ
-found_of (Number x) = some x
-found_of Nothing = none
+abbrev pub found_of : rust.Option ℕ → Option ℕ
+found_of (Some x) = some x
+found_of None = none
 
 -- what is promised of an answer
-abbrev pub Answer : Found → (ℕ → List ℕ) → ℕ → ℕ → Type 0
+abbrev pub Answer : rust.Option ℕ → (ℕ → List ℕ) → ℕ → ℕ → Type 0
 Answer r p a b = SharedAncestor p a b (found_of r)

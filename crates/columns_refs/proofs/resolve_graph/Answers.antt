@@ -1,20 +1,13 @@
-use Rattle.columns_refs.specs.Resolved.{referred}
+use mathlib.Core.Path.{refl}
+use Rattle.columns.proofs.Handed.{handed-on}
 use Rattle.columns_refs.proofs.Resolves.{nothing_written, ready, made_is}
 use Rattle.columns_refs.proofs.resolve_graph.Goals as goal
 
 pub write_all-requires : goal.write_all-requires
-write_all-requires c = let a = c.args in
-    ready (referred a.first a.rows a.starts.now a.kinds.now a.spaces.now a.targets.now a.known.now a.numbers.now) a.offsets.now
-    a.parents.now a.children.now a.ukinds.now a.handles.now c.resolve_rules-rules.ensures
-    c.in-Kept.is
+write_all-requires c = search (ready, c.in_ok-resolve_rules.was)
 
-pub returns-in-Broken : goal.returns-in-Broken
-returns-in-Broken c = let a = c.args in
-    nothing_written (referred a.first a.rows a.starts.now a.kinds.now a.spaces.now a.targets.now a.known.now a.numbers.now)
-    a.offsets.now a.parents.now a.children.now a.ukinds.now a.handles.now c.resolve_rules-rules.ensures _ c.in-Broken.is
+pub returns-in_err-resolve_rules : goal.returns-in_err-resolve_rules
+returns-in_err-resolve_rules c = rw (handed-on _ c.from_residual.ensures refl) (search (nothing_written, c.in_err-resolve_rules.was))
 
-pub returns-in-Kept : goal.returns-in-Kept
-returns-in-Kept c = let a = c.args in
-    made_is (referred a.first a.rows a.starts.now a.kinds.now a.spaces.now a.targets.now a.known.now a.numbers.now) a.offsets.now
-    a.parents.now a.children.now a.ukinds.now a.handles.now
-    c.resolve_rules-rules.ensures c.in-Kept.is _ _ _ _ _ _ c.write_all.ensures
+pub returns : goal.returns
+returns c = search (made_is, c.in_ok-resolve_rules.was)

@@ -1,4 +1,5 @@
 -- The rules of records, one after another.
+use Rattle.std.specs.Prelude.{Err, Ok, Result}
 use Prim.Native.Nat.{ℕ, ◌+◌}
 use Rattle.columns.specs.Building.{Depth, record_count, depth_ok, labels_rules}
 use Rattle.columns.specs.Reading.{Labels}
@@ -9,8 +10,6 @@ use Rattle.columns.proofs.Told.{last-rule, goes_on, stops-here}
 use Rattle.columns.specs.Answers.{ruling}
 use Rattle.columns_rules.specs.records.Recorded.{depth_of, unresolved_from, depth_rules, record_rules}
 use Rattle.columns.specs.declared.depth.Depth.TheVariants.{Unknown, Between}
-use Rattle.columns.specs.declared.refusal.Ruling.TheVariants.{Kept, Broken}
-use Rattle.columns.specs.declared.refusal.Ruling.{Ruling}
 use borrow.Author.Tests.{not-true, not-false}
 use lib.Dec.{leb}
 use mathlib.Core.Bool.{Bool, true, false, not}
@@ -30,22 +29,22 @@ depth-known d a b e = rw e
 -- ── 8 to 10 ──────────────────────────────────────────────────────────────────────────────────
 
 module _ (rows : ℕ) (depth : Option Depth) (labels : Option Labels) {a : Bool} (e : a ≡ depth_ok depth) where
-  pub depth-bad : not a ≡ true → Broken DepthOrder ≡ ruling (depth_rules rows depth labels)
+  pub depth-bad : not a ≡ true → Err DepthOrder ≡ ruling (depth_rules rows depth labels)
   unfolding depth_rules first_of
   depth-bad p = rw (← e, not-true a p)
 
-  pub then-labels : not a ≡ false → {s : Ruling} → s ≡ ruling (labels_rules rows labels) → s ≡ ruling (depth_rules rows depth labels)
+  pub then-labels : not a ≡ false → {s : Result (Unit {0}) Refusal} → s ≡ ruling (labels_rules rows labels) → s ≡ ruling (depth_rules rows depth labels)
   unfolding depth_rules first_of
   then-labels p k = rw (← e, not-false a p) (k ∙ ap ruling (sym (last-rule (labels_rules rows labels))))
 
 -- ── 6 to 10 ──────────────────────────────────────────────────────────────────────────────────
 
-module _ (first rows : ℕ) (cs ks fs : List ℕ) (depth : Option Depth) (labels : Option Labels) {r : Ruling}
+module _ (first rows : ℕ) (cs ks fs : List ℕ) (depth : Option Depth) (labels : Option Labels) {r : Result (Unit {0}) Refusal}
     (e : r ≡ ruling (unresolved_from first (first + rows) cs ks fs 0 (record_count cs ks fs))) where
-  pub records-stop : (x : Refusal) → r ≡ Broken x → Broken x ≡ ruling (record_rules first rows cs ks fs depth labels)
+  pub records-stop : (x : Refusal) → r ≡ Err x → Err x ≡ ruling (record_rules first rows cs ks fs depth labels)
   unfolding record_rules
   records-stop x f = stops-here (unresolved_from first (first + rows) cs ks fs 0 (record_count cs ks fs)) (depth_rules rows depth labels) e x f
 
-  pub records-then : r ≡ Kept → {s : Ruling} → s ≡ ruling (depth_rules rows depth labels) → s ≡ ruling (record_rules first rows cs ks fs depth labels)
+  pub records-then : r ≡ Ok tt → {s : Result (Unit {0}) Refusal} → s ≡ ruling (depth_rules rows depth labels) → s ≡ ruling (record_rules first rows cs ks fs depth labels)
   unfolding record_rules
   records-then f k = goes_on (unresolved_from first (first + rows) cs ks fs 0 (record_count cs ks fs)) (depth_rules rows depth labels) e f k

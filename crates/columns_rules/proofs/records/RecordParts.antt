@@ -1,4 +1,5 @@
 -- Records in parallel columns: what a test of one part says of the part, what the tests say of a record, and one turn over the records.
+use Rattle.std.specs.Prelude.{Err, Ok, Result}
 use mathlib.Core.Path.{◌≡◌, refl}
 use mathlib.Core.Bool.{Bool, true, false, not}
 use mathlib.Core.Logic.{inl, inr}
@@ -21,8 +22,6 @@ use Rattle.columns.specs.Answers.{ruling}
 use Rattle.columns_rules.specs.records.Recorded.{unresolved_from, inbound_from}
 use Rattle.columns.specs.declared.refusal.Refusal.{Refusal}
 use Rattle.columns.specs.declared.refusal.Refusal.TheVariants.{UnresolvedChild, UnresolvedKind, InboundChild, InboundParent}
-use Rattle.columns.specs.declared.refusal.Ruling.{Ruling}
-use Rattle.columns.specs.declared.refusal.Ruling.TheVariants.{Kept, Broken}
 use Rattle.columns.proofs.Told.{told, told-kept}
 
 -- ── a part of a record ───────────────────────────────────────────────────────────────────────
@@ -81,40 +80,40 @@ longest-says a b c n e f = cc
 -- ── a record ─────────────────────────────────────────────────────────────────────────────────
 
 module _ (first end : ℕ) (child kind flag : Option ℕ) {a : Bool} (e : a ≡ has (in_file first end) child) where
-  pub child-bad : not a ≡ true → Broken UnresolvedChild ≡ ruling (unresolved_rules first end child kind flag)
+  pub child-bad : not a ≡ true → Err UnresolvedChild ≡ ruling (unresolved_rules first end child kind flag)
   unfolding unresolved_rules first_of
   child-bad p = rw (← e, not-true a p)
 
   module _ (p : not a ≡ false) {b : Bool} (f : b ≡ has (λ k. ltb k kinds) kind) where
-    pub kind-bad : not b ≡ true → Broken UnresolvedKind ≡ ruling (unresolved_rules first end child kind flag)
+    pub kind-bad : not b ≡ true → Err UnresolvedKind ≡ ruling (unresolved_rules first end child kind flag)
     unfolding unresolved_rules first_of
     kind-bad q = rw (← e, not-false a p, ← f, not-true b q)
 
     module _ (q : not b ≡ false) {d : Bool} (g : d ≡ has (eqb 0) flag) where
-      pub flag-bad : not d ≡ true → Broken UnresolvedKind ≡ ruling (unresolved_rules first end child kind flag)
+      pub flag-bad : not d ≡ true → Err UnresolvedKind ≡ ruling (unresolved_rules first end child kind flag)
       unfolding unresolved_rules first_of
       flag-bad r = rw (← e, not-false a p, ← f, not-false b q, ← g, not-true d r)
 
-      pub record-kept : not d ≡ false → Kept ≡ ruling (unresolved_rules first end child kind flag)
+      pub record-kept : not d ≡ false → (Ok tt) ≡ ruling (unresolved_rules first end child kind flag)
       unfolding unresolved_rules first_of
       record-kept r = rw (← e, not-false a p, ← f, not-false b q, ← g, not-false d r)
 
 module _ (first end : ℕ) (child parent kind : Option ℕ) {a : Bool} (e : a ≡ has (leb end) child) where
-  pub in-child-bad : not a ≡ true → Broken InboundChild ≡ ruling (inbound_rules kinds first end child parent kind)
+  pub in-child-bad : not a ≡ true → Err InboundChild ≡ ruling (inbound_rules kinds first end child parent kind)
   unfolding inbound_rules first_of
   in-child-bad p = rw (← e, not-true a p)
 
   module _ (p : not a ≡ false) {b : Bool} (f : b ≡ has (in_file first end) parent) where
-    pub in-parent-bad : not b ≡ true → Broken InboundParent ≡ ruling (inbound_rules kinds first end child parent kind)
+    pub in-parent-bad : not b ≡ true → Err InboundParent ≡ ruling (inbound_rules kinds first end child parent kind)
     unfolding inbound_rules first_of
     in-parent-bad q = rw (← e, not-false a p, ← f, not-true b q)
 
     module _ (q : not b ≡ false) {d : Bool} (g : d ≡ has (λ k. ltb k kinds) kind) where
-      pub in-kind-bad : not d ≡ true → Broken InboundParent ≡ ruling (inbound_rules kinds first end child parent kind)
+      pub in-kind-bad : not d ≡ true → Err InboundParent ≡ ruling (inbound_rules kinds first end child parent kind)
       unfolding inbound_rules first_of
       in-kind-bad r = rw (← e, not-false a p, ← f, not-false b q, ← g, not-true d r)
 
-      pub edge_kept : not d ≡ false → Kept ≡ ruling (inbound_rules kinds first end child parent kind)
+      pub edge_kept : not d ≡ false → (Ok tt) ≡ ruling (inbound_rules kinds first end child parent kind)
       unfolding inbound_rules first_of
       edge_kept r = rw (← e, not-false a p, ← f, not-false b q, ← g, not-false d r)
 
@@ -125,17 +124,17 @@ module _ (f : ℕ → Option Refusal) (i n : ℕ) (h : i < n) where
   unfolding first_in up_from
   first-here = let z : n - i ≡ suc (n - (i + 1)) = omega arith in rw (z, add-one)
 
-module _ (f : ℕ → Option Refusal) (i n : ℕ) {t : Ruling} (e : t ≡ ruling (first_in f (up_from i (n - i)))) where
-  pub records-done : n ≤ i → Kept ≡ t
+module _ (f : ℕ → Option Refusal) (i n : ℕ) {t : Result (Unit {0}) Refusal} (e : t ≡ ruling (first_in f (up_from i (n - i)))) where
+  pub records-done : n ≤ i → (Ok tt) ≡ t
   unfolding first_in up_from
   records-done h = let z : n - i ≡ 0 = omega arith in rw (e, z)
 
-  module _ (h : i < n) {r : Ruling} (k : r ≡ ruling (f i)) where
-    pub record-stop : {x : Refusal} → r ≡ Broken x → Broken x ≡ t
+  module _ (h : i < n) {r : Result (Unit {0}) Refusal} (k : r ≡ ruling (f i)) where
+    pub record-stop : {x : Refusal} → r ≡ Err x → Err x ≡ t
     unfolding first_of
     record-stop g = rw (e, first-here f i n h, told (f i) k g)
 
-    pub records-on : r ≡ Kept → t ≡ ruling (first_in f (up_from (i + 1) (n - (i + 1))))
+    pub records-on : r ≡ Ok tt → t ≡ ruling (first_in f (up_from (i + 1) (n - (i + 1))))
     unfolding first_of
     records-on g =
         let z : first_of (first_in f (up_from (i + 1) (n - (i + 1))) ∷ []) ≡ first_in f (up_from (i + 1) (n - (i + 1))) = only (first_in f (up_from (i + 1) (n - (i + 1)))) in
@@ -145,31 +144,31 @@ module _ (f : ℕ → Option Refusal) (i n : ℕ) {t : Ruling} (e : t ≡ ruling
         only none = refl
         only (some x) = refl
 
-module _ (first end : ℕ) (cs ks fs : List ℕ) (i n : ℕ) {t : Ruling} (e : t ≡ ruling (unresolved_from first end cs ks fs i (n - i))) where
-  pub unresolved-done : n ≤ i → Kept ≡ t
+module _ (first end : ℕ) (cs ks fs : List ℕ) (i n : ℕ) {t : Result (Unit {0}) Refusal} (e : t ≡ ruling (unresolved_from first end cs ks fs i (n - i))) where
+  pub unresolved-done : n ≤ i → (Ok tt) ≡ t
   unfolding unresolved_from
   unresolved-done h = records-done (λ j. unresolved_rules first end (get_elem? cs j) (get_elem? ks j) (get_elem? fs j)) i n e h
 
-  module _ (h : i < n) {r : Ruling} (k : r ≡ ruling (unresolved_rules first end (get_elem? cs i) (get_elem? ks i) (get_elem? fs i))) where
-    pub unresolved-stop : {x : Refusal} → r ≡ Broken x → Broken x ≡ t
+  module _ (h : i < n) {r : Result (Unit {0}) Refusal} (k : r ≡ ruling (unresolved_rules first end (get_elem? cs i) (get_elem? ks i) (get_elem? fs i))) where
+    pub unresolved-stop : {x : Refusal} → r ≡ Err x → Err x ≡ t
     unfolding unresolved_from
     unresolved-stop g = record-stop (λ j. unresolved_rules first end (get_elem? cs j) (get_elem? ks j) (get_elem? fs j)) i n e h k g
 
-    pub unresolved-on : r ≡ Kept → t ≡ ruling (unresolved_from first end cs ks fs (i + 1) (n - (i + 1)))
+    pub unresolved-on : r ≡ Ok tt → t ≡ ruling (unresolved_from first end cs ks fs (i + 1) (n - (i + 1)))
     unfolding unresolved_from
     unresolved-on g = records-on (λ j. unresolved_rules first end (get_elem? cs j) (get_elem? ks j) (get_elem? fs j)) i n e h k g
 
-module _ (first end : ℕ) (cs ps ks : List ℕ) (i n : ℕ) {t : Ruling} (e : t ≡ ruling (inbound_from first end cs ps ks i (n - i))) where
-  pub inbound-done : n ≤ i → Kept ≡ t
+module _ (first end : ℕ) (cs ps ks : List ℕ) (i n : ℕ) {t : Result (Unit {0}) Refusal} (e : t ≡ ruling (inbound_from first end cs ps ks i (n - i))) where
+  pub inbound-done : n ≤ i → (Ok tt) ≡ t
   unfolding inbound_from
   inbound-done h = records-done (λ j. inbound_rules kinds first end (get_elem? cs j) (get_elem? ps j) (get_elem? ks j)) i n e h
 
-  module _ (h : i < n) {r : Ruling} (k : r ≡ ruling (inbound_rules kinds first end (get_elem? cs i) (get_elem? ps i) (get_elem? ks i))) where
-    pub inbound-stop : {x : Refusal} → r ≡ Broken x → Broken x ≡ t
+  module _ (h : i < n) {r : Result (Unit {0}) Refusal} (k : r ≡ ruling (inbound_rules kinds first end (get_elem? cs i) (get_elem? ps i) (get_elem? ks i))) where
+    pub inbound-stop : {x : Refusal} → r ≡ Err x → Err x ≡ t
     unfolding inbound_from
     inbound-stop g = record-stop (λ j. inbound_rules kinds first end (get_elem? cs j) (get_elem? ps j) (get_elem? ks j)) i n e h k g
 
-    pub inbound-on : r ≡ Kept → t ≡ ruling (inbound_from first end cs ps ks (i + 1) (n - (i + 1)))
+    pub inbound-on : r ≡ Ok tt → t ≡ ruling (inbound_from first end cs ps ks (i + 1) (n - (i + 1)))
     unfolding inbound_from
     inbound-on g = records-on (λ j. inbound_rules kinds first end (get_elem? cs j) (get_elem? ps j) (get_elem? ks j)) i n e h k g
 

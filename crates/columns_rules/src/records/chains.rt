@@ -5,24 +5,29 @@ ghost use Rattle.columns.specs.Answers.{ruling};
 ghost use Rattle.columns_rules.specs.records.Recorded.{labels_given};
 
 use crate::seqs::seqs_rise;
-use columns::refusal::{Refusal, Ruling};
+use columns::refusal::Refusal;
 
 // The rules on labels, where there are labels.
-pub fn labels_rules(rows: usize, labelled: bool, chains: &[u32], seqs: &[u32]) -> Ruling
+pub fn labels_rules(
+    rows: usize,
+    labelled: bool,
+    chains: &[u32],
+    seqs: &[u32],
+) -> Result<(), Refusal>
     requires { rows ≤ 1024 }
     ensures { result ≡ ruling (labels_rules rows (labels_given labelled chains.now seqs.now)) }
 {
     if !labelled {
-        return Ruling::Kept;
+        return Ok(());
     }
     if chains.len() != rows {
-        return Ruling::Broken(Refusal::LabelCount);
+        return Err(Refusal::LabelCount);
     }
     if seqs.len() != rows {
-        return Ruling::Broken(Refusal::LabelCount);
+        return Err(Refusal::LabelCount);
     }
     if !seqs_rise(chains, seqs) {
-        return Ruling::Broken(Refusal::SeqNotRising);
+        return Err(Refusal::SeqNotRising);
     }
-    Ruling::Kept
+    Ok(())
 }

@@ -7,7 +7,7 @@ ghost use Rattle.columns_rules.specs.records.Recorded.{labels_given, depth_of, r
 use crate::records::chains::labels_rules;
 use crate::records::parts::unresolved_rules;
 use columns::depth::Depth;
-use columns::refusal::{Refusal, Ruling};
+use columns::refusal::Refusal;
 
 fn depth_fits(depth: Depth) -> bool
     ensures { result ≡ depth_ok (depth_of depth) }
@@ -19,12 +19,18 @@ fn depth_fits(depth: Depth) -> bool
 }
 
 // 8 to 10: depth and labels.
-fn label_rules(rows: usize, depth: Depth, labelled: bool, chains: &[u32], seqs: &[u32]) -> Ruling
+fn label_rules(
+    rows: usize,
+    depth: Depth,
+    labelled: bool,
+    chains: &[u32],
+    seqs: &[u32],
+) -> Result<(), Refusal>
     requires { rows ≤ 1024 }
     ensures { result ≡ ruling (depth_rules rows (depth_of depth) (labels_given labelled chains.now seqs.now)) }
 {
     if !depth_fits(depth) {
-        return Ruling::Broken(Refusal::DepthOrder);
+        return Err(Refusal::DepthOrder);
     }
     labels_rules(rows, labelled, chains, seqs)
 }
@@ -40,14 +46,11 @@ pub fn record_rules(
     labelled: bool,
     chains: &[u32],
     seqs: &[u32],
-) -> Ruling
+) -> Result<(), Refusal>
     requires { rows ≤ 1024 }
     ensures { result ≡ ruling (record_rules first rows children.now kinds.now flags.now (depth_of depth)
         (labels_given labelled chains.now seqs.now)) }
 {
-    let r = unresolved_rules(first, rows, children, kinds, flags);
-    match r {
-        Ruling::Broken(x) => Ruling::Broken(x),
-        Ruling::Kept => label_rules(rows, depth, labelled, chains, seqs),
-    }
+    unresolved_rules(first, rows, children, kinds, flags)?;
+    label_rules(rows, depth, labelled, chains, seqs)
 }

@@ -6,7 +6,7 @@ ghost use Rattle.columns.specs.Building.{has, in_file, greater, record_count, un
 ghost use Rattle.columns.specs.Answers.{ruling};
 ghost use Rattle.columns_rules.specs.records.Recorded.{unresolved_from, inbound_from};
 
-use columns::refusal::{Refusal, Ruling};
+use columns::refusal::Refusal;
 
 // Whether a number is one of the rows from `first` on.
 pub fn is_in_file(first: u64, rows: usize, number: u64) -> bool
@@ -88,19 +88,19 @@ fn unresolved_rule(
     kinds: &[u64],
     flags: &[u64],
     i: usize,
-) -> Ruling
+) -> Result<(), Refusal>
     ensures { result ≡ ruling (unresolved_rules first (first + rows) (get_elem? children.now i) (get_elem? kinds.now i) (get_elem? flags.now i)) }
 {
     if !in_file_at(first, rows, children, i) {
-        return Ruling::Broken(Refusal::UnresolvedChild);
+        return Err(Refusal::UnresolvedChild);
     }
     if !kind_at(kinds, i) {
-        return Ruling::Broken(Refusal::UnresolvedKind);
+        return Err(Refusal::UnresolvedKind);
     }
     if !zero_at(flags, i) {
-        return Ruling::Broken(Refusal::UnresolvedKind);
+        return Err(Refusal::UnresolvedKind);
     }
-    Ruling::Kept
+    Ok(())
 }
 
 // Record by record.
@@ -110,24 +110,15 @@ pub fn unresolved_rules(
     children: &[u64],
     kinds: &[u64],
     flags: &[u64],
-) -> Ruling
+) -> Result<(), Refusal>
     ensures { result ≡ ruling (unresolved_from first (first + rows) children.now kinds.now flags.now 0
         (record_count children.now kinds.now flags.now)) }
 {
     let n = longest(children, kinds, flags);
-    let mut i = 0;
-    while i < n {
-        let r = unresolved_rule(first, rows, children, kinds, flags, i);
-        match r {
-            Ruling::Broken(x) => {
-                return Ruling::Broken(x);
-            }
-            Ruling::Kept => {
-                i += 1;
-            }
-        }
+    for i in 0..n {
+        unresolved_rule(first, rows, children, kinds, flags, i)?;
     }
-    Ruling::Kept
+    Ok(())
 }
 
 // The inbound edge at i.
@@ -138,19 +129,19 @@ fn inbound_rule(
     parents: &[u64],
     kinds: &[u64],
     i: usize,
-) -> Ruling
+) -> Result<(), Refusal>
     ensures { result ≡ ruling (inbound_rules run_kinds first (first + rows) (get_elem? children.now i) (get_elem? parents.now i) (get_elem? kinds.now i)) }
 {
     if !past_file_at(first, rows, children, i) {
-        return Ruling::Broken(Refusal::InboundChild);
+        return Err(Refusal::InboundChild);
     }
     if !in_file_at(first, rows, parents, i) {
-        return Ruling::Broken(Refusal::InboundParent);
+        return Err(Refusal::InboundParent);
     }
     if !kind_at(kinds, i) {
-        return Ruling::Broken(Refusal::InboundParent);
+        return Err(Refusal::InboundParent);
     }
-    Ruling::Kept
+    Ok(())
 }
 
 // Edge by edge.
@@ -160,22 +151,13 @@ pub fn inbound_rules(
     children: &[u64],
     parents: &[u64],
     kinds: &[u64],
-) -> Ruling
+) -> Result<(), Refusal>
     ensures { result ≡ ruling (inbound_from first (first + rows) children.now parents.now kinds.now 0
         (record_count children.now parents.now kinds.now)) }
 {
     let n = longest(children, parents, kinds);
-    let mut i = 0;
-    while i < n {
-        let r = inbound_rule(first, rows, children, parents, kinds, i);
-        match r {
-            Ruling::Broken(x) => {
-                return Ruling::Broken(x);
-            }
-            Ruling::Kept => {
-                i += 1;
-            }
-        }
+    for i in 0..n {
+        inbound_rule(first, rows, children, parents, kinds, i)?;
     }
-    Ruling::Kept
+    Ok(())
 }

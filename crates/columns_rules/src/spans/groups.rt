@@ -6,7 +6,7 @@ ghost use Rattle.columns.specs.Answers.{ruling};
 ghost use Rattle.columns_rules.specs.spans.Spanned.{span_rules};
 
 use crate::spans::reach::slots_fit;
-use columns::refusal::{Refusal, Ruling};
+use columns::refusal::Refusal;
 
 // 14 and 15: the granule's rows, and its edges in the order of the sets. The inbound lists come as a table of their own. A reverse edge spans
 // less than the file.
@@ -19,23 +19,23 @@ pub fn span_rules(
     itargets: &[u64],
     from: usize,
     n: usize,
-) -> Ruling
+) -> Result<(), Refusal>
     requires rows_bound { (rows ≤ 1024) × (first + rows < end64) }
     requires offsets_value { offsets_form kinds rows (length targets.now) offsets.now ≡ true }
     requires ioffsets_value { offsets_form kinds rows (length itargets.now) ioffsets.now ≡ true }
     ensures { result ≡ ruling (span_rules first rows (cut offsets.now targets.now) (cut ioffsets.now itargets.now) from n) }
 {
     if rows < from {
-        return Ruling::Broken(Refusal::GranuleRows);
+        return Err(Refusal::GranuleRows);
     }
     if rows - from < n {
-        return Ruling::Broken(Refusal::GranuleRows);
+        return Err(Refusal::GranuleRows);
     }
     if !slots_fit(first, rows, from, n, offsets, targets) {
-        return Ruling::Broken(Refusal::DeltaRange);
+        return Err(Refusal::DeltaRange);
     }
     if !slots_fit(first, rows, from, n, ioffsets, itargets) {
-        return Ruling::Broken(Refusal::DeltaRange);
+        return Err(Refusal::DeltaRange);
     }
-    Ruling::Kept
+    Ok(())
 }

@@ -24,12 +24,10 @@ fn all_fit(event: u64, targets: &[u64], from: usize, to: usize) -> bool
     requires { to ≤ length targets.now }
     ensures { result ≡ spans_fit event (slice from to targets.now) }
 {
-    let mut j = from;
-    while j < to {
+    for j in from..to {
         if !span_fits(event, targets[j]) {
             return false;
         }
-        j += 1;
     }
     true
 }
@@ -68,12 +66,10 @@ pub fn slots_fit(
     requires offsets_value { offsets_form kinds rows (length targets.now) offsets.now ≡ true }
     ensures { result ≡ deltas_fit kinds (first + from) (part (2 * from) (2 * n) (cut offsets.now targets.now)) }
 {
-    let mut q = 0;
-    while q < 2 * n {
+    for q in 0..2 * n {
         if !slot_fits(first, rows, from, offsets, targets, q) {
             return false;
         }
-        q += 1;
     }
     true
 }

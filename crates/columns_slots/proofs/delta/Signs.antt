@@ -2,15 +2,13 @@
 use mathlib.Core.Path.{◌≡◌, refl, sym, ◌∙◌, ap}
 use mathlib.Core.Bool.{Bool, true, false, false≢true}
 use Prim.Native.Nat.{ℕ, zero, suc, ◌+◌, ◌-◌, ◌<◌, ◌≤◌, ◌^◌}
-use native.Mathlib.Numerals.{add-one}
 use native.Mathlib.Omega.{arith}
-use lib.Dec.{T, ltb, leb}
-use lib.IntN.{ℤ, pos, negsuc, nat_abs, ◌-ℤ◌}
-use lib.Signed.{lt_z, non_neg, nat_abs-le}
+use lib.Dec.{ltb, leb}
+use lib.IntN.{ℤ, pos, negsuc, nat_abs}
+use lib.Signed.{lt_z, nat_abs-le}
 use mir.Syntax.{w64}
 use mir.Val.{Fits, SFits, to_z, of_z}
 use mir.ValLaws.{to_z-of_z}
-use mir.Facts.{Fits-nat_abs}
 use borrow.Author.Tests.{le-ltb, lt-ltb, le-leb, lt-leb, ltb-true, ltb-false, leb-true}
 use Rattle.lists.proofs.Tests.{same_test}
 use Rattle.columns.specs.EdgeSet.{is_number, to_number, target_of, allowed, sound}
@@ -18,62 +16,9 @@ use Rattle.columns.specs.Answers.{named}
 
 -- ── how far a delta reaches ──────────────────────────────────────────────────────────────────
 
--- below 0, −1 minus the delta is one less than that
-record Flip (z : ℤ) : Type 0 where
-  k : ℕ
-  is : negsuc 0 -ℤ z ≡ pos k
-  small : k < 2 ^ 63
-  abs : k + 1 ≡ nat_abs z
-
-flip : (z : ℤ) → SFits w64 z → lt_z z (pos 0) ≡ true → Flip z
-flip (pos n) f h = let u : n < 0 = ltb-true n 0 h in let no : ⊥ = omega arith in absurd no
-flip (negsuc n) f h =
-    let g : ltb (suc n) 1 ≡ false = le-ltb (suc n) 1 (omega arith) in
-    let s : suc n - 1 ≡ n = omega arith in
-    record { k = n; is = simp (g, s); small = f.sfits; abs = add-one n }
-
-not-below : (z : ℤ) → lt_z z (pos 0) ≡ false → T (non_neg z)
-not-below (pos n) h = tt
-not-below (negsuc n) h = absurd (false≢true (sym h))
-
-module _ (x : ℤ) (f : SFits w64 x) where
-  -- the delta as the machine reads it back from its bits
-  back : to_z w64 (of_z w64 x) ≡ x
-  back = to_z-of_z w64 x f
-
-  module _ (h : lt_z (to_z w64 (of_z w64 x)) (pos 0) ≡ true) where
-    flipped : Flip x
-    flipped = flip x f (rw back at h)
-
-    less-is : negsuc 0 -ℤ to_z w64 (of_z w64 x) ≡ pos flipped.k
-    less-is = ap (λ (z : ℤ). negsuc 0 -ℤ z) back ∙ flipped.is
-
-    pub less-fits : SFits w64 (negsuc 0 -ℤ to_z w64 (of_z w64 x))
-    less-fits = rw less-is (record { sfits = flipped.small })
-
-    less-back : to_z w64 (of_z w64 (negsuc 0 -ℤ to_z w64 (of_z w64 x))) ≡ pos flipped.k
-    less-back = to_z-of_z w64 _ less-fits ∙ less-is
-
-    pub less-pos : T (non_neg (to_z w64 (of_z w64 (negsuc 0 -ℤ to_z w64 (of_z w64 x)))))
-    less-pos = rw less-back tt
-
-    pub less-wide : Fits w64 (nat_abs (to_z w64 (of_z w64 (negsuc 0 -ℤ to_z w64 (of_z w64 x)))))
-    less-wide = rw less-back (record { fits = omega (arith, flipped.small) })
-
-    pub more-fits : Fits w64 (nat_abs (to_z w64 (of_z w64 (negsuc 0 -ℤ to_z w64 (of_z w64 x)))) + 1)
-    more-fits = rw less-back (record { fits = omega (arith, flipped.small) })
-
-    pub more-is : nat_abs (to_z w64 (of_z w64 (negsuc 0 -ℤ to_z w64 (of_z w64 x)))) + 1 ≡ nat_abs x
-    more-is = rw less-back flipped.abs
-
-  pub same-pos : lt_z (to_z w64 (of_z w64 x)) (pos 0) ≡ false → T (non_neg (to_z w64 (of_z w64 x)))
-  same-pos h = not-below (to_z w64 (of_z w64 x)) h
-
-  pub same-fits : Fits w64 (nat_abs (to_z w64 (of_z w64 x)))
-  same-fits = rw back (Fits-nat_abs tt f)
-
-  pub same-is : nat_abs (to_z w64 (of_z w64 x)) ≡ nat_abs x
-  same-is = ap nat_abs back
+-- the machine reads a delta back from its bits
+pub same-is : (x : ℤ) → SFits w64 x → nat_abs (to_z w64 (of_z w64 x)) ≡ nat_abs x
+same-is x f = ap nat_abs (to_z-of_z w64 x f)
 
 -- ── what a delta names ───────────────────────────────────────────────────────────────────────
 

@@ -1,4 +1,5 @@
 -- The turns of the loops that check offsets and deltas, and the tests between them, as laws of the definitions.
+use Rattle.std.specs.Prelude.{Err, Ok}
 use mathlib.Core.Path.{◌≡◌, refl, sym, ap, ◌∙◌}
 use mathlib.Core.Bool.{Bool, true, false, ◌&&◌, not}
 use mathlib.Core.List.{List, [], ◌∷◌}
@@ -9,21 +10,18 @@ use native.Mathlib.Omega.{arith}
 use lib.Dec.{leb, ltb, eqb}
 use lib.IntN.{ℤ, pos}
 use lib.ListN.{length, get_or, drop, drop_of_length-le}
-use lib.Seq.{slice, slice-cons, drop-cons}
+use lib.Seq.{slice, drop-cons}
 use mir.Syntax.{w64}
-use mir.Val.{Fits, SFits, to_z, of_z}
-use mir.ValLaws.{to_z-of_z}
+use mir.Val.{Fits, to_z, of_z}
 use borrow.Author.Tests.{le-leb, lt-leb, lt-ltb, le-ltb, eq-eqb, ne_eqb, ltb-true, leb-true, not-true, not-false}
 use Rattle.lists.specs.Lists.{all}
 use Rattle.lists.specs.Order.{climbs_to}
 use Rattle.lists.proofs.Tests.{same_test}
-use Rattle.lists.proofs.Slices.{slice-none}
-use Rattle.columns.specs.Limits.{end64, end32, Served}
+use Rattle.columns.specs.Limits.{end64, Served}
 use Rattle.columns.specs.Refusal.{first_of}
 use Rattle.columns.specs.EdgeSet.{cut, from_to, offsets_form, sound}
 use Rattle.columns.specs.Reading.{sound_from, set_rules, label_rules}
 use Rattle.columns.specs.Answers.{short32, columns_of, label_columns, ruling}
-use Rattle.columns.specs.declared.refusal.Ruling.TheVariants.{Kept, Broken}
 use Rattle.columns.specs.declared.refusal.Refusal.TheVariants.{OffsetsForm, DeltaCount, TargetSide, LabelColumns, LabelRange}
 use Rattle.columns.proofs.Offsets.{form-climbs, form-length}
 
@@ -87,23 +85,6 @@ row_number first row f =
 abbrev pub at : List ℤ → ℕ → ℤ
 at ds i = to_z w64 (of_z w64 (get_or ds i (pos 0)))
 
-module _ {t : Bool} (set end event i to : ℕ) (ds : List ℤ) (e : t ≡ all (sound set end event) (slice i to ds)) where
-  pub sound-done : to ≤ i → true ≡ t
-  unfolding all
-  sound-done h = rw (e, slice-none i to ds h)
-
-  module _ {b : Bool} (h : i < to) (k : to ≤ length ds) (s : SFits w64 (get_or ds i (pos 0))) (g : b ≡ sound set end event (at ds i)) where
-    here : sound set end event (get_or ds i (pos 0)) ≡ b
-    here = sym (rw (to_z-of_z w64 (get_or ds i (pos 0)) s) at g)
-
-    pub sound-stop : not b ≡ true → false ≡ t
-    unfolding all
-    sound-stop f = rw (e, slice-cons i to ds (pos 0), here, not-true b f)
-
-    pub sound-on : not b ≡ false → t ≡ all (sound set end event) (slice (i + 1) to ds)
-    unfolding all
-    sound-on f = rw (e, slice-cons i to ds (pos 0), here, not-false b f, add-one)
-
 -- ── rows ─────────────────────────────────────────────────────────────────────────────────────
 
 module _ (first row : ℕ) (b : Bool) (e : b ≡ ltb (first + row) end64) where
@@ -122,17 +103,17 @@ module _ (first row : ℕ) (b : Bool) (e : b ≡ ltb (first + row) end64) where
 -- ── the rules of one set ─────────────────────────────────────────────────────────────────────
 
 module _ (K set first rows end count : ℕ) (offsets : List ℕ) (deltas : List ℤ) (b : Bool) (e : b ≡ offsets_form K rows count offsets) where
-  pub bad-form : not b ≡ true → Broken OffsetsForm ≡ ruling (set_rules K set first rows end (columns_of count offsets deltas))
+  pub bad-form : not b ≡ true → Err OffsetsForm ≡ ruling (set_rules K set first rows end (columns_of count offsets deltas))
   unfolding set_rules first_of
   bad-form h = rw (sym e ∙ not-true b h)
 
   module _ (h : not b ≡ false) where
-    pub no_edges : count ≡ 0 → Kept ≡ ruling (set_rules K set first rows end (columns_of count offsets deltas))
+    pub no_edges : count ≡ 0 → (Ok tt) ≡ ruling (set_rules K set first rows end (columns_of count offsets deltas))
     unfolding set_rules first_of
     no_edges k = rw (sym e ∙ not-false b h, le-ltb 0 count (omega arith))
 
     module _ (k : count ≡ 0 → ⊥) where
-      pub bad-count : (length deltas ≡ count → ⊥) → Broken DeltaCount ≡ ruling (set_rules K set first rows end (columns_of count offsets deltas))
+      pub bad-count : (length deltas ≡ count → ⊥) → Err DeltaCount ≡ ruling (set_rules K set first rows end (columns_of count offsets deltas))
       unfolding set_rules first_of
       bad-count f = rw (sym e ∙ not-false b h, lt-ltb 0 count (omega arith), ne_eqb (length deltas) count f)
 
@@ -144,50 +125,37 @@ module _ (K set first rows end count : ℕ) (offsets : List ℕ) (deltas : List 
         deltas-climb = rw f (form-climbs K rows count offsets (sym e ∙ not-false b h))
 
         module _ (r : Bool) (g : r ≡ sound_from K set first end 0 (cut offsets deltas)) where
-          pub bad-side : not r ≡ true → Broken TargetSide ≡ ruling (set_rules K set first rows end (columns_of count offsets deltas))
+          pub bad-side : not r ≡ true → Err TargetSide ≡ ruling (set_rules K set first rows end (columns_of count offsets deltas))
           unfolding set_rules first_of
           bad-side q = rw (sym e ∙ not-false b h, lt-ltb 0 count (omega arith), eq-eqb (length deltas) count f, sym g ∙ not-true r q)
 
-          pub all-kept : not r ≡ false → Kept ≡ ruling (set_rules K set first rows end (columns_of count offsets deltas))
+          pub all-kept : not r ≡ false → (Ok tt) ≡ ruling (set_rules K set first rows end (columns_of count offsets deltas))
           unfolding set_rules first_of
           all-kept q = rw (sym e ∙ not-false b h, lt-ltb 0 count (omega arith), eq-eqb (length deltas) count f, sym g ∙ not-false r q)
 
 -- ── label columns ────────────────────────────────────────────────────────────────────────────
 
-module _ {t : Bool} (i : ℕ) (l : List ℕ) (e : t ≡ all short32 (drop i l)) where
-  pub short-done : length l ≤ i → true ≡ t
-  unfolding all
-  short-done h = rw (e, drop_of_length-le l {i = i} h)
-
-  pub short-stop : i < length l → 4294967295 < get_or l i 0 → false ≡ t
-  unfolding all
-  short-stop h k = rw (e, drop-cons l i 0, le-ltb (get_or l i 0) end32 (omega arith))
-
-  pub short_on : i < length l → get_or l i 0 ≤ 4294967295 → t ≡ all short32 (drop (i + 1) l)
-  unfolding all
-  short_on h k = rw (e, drop-cons l i 0, lt-ltb (get_or l i 0) end32 (omega arith), add-one)
-
 module _ (rows : ℕ) (chains seqs : List ℕ) where
-  pub bad-chains : (length chains ≡ rows → ⊥) → Broken LabelColumns ≡ ruling (label_rules rows (label_columns chains seqs))
+  pub bad-chains : (length chains ≡ rows → ⊥) → Err LabelColumns ≡ ruling (label_rules rows (label_columns chains seqs))
   unfolding label_rules first_of
   bad-chains h = rw (ne_eqb (length chains) rows h)
 
   module _ (h : length chains ≡ rows) where
-    pub bad-seqs : (length seqs ≡ rows → ⊥) → Broken LabelColumns ≡ ruling (label_rules rows (label_columns chains seqs))
+    pub bad-seqs : (length seqs ≡ rows → ⊥) → Err LabelColumns ≡ ruling (label_rules rows (label_columns chains seqs))
     unfolding label_rules first_of
     bad-seqs k = rw (eq-eqb (length chains) rows h, ne_eqb (length seqs) rows k)
 
     module _ (k : length seqs ≡ rows) (b : Bool) (e : b ≡ all short32 chains) where
-      pub long-chain : not b ≡ true → Broken LabelRange ≡ ruling (label_rules rows (label_columns chains seqs))
+      pub long-chain : not b ≡ true → Err LabelRange ≡ ruling (label_rules rows (label_columns chains seqs))
       unfolding label_rules first_of
       long-chain f = rw (eq-eqb (length chains) rows h, eq-eqb (length seqs) rows k, sym e ∙ not-true b f)
 
       module _ (f : not b ≡ false) (c : Bool) (g : c ≡ all short32 seqs) where
-        pub long-seq : not c ≡ true → Broken LabelRange ≡ ruling (label_rules rows (label_columns chains seqs))
+        pub long-seq : not c ≡ true → Err LabelRange ≡ ruling (label_rules rows (label_columns chains seqs))
         unfolding label_rules first_of
         long-seq q = rw (eq-eqb (length chains) rows h, eq-eqb (length seqs) rows k, sym e ∙ not-false b f, sym g ∙ not-true c q)
 
-        pub labels_kept : not c ≡ false → Kept ≡ ruling (label_rules rows (label_columns chains seqs))
+        pub labels_kept : not c ≡ false → (Ok tt) ≡ ruling (label_rules rows (label_columns chains seqs))
         unfolding label_rules first_of
         labels_kept q = rw (eq-eqb (length chains) rows h, eq-eqb (length seqs) rows k, sym e ∙ not-false b f, sym g ∙ not-false c q)
 

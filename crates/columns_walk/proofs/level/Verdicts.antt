@@ -1,4 +1,5 @@
 -- The verdict of a step from the verdict of the reading, and the limits of the two lists.
+use Rattle.std.specs.Prelude.{Err, Ok, Result}
 use mathlib.Core.Path.{◌≡◌, sym, ◌∙◌, ap}
 use mathlib.Core.Bool.{Bool, true, false, ◌||◌, or-true, or-false}
 use mathlib.Core.Logic.{inl, inr}
@@ -21,8 +22,6 @@ use Rattle.columns.specs.Walk.{level}
 use Rattle.columns.specs.Answers.{room, limits_of, lent_rules, in_one, counted_of, written_in, written_over}
 use Rattle.columns.specs.declared.refusal.Refusal.{Refusal}
 use Rattle.columns.specs.declared.refusal.Refusal.TheVariants.{SliceShort, OverRecords, OverNumbers}
-use Rattle.columns.specs.declared.refusal.Counted.{Counted}
-use Rattle.columns.specs.declared.refusal.Counted.TheVariants as counted
 use Rattle.columns_levels.specs.frontier.Frontier.{parents_in}
 use Rattle.columns_levels.proofs.targets.Verdicts.{was_read, was-refused, whole, parents-are, parents-fun}
 use Rattle.columns_walk.specs.level.Step.{next}
@@ -45,20 +44,20 @@ module _ (K first rows end : ℕ) (s : EdgeSet) (kind limit : ℕ) (visited fron
   unfolding next lent_rules limits
   as_read = rw (no_longer, same-short n a m)
 
-  module _ (r : Counted) (e : r ≡ counted_of (in_one (decode_set K 0 first rows end s (room n)))) where
-    next-is-refused : (why : Refusal) → r ≡ counted.Refused why → next K first rows end s kind limit visited frontier (room a) ≡ refused why
+  module _ (r : Result ℕ Refusal) (e : r ≡ counted_of (in_one (decode_set K 0 first rows end s (room n)))) where
+    next-is-refused : (why : Refusal) → r ≡ Err why → next K first rows end s kind limit visited frontier (room a) ≡ refused why
     unfolding unless
     next-is-refused why f = as_read ∙ rw (was-refused K n first rows end s r e why f)
 
-    pub next-refused : (why : Refusal) → r ≡ counted.Refused why → counted.Refused why ≡ counted_of (next K first rows end s kind limit visited frontier (room a))
+    pub next-refused : (why : Refusal) → r ≡ Err why → Err why ≡ counted_of (next K first rows end s kind limit visited frontier (room a))
     unfolding counted_of
     next-refused why f = rw (next-is-refused why f)
 
-    pub next-kept : (why : Refusal) → r ≡ counted.Refused why → (out : List ℕ) → out ≡ written_over out (next K first rows end s kind limit visited frontier (room a))
+    pub next-kept : (why : Refusal) → r ≡ Err why → (out : List ℕ) → out ≡ written_over out (next K first rows end s kind limit visited frontier (room a))
     unfolding written_over
     next-kept why f out = rw (next-is-refused why f)
 
-    module _ (k : ℕ) (f : r ≡ counted.Entries k) where
+    module _ (k : ℕ) (f : r ≡ Ok k) where
       all-kept : lent_rules K 0 first rows end s (room n) ≡ none
       all-kept = was_read K n first rows end s r e k f
 
@@ -76,7 +75,7 @@ module _ (K first rows end : ℕ) (s : EdgeSet) (kind limit : ℕ) (visited fron
         accepted-next = as_read ∙ rw (all-kept, same-level)
 
         pub next-counted : (c : ℕ) → c ≡ length (level (parents_in U first slot s.offsets t) limit visited frontier)
-            → counted.Entries c ≡ counted_of (next K first rows end s kind limit visited frontier (room a))
+            → Ok c ≡ counted_of (next K first rows end s kind limit visited frontier (room a))
         unfolding counted_of
         next-counted c q = rw (accepted-next, q)
 
@@ -114,7 +113,7 @@ module _ (K first rows end : ℕ) (s : EdgeSet) (kind limit : ℕ) (visited fron
       go true q = let z : why ≡ OverRecords = cc in rw z
       go false q = let z : why ≡ OverNumbers = cc in rw z
 
-  pub long-refused : counted.Refused why ≡ counted_of (next K first rows end s kind limit visited frontier (room a))
+  pub long-refused : Err why ≡ counted_of (next K first rows end s kind limit visited frontier (room a))
   unfolding counted_of
   long-refused = rw long-verdict
 

@@ -1,25 +1,25 @@
+use Rattle.columns.proofs.Handed.{handed-on}
 use Rattle.columns_walk.proofs.Verdicts.{walk_refused, walk-out, walk_ends, room_out, room-ends, walk-handed, walk-numbers, walk-stops}
-use Rattle.columns_levels.proofs.targets.Verdicts.{kind-below}
 use borrow.Author.Rules.{rules}
 use Rattle.columns_walk.proofs.walk.Goals as goal
 
 pub hand-requires : goal.hand-requires
-hand-requires c = (search kind-below, (search room_out, (search room-ends, search rules)))
+hand-requires c = (search (room_out, c.in_ok-read.was), (search (room-ends, c.in_ok-read.was), search rules))
 
-pub returns-in-Refused-clause-value : goal.returns-in-Refused-clause-value
-returns-in-Refused-clause-value c = search walk_refused
+pub returns-in_err-read-clause-value : goal.returns-in_err-read-clause-value
+returns-in_err-read-clause-value c = handed-on _ c.from_residual.ensures (search (walk_refused, c.in_err-read.was))
 
-pub returns-in-Refused-clause-out_after : goal.returns-in-Refused-clause-out_after
-returns-in-Refused-clause-out_after c = search walk-out
+pub returns-in_err-read-clause-out_after : goal.returns-in_err-read-clause-out_after
+returns-in_err-read-clause-out_after c = search (walk-out, c.in_err-read.was)
 
-pub returns-in-Refused-clause-ends_after : goal.returns-in-Refused-clause-ends_after
-returns-in-Refused-clause-ends_after c = search walk_ends
+pub returns-in_err-read-clause-ends_after : goal.returns-in_err-read-clause-ends_after
+returns-in_err-read-clause-ends_after c = search (walk_ends, c.in_err-read.was)
 
-pub returns-in-Entries-clause-value : goal.returns-in-Entries-clause-value
-returns-in-Entries-clause-value c = search walk-handed
+pub returns-clause-value : goal.returns-clause-value
+returns-clause-value c = search (walk-handed, c.in_ok-read.was)
 
-pub returns-in-Entries-clause-out_after : goal.returns-in-Entries-clause-out_after
-returns-in-Entries-clause-out_after c = search walk-numbers
+pub returns-clause-out_after : goal.returns-clause-out_after
+returns-clause-out_after c = search (walk-numbers, c.in_ok-read.was)
 
-pub returns-in-Entries-clause-ends_after : goal.returns-in-Entries-clause-ends_after
-returns-in-Entries-clause-ends_after c = search walk-stops
+pub returns-clause-ends_after : goal.returns-clause-ends_after
+returns-clause-ends_after c = search (walk-stops, c.in_ok-read.was)

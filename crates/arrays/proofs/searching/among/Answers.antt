@@ -1,12 +1,8 @@
-use Rattle.std.proofs.Common.{rules}
-use Rattle.arrays.proofs.searching.Looking.{not-among, found_among, among-on}
+use Rattle.arrays.proofs.searching.Looking.{in-part, in-none}
 use Rattle.arrays.proofs.searching.among.Goals as goal
 
-pub returns-then-list-i : goal.returns-then-list-i
-returns-then-list-i c = search (rules, found_among)
+pub returns-then-from-to : goal.returns-then-from-to
+returns-then-from-to c = in-part _ _ _ _ c.contains.ensures.value c.if-from-to.true c.requires
 
-pub loop-i-preserved : goal.loop-i-preserved
-loop-i-preserved c = search (rules, among-on)
-
-pub returns : goal.returns
-returns c = search (rules, not-among)
+pub returns-else-from-to : goal.returns-else-from-to
+returns-else-from-to c = search in-none

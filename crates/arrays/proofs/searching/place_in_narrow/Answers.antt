@@ -1,15 +1,10 @@
-use Rattle.std.proofs.Common.{rules}
-use Rattle.arrays.proofs.searching.Halving.{place-le, go_right, go_left, meet-there}
+use Rattle.std.proofs.Common.{rules, ltb}
+use Rattle.std.proofs.lemmas.List.Sorted.{IsPartitionPoint-from_clause, IsPartitionedBy-ltb}
+use Rattle.arrays.proofs.searching.Halving.{never-falls, at-place}
 use Rattle.arrays.proofs.searching.place_in_narrow.Goals as goal
 
-pub loop-low-init : goal.loop-low-init
-loop-low-init c = (search rules, search rules, search rules, search place-le)
-
-pub loop-low-preserved-then-y-x : goal.loop-low-preserved-then-y-x
-loop-low-preserved-then-y-x c = (search rules, search rules, search go_right, search rules)
-
-pub loop-low-preserved : goal.loop-low-preserved
-loop-low-preserved c = (search rules, search rules, search rules, search go_left)
-
 pub returns : goal.returns
-returns c = (search rules, search meet-there)
+returns c =
+    let told = c.partition_point.ensures in
+    let parts = IsPartitionPoint-from_clause (λ y. ltb y c.args.x) _ _ told.partitioned (IsPartitionedBy-ltb (λ y. y) _ c.args.x (never-falls _ c.requires)) (λ a r f g. search rules) in
+    (told.bound, at-place _ _ _ told.bound parts)

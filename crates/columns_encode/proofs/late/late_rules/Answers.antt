@@ -1,21 +1,23 @@
+use mathlib.Core.Path.{refl, sym, ◌∙◌}
+use Rattle.columns.proofs.Handed.{handed-on}
 use Rattle.columns_encode.proofs.Later.{late-stops, late-then, late-edges, never-kept}
 use borrow.Author.Rules.{rules}
 use Rattle.columns_encode.proofs.late.late_rules.Goals as goal
 
 pub arranged_rules-requires-clause-edges : goal.arranged_rules-requires-clause-edges
-arranged_rules-requires-clause-edges c = let rules = c.inbound_rules-r.ensures in let kept = c.in-Kept.is in late-edges _ _ _ _ _ rules kept
+arranged_rules-requires-clause-edges c = search (late-edges, c.in_ok-inbound_rules.was)
 
 pub arranged_rules-requires-clause-in_bounds : goal.arranged_rules-requires-clause-in_bounds
-arranged_rules-requires-clause-in_bounds c = let rules = c.inbound_rules-r.ensures in (search rules, search rules)
+arranged_rules-requires-clause-in_bounds c = (search rules, search rules)
 
-pub returns-in-Broken-clause-value : goal.returns-in-Broken-clause-value
-returns-in-Broken-clause-value c = search late-stops
+pub returns-in_err-inbound_rules-clause-value : goal.returns-in_err-inbound_rules-clause-value
+returns-in_err-inbound_rules-clause-value c = handed-on _ c.from_residual.ensures (search (late-stops, c.in_err-inbound_rules.was))
 
-pub returns-in-Broken-clause-arranged : goal.returns-in-Broken-clause-arranged
-returns-in-Broken-clause-arranged c = λ z. never-kept z
+pub returns-in_err-inbound_rules-clause-arranged : goal.returns-in_err-inbound_rules-clause-arranged
+returns-in_err-inbound_rules-clause-arranged c = λ z. never-kept (sym (handed-on _ c.from_residual.ensures refl) ∙ z)
 
-pub returns-in-Kept-clause-value : goal.returns-in-Kept-clause-value
-returns-in-Kept-clause-value c = search late-then
+pub returns-clause-value : goal.returns-clause-value
+returns-clause-value c = search (late-then, c.in_ok-inbound_rules.was)
 
-pub returns-in-Kept-clause-arranged : goal.returns-in-Kept-clause-arranged
-returns-in-Kept-clause-arranged c = λ z. search rules
+pub returns-clause-arranged : goal.returns-clause-arranged
+returns-clause-arranged c = λ z. search rules

@@ -11,7 +11,7 @@ pub gather-e-requires-clause-n_in_bounds : goal.gather-e-requires-clause-n_in_bo
 gather-e-requires-clause-n_in_bounds c = (search keys-room, search keys-work)
 
 pub returns-clause-end_le_n : goal.returns-clause-end_le_n
-returns-clause-end_le_n c = let k = c.collect-r.ensures.keys in (end_below _ _ _ _ _ _ _ k c.requires.lo_le_m.1.0 c.gather-e.ensures.upper_bound.0, c.gather-e.ensures.upper_bound.1)
+returns-clause-end_le_n c = let k = c.collect-r.ensures.keys in (end_below _ _ _ _ _ _ _ k c.requires.lo_le_m.1 c.gather-e.ensures.upper_bound.0, c.gather-e.ensures.upper_bound.1)
 
 pub returns-clause-laid : goal.returns-clause-laid
 returns-clause-laid c =

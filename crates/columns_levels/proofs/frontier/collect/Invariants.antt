@@ -1,6 +1,5 @@
 -- The invariant: the keys so far, and the parents of the rest still to put in.
 use mathlib.Core.Path.{◌≡◌}
-use Prim.Native.Nat.{◌-◌}
 use lib.ListN.{length, take}
 use lib.Seq.{slice}
 use Rattle.columns_levels.specs.frontier.Frontier.{parents_in}
@@ -12,8 +11,5 @@ abbrev pub invariant-loop-i : goal.invariant-loop-i
 invariant-loop-i l =
     (length l.keys ≡ length l.initial.keys) × (length l.links ≡ length l.initial.links)
     × (length l.heads ≡ length l.initial.heads) × Table l.keys l.links l.heads l.m
-    × (adds_cap (length l.initial.keys) (take l.n l.initial.keys) (flat (parents_in l.width l.first l.kind l.offsets l.targets) (slice l.lo l.hi l.list))
-    ≡ adds_cap (length l.initial.keys) (take l.m l.keys) (flat (parents_in l.width l.first l.kind l.offsets l.targets) (slice l.i l.hi l.list)))
-
-abbrev pub decreases-loop-i : goal.decreases-loop-i
-decreases-loop-i l = l.hi - l.i
+    × (adds_cap (length l.initial.keys) (take l.n l.initial.keys) (flat (parents_in l.p.width l.p.first l.p.kind l.p.offsets.now l.p.targets.now) (slice l.lo l.hi l.list))
+    ≡ adds_cap (length l.initial.keys) (take l.m l.keys) (flat (parents_in l.p.width l.p.first l.p.kind l.p.offsets.now l.p.targets.now) (slice l.i l.hi l.list)))

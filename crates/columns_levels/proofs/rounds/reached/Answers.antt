@@ -5,6 +5,3 @@ use Rattle.columns_levels.proofs.rounds.reached.Goals as goal
 
 pub reach-requires-clause-table : goal.reach-requires-clause-table
 reach-requires-clause-table c = none-at _ 4097 2053 (search rules) (omega arith)
-
-pub reach-requires-clause-of_kinds : goal.reach-requires-clause-of_kinds
-reach-requires-clause-of_kinds c = (search rules, search rules)

@@ -1,3 +1,4 @@
+use mathlib.Core.Path.{refl}
 use native.Mathlib.Omega.{arith}
 use Rattle.columns_levels.proofs.rounds.Levels.{going-first, run-stop, run-turn, ends-past, ends-room, end-left, end_more, end-above, end-from, laid_more, laid-left}
 use borrow.Author.Rules.{rules}
@@ -23,13 +24,7 @@ loop-lo-init c = (
 )
 
 pub advance-s-requires-clause-lo_le_m : goal.advance-s-requires-clause-lo_le_m
-advance-s-requires-clause-lo_le_m c = (
-  search rules,
-  (
-    c.loop-lo.invariant.3,
-    c.requires.of_kinds.0,
-  ),
-)
+advance-s-requires-clause-lo_le_m c = (search rules, c.loop-lo.invariant.3)
 
 pub advance-s-requires-clause-keys_in_bounds : goal.advance-s-requires-clause-keys_in_bounds
 advance-s-requires-clause-keys_in_bounds c = (search rules, search rules)
@@ -44,8 +39,8 @@ pub returns-then-e-m : goal.returns-then-e-m
 returns-then-e-m c = run-stop _ _ _ _ c.loop-lo.lo _ _ _ _ _ _ c.loop-lo.invariant.14 c.advance-s.ensures.laid c.if-e-m.true
     c.loop-lo.invariant.2 _ _ _ _ _ _ _ c.loop-lo.invariant.11 c.loop-lo.invariant.3 c.loop-lo.invariant.7 c.loop-lo.invariant.6 c.requires.keys_in_bounds.1.1 c.loop-lo.invariant.13
 
-pub overflow_sub-e : goal.overflow_sub-e
-overflow_sub-e c = search (rules, end-from)
+pub overflow_sub-ends : goal.overflow_sub-ends
+overflow_sub-ends c = search (rules, end-from)
 
 pub bounds-ends-k : goal.bounds-ends-k
 bounds-ends-k c =
@@ -80,9 +75,9 @@ loop-lo-preserved c = (
   search rules,
   c.advance-s.ensures.table_2,
   c.advance-s.ensures.seen_2,
-  ends-past c.loop-lo.k c.wide.result c.loop-lo.ends c.args.ends.now c.loop-lo.invariant.13,
+  ends-past c.loop-lo.k _ c.loop-lo.ends c.args.ends.now c.loop-lo.invariant.13,
   run-turn _ _ _ _ c.loop-lo.lo _ _ _ _ _ _ c.loop-lo.invariant.14 c.advance-s.ensures.laid c.if-e-m.false c.advance-s.ensures.end_le_n.1
-      c.loop-lo.invariant.4 c.loop-lo.invariant.2 _ c.wide.ensures _ _ _ _ _ _ c.advance-s.ensures.table_2 c.advance-s.ensures.end_le_n.0
+      c.loop-lo.invariant.4 c.loop-lo.invariant.2 _ refl _ _ _ _ _ _ c.advance-s.ensures.table_2 c.advance-s.ensures.end_le_n.0
       (search rules) c.loop-lo.invariant.6 c.requires.keys_in_bounds.1.1,
 )
 

@@ -14,9 +14,10 @@ invariant-loop-lo l =
     (l.lo < l.m) × (1 ≤ l.m)
     × (l.k + 1 ≤ l.m) × (l.m ≤ l.n) × (l.left + l.m ≡ l.limit + 1) × (length l.buf ≡ length l.initial.buf) × (length l.ends ≡ length l.initial.ends) × (length l.keys ≡ length l.initial.keys)
     × (length l.links ≡ length l.initial.links) × (length l.heads ≡ length l.initial.heads) × (length l.w ≡ length l.initial.w)
-    × Table l.keys l.links l.heads l.n × Seen l.left l.n (take l.m l.buf) l.keys l.targets
-    × (drop l.k l.ends ≡ drop l.k l.initial.ends) × Going (levels_from (parents_in l.width l.first l.kind l.offsets l.targets) l.limit l.limit (take 1 l.initial.buf) (take 1 l.initial.buf))
-    (levels_from (parents_in l.width l.first l.kind l.offsets l.targets) (l.limit - l.k) l.left (take l.m l.buf) (slice l.lo l.m l.buf)) l.buf l.ends l.m l.k
+    × Table l.keys l.links l.heads l.n × Seen l.left l.n (take l.m l.buf) l.keys l.p.targets.now
+    × (drop l.k l.ends ≡ drop l.k l.initial.ends)
+    × Going (levels_from (parents_in l.p.width l.p.first l.p.kind l.p.offsets.now l.p.targets.now) l.limit l.limit (take 1 l.initial.buf) (take 1 l.initial.buf))
+    (levels_from (parents_in l.p.width l.p.first l.p.kind l.p.offsets.now l.p.targets.now) (l.limit - l.k) l.left (take l.m l.buf) (slice l.lo l.m l.buf)) l.buf l.ends l.m l.k
 
 abbrev pub decreases-loop-lo : goal.decreases-loop-lo
 decreases-loop-lo l = l.limit + 1 - l.lo

@@ -1,14 +1,10 @@
 use native.Mathlib.Omega.{arith}
 use Rattle.arrays.proofs.table.Chains.{none-zeros}
 use Rattle.columns_levels.proofs.rounds.Closed.{shared-found}
-use borrow.Author.Rules.{rules}
 use Rattle.columns_levels.proofs.rounds.shared.Goals as goal
 
 pub reach-n-requires-clause-table : goal.reach-n-requires-clause-table
 reach-n-requires-clause-table c = none-zeros 4097 2053 (omega arith)
-
-pub reach-n-requires-clause-of_kinds : goal.reach-n-requires-clause-of_kinds
-reach-n-requires-clause-of_kinds c = (search rules, search rules)
 
 pub returns : goal.returns
 returns c = search shared-found

@@ -10,7 +10,8 @@ use Rattle.columns_levels.proofs.rounds.spread.Given as goal
 abbrev pub invariant-loop-i : goal.invariant-loop-i
 invariant-loop-i l =
     (length l.keys ≡ length l.initial.keys) × (length l.links ≡ length l.initial.links)
-    × (length l.heads ≡ length l.initial.heads) × Table l.keys l.links l.heads l.n × Grown (parents_in l.width l.first l.kind l.offsets l.targets) l.a l.targets (take l.n l.keys) l.i
+    × (length l.heads ≡ length l.initial.heads) × Table l.keys l.links l.heads l.n
+    × Grown (parents_in l.p.width l.p.first l.p.kind l.p.offsets.now l.p.targets.now) l.a l.p.targets.now (take l.n l.keys) l.i
 
 abbrev pub decreases-loop-i : goal.decreases-loop-i
 decreases-loop-i l = length l.initial.keys - l.i

@@ -8,10 +8,8 @@ use Rattle.columns_refs.proofs.parents.write_lists.Given as goal
 
 abbrev pub invariant-loop-q : goal.invariant-loop-q
 invariant-loop-q l =
-    (l.q ≤ 2 * l.rows) × Storing l.initial.offsets 0 (Lists.starts 0 (parent_lists (cut l.starts (references_of l.kinds l.spaces l.targets l.known l.numbers)))) l.offsets l.q
-    (Lists.starts l.p (drop l.q (parent_lists (cut l.starts (references_of l.kinds l.spaces l.targets l.known l.numbers)))))
-    × Storing l.initial.out 0 (Lists.joined (parent_lists (cut l.starts (references_of l.kinds l.spaces l.targets l.known l.numbers)))) l.out l.p
-    (Lists.joined (drop l.q (parent_lists (cut l.starts (references_of l.kinds l.spaces l.targets l.known l.numbers)))))
-
-abbrev pub decreases-loop-q : goal.decreases-loop-q
-decreases-loop-q l = 2 * l.rows - l.q
+    (l.q ≤ 2 * l.rows)
+    × Storing l.initial.offsets 0 (Lists.starts 0 (parent_lists (cut l.starts (references_of l.lent.kinds.now l.lent.spaces.now l.lent.targets.now l.lent.known.now l.lent.numbers.now)))) l.offsets l.q
+    (Lists.starts l.p (drop l.q (parent_lists (cut l.starts (references_of l.lent.kinds.now l.lent.spaces.now l.lent.targets.now l.lent.known.now l.lent.numbers.now)))))
+    × Storing l.initial.out 0 (Lists.joined (parent_lists (cut l.starts (references_of l.lent.kinds.now l.lent.spaces.now l.lent.targets.now l.lent.known.now l.lent.numbers.now)))) l.out l.p
+    (Lists.joined (drop l.q (parent_lists (cut l.starts (references_of l.lent.kinds.now l.lent.spaces.now l.lent.targets.now l.lent.known.now l.lent.numbers.now)))))

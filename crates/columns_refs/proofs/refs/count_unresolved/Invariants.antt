@@ -1,4 +1,4 @@
-use Prim.Native.Nat.{◌+◌, ◌-◌, ◌≤◌}
+use Prim.Native.Nat.{◌+◌, ◌≤◌}
 use mathlib.Core.Path.{◌≡◌}
 use lib.ListN.{length, drop}
 use Rattle.lists.specs.Lists.{filter}
@@ -8,8 +8,5 @@ use Rattle.columns_refs.proofs.refs.count_unresolved.Given as goal
 abbrev pub invariant-loop-i : goal.invariant-loop-i
 invariant-loop-i l =
     (l.i ≤ l.n) × (l.count ≤ l.i)
-    × (length (filter is_unresolved (references_of l.kinds l.spaces l.targets l.known l.numbers))
-    ≡ l.count + length (filter is_unresolved (drop l.i (references_of l.kinds l.spaces l.targets l.known l.numbers))))
-
-abbrev pub decreases-loop-i : goal.decreases-loop-i
-decreases-loop-i l = l.n - l.i
+    × (length (filter is_unresolved (references_of l.lent.kinds.now l.lent.spaces.now l.lent.targets.now l.lent.known.now l.lent.numbers.now))
+    ≡ l.count + length (filter is_unresolved (drop l.i (references_of l.lent.kinds.now l.lent.spaces.now l.lent.targets.now l.lent.known.now l.lent.numbers.now))))

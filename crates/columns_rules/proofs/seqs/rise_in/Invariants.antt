@@ -2,7 +2,6 @@
 -- decides.
 use mathlib.Core.Path.{◌≡◌}
 use mathlib.Core.List.{[]}
-use Prim.Native.Nat.{◌-◌}
 use lib.ListN.{length, drop}
 use Rattle.columns.specs.Reading.{labels_of}
 use Rattle.columns.specs.Building.{seqs_rise}
@@ -13,6 +12,3 @@ abbrev pub invariant-loop-n : goal.invariant-loop-n
 invariant-loop-n l =
     (length l.keys ≡ length l.initial.keys) × (length l.links ≡ length l.initial.links) × (length l.heads ≡ length l.initial.heads) × Held l.chains l.keys l.links l.heads l.n
     × (seqs_rise [] (labels_of l.chains l.seqs) ≡ seqs_rise (earlier_labels l.chains l.seqs l.n) (labels_of (drop l.n l.chains) (drop l.n l.seqs)))
-
-abbrev pub decreases-loop-n : goal.decreases-loop-n
-decreases-loop-n l = length l.chains - l.n

@@ -1,5 +1,5 @@
 use mathlib.Core.Path.{◌≡◌}
-use Prim.Native.Nat.{◌≤◌, ◌-◌, ◌*◌}
+use Prim.Native.Nat.{◌≤◌, ◌*◌}
 use lib.ListN.{drop}
 use Rattle.columns.specs.Limits.{kinds}
 use Rattle.columns.specs.EdgeSet.{cut}
@@ -10,6 +10,3 @@ use Rattle.columns_rules.proofs.slots.slot_rules.Given as goal
 abbrev pub invariant-loop-s : goal.invariant-loop-s
 invariant-loop-s l =
     (l.s ≤ 2 * l.rows) × (ruling (slot_rules kinds l.first 0 (cut l.offsets l.targets)) ≡ ruling (slot_rules kinds l.first l.s (drop l.s (cut l.offsets l.targets))))
-
-abbrev pub decreases-loop-s : goal.decreases-loop-s
-decreases-loop-s l = 2 * l.rows - l.s

@@ -1,7 +1,7 @@
 use mathlib.Core.Path.{◌≡◌}
 use mathlib.Core.Bool.{true}
 use mathlib.Core.List.{[]}
-use Prim.Native.Nat.{◌-◌, ◌≤◌}
+use Prim.Native.Nat.{◌≤◌}
 use lib.ListN.{length, get_or}
 use lib.Seq.{slice}
 use Rattle.lists.specs.Lists.{all}
@@ -14,6 +14,3 @@ abbrev pub invariant-loop-j : goal.invariant-loop-j
 invariant-loop-j l =
     (l.b ≤ length l.targets) × (all fits63 (deltas_within l.low l.high l.event (slice l.j l.b l.targets)) ≡ true)
     × Storing l.initial.out l.at (deltas_within l.low l.high l.event (get_or (cut l.offsets l.targets) l.s [])) l.out l.p (deltas_within l.low l.high l.event (slice l.j l.b l.targets))
-
-abbrev pub decreases-loop-j : goal.decreases-loop-j
-decreases-loop-j l = l.b - l.j

@@ -12,6 +12,3 @@ abbrev pub invariant-loop-j : goal.invariant-loop-j
 invariant-loop-j l =
     (l.a ≤ l.j) × (l.j ≤ l.b) × (length l.out ≡ length l.initial.out) × (spans_fit l.event (slice l.j l.b l.targets) ≡ true)
     × (sets l.initial.out (l.a - l.base) (map (delta_of l.event) (slice l.a l.b l.targets)) ≡ sets l.out (l.j - l.base) (map (delta_of l.event) (slice l.j l.b l.targets)))
-
-abbrev pub decreases-loop-j : goal.decreases-loop-j
-decreases-loop-j l = l.b - l.j

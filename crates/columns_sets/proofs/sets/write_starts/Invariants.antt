@@ -1,9 +1,5 @@
-use Prim.Native.Nat.{◌+◌, ◌-◌, ◌*◌}
 use Rattle.columns_sets.proofs.sets.StartWrites.{Starting}
 use Rattle.columns_sets.proofs.sets.write_starts.Given as goal
 
 abbrev pub invariant-loop-s : goal.invariant-loop-s
 invariant-loop-s l = Starting l.rows l.from l.n l.offsets l.targets l.base l.s l.out l.initial.out
-
-abbrev pub decreases-loop-s : goal.decreases-loop-s
-decreases-loop-s l = 2 * l.n + 1 - l.s

@@ -1,11 +1,10 @@
-use Rattle.columns_slots.proofs.sets.Turns.{short-done, short-stop, short_on}
+use Rattle.std.proofs.Common.{◌∙◌, rules, tests}
+use Rattle.std.proofs.lemmas.Iterator.{YieldsList-from_slice}
+use Rattle.std.proofs.lemmas.Iterator.Search.{all_from_yields_List}
+use Rattle.columns.specs.Answers.{short32}
+use Rattle.columns_slots.proofs.sets.Listed.{all-listed}
 use Rattle.columns_slots.proofs.sets.all_short.Goals as goal
 
-pub returns-then-column-i-gt4294967295 : goal.returns-then-column-i-gt4294967295
-returns-then-column-i-gt4294967295 c = search short-stop
-
-pub loop-i-preserved : goal.loop-i-preserved
-loop-i-preserved c = search short_on
-
 pub returns : goal.returns
-returns c = search short-done
+returns c =
+    all_from_yields_List short32 _ _ _ c.all.ensures.ran (YieldsList-from_slice c.args.column.now cc) (λ x b q k. search (rules, tests)) ∙ all-listed short32 c.args.column.now

@@ -1,5 +1,5 @@
 use mathlib.Core.Path.{◌≡◌}
-use Prim.Native.Nat.{◌-◌, ◌*◌, ◌≤◌, ◌<◌}
+use Prim.Native.Nat.{◌*◌, ◌≤◌, ◌<◌}
 use lib.ListN.{length, drop}
 use Rattle.columns.specs.EdgeSet.{cut}
 use Rattle.columns.specs.Reading.{sound_from}
@@ -7,8 +7,5 @@ use Rattle.columns_slots.proofs.sets.are_sound.Given as goal
 
 abbrev pub invariant-loop-row : goal.invariant-loop-row
 invariant-loop-row l =
-    (l.row ≤ l.rows) × (l.slot ≡ l.width * l.row) × (l.slot < length l.offsets)
-    × (sound_from l.width l.set l.first l.end 0 (cut l.offsets l.deltas) ≡ sound_from l.width l.set l.first l.end l.slot (drop l.slot (cut l.offsets l.deltas)))
-
-abbrev pub decreases-loop-row : goal.decreases-loop-row
-decreases-loop-row l = l.rows - l.row
+    (l.row ≤ l.rows) × (l.slot ≡ l.width * l.row) × (l.slot < length l.s.offsets.now)
+    × (sound_from l.width l.set l.first l.end 0 (cut l.s.offsets.now l.s.deltas.now) ≡ sound_from l.width l.set l.first l.end l.slot (drop l.slot (cut l.s.offsets.now l.s.deltas.now)))

@@ -9,6 +9,3 @@ abbrev pub invariant-loop-i : goal.invariant-loop-i
 invariant-loop-i l =
     (l.i ≤ l.n) × (ruling (inbound_from l.first (l.first + l.rows) l.children l.parents l.kinds 0 (record_count l.children l.parents l.kinds))
     ≡ ruling (inbound_from l.first (l.first + l.rows) l.children l.parents l.kinds l.i (l.n - l.i)))
-
-abbrev pub decreases-loop-i : goal.decreases-loop-i
-decreases-loop-i l = l.n - l.i

@@ -9,6 +9,3 @@ abbrev pub invariant-loop-i : goal.invariant-loop-i
 invariant-loop-i l =
     (l.i ≤ l.n) × (ruling (unresolved_from l.first (l.first + l.rows) l.children l.kinds l.flags 0 (record_count l.children l.kinds l.flags))
     ≡ ruling (unresolved_from l.first (l.first + l.rows) l.children l.kinds l.flags l.i (l.n - l.i)))
-
-abbrev pub decreases-loop-i : goal.decreases-loop-i
-decreases-loop-i l = l.n - l.i

@@ -1,5 +1,5 @@
 use mathlib.Core.Path.{◌≡◌}
-use Prim.Native.Nat.{◌≤◌, ◌+◌, ◌-◌, ◌*◌}
+use Prim.Native.Nat.{◌≤◌, ◌+◌, ◌*◌}
 use lib.ListN.{drop}
 use Rattle.columns.specs.Limits.{kinds}
 use Rattle.lists.specs.Lists.{part}
@@ -12,6 +12,3 @@ abbrev pub invariant-loop-q : goal.invariant-loop-q
 invariant-loop-q l =
     (l.q ≤ 2 * l.n) × (deltas_fit kinds (l.first + l.from) (part (2 * l.from) (2 * l.n) (cut l.offsets l.targets))
     ≡ slots_fit (l.first + l.from) l.q (drop l.q (part (2 * l.from) (2 * l.n) (cut l.offsets l.targets))))
-
-abbrev pub decreases-loop-q : goal.decreases-loop-q
-decreases-loop-q l = 2 * l.n - l.q
