@@ -1,5 +1,5 @@
 -- The cover over lent columns: ranges come as three columns and links as four, and each verdict is an answer and the columns that it writes.
-use Rattle.std.specs.Prelude.{Bool, ◌&&◌, not, List, [], ◌∷◌, ◌++◌, map, ℕ, eqb, length, drop}
+use Rattle.std.specs.Prelude.{Bool, ◌&&◌, not, List, [], ◌∷◌, ◌++◌, map, ℕ, eqb, length, drop, Err, Ok, Result}
 use Rattle.std.proofs.Math.Option.{Option}
 use Rattle.lists.specs.Lists.{any}
 use Rattle.columns.specs.Limits.{records_room}
@@ -9,9 +9,6 @@ use Rattle.columns.specs.declared.refusal.Refusal.TheVariants.{CoverForm}
 use Rattle.cover.specs.Chains.{Range, Link}
 use Rattle.cover.specs.Cover.{LinkColumns, Cover, ranges_ok, link_rules, stored_links}
 use Rattle.cover.specs.Questions.{meets}
-use Rattle.cover.specs.declared.answer.Answer.{Answer}
-use Rattle.cover.specs.declared.answer.Answer.TheVariants.{Refused, Done}
-use Rattle.cover.specs.declared.answer.Window as window
 
 -- ── lent columns ─────────────────────────────────────────────────────────────────────────────
 
@@ -81,14 +78,14 @@ read_lent r c lent =
 -- ── answers ──────────────────────────────────────────────────────────────────────────────────
 
 -- the window question's answer
-unfoldable pub window_answer : Verdict Bool → window.Window
-window_answer (refused r) = window.TheVariants.Refused r
-window_answer (accepted b) = window.TheVariants.Holds b
+unfoldable pub window_answer : Verdict Bool → Result Bool Refusal
+window_answer (refused r) = Err r
+window_answer (accepted b) = Ok b
 
 -- the answer of a call that writes records: how many
-unfoldable pub counted : {A B : Type 0} → (A → List B) → Verdict A → Answer
-counted records (refused r) = Refused r
-counted records (accepted a) = Done (length (records a))
+unfoldable pub counted : {A B : Type 0} → (A → List B) → Verdict A → Result ℕ Refusal
+counted records (refused r) = Err r
+counted records (accepted a) = Ok (length (records a))
 
 -- ── what is written ──────────────────────────────────────────────────────────────────────────
 

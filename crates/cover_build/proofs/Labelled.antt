@@ -1,22 +1,15 @@
 -- As many labels as the shorter column has, and the labels of the columns cut to that number.
-use Rattle.std.proofs.Common.{◌≡◌, ℕ, suc, ◌<◌, ◌≤◌, List, [], ◌∷◌, length, take, sym, refl, ap, ◌∙◌, arith, length-take-le}
+use Rattle.std.proofs.Common.{◌≡◌, ℕ, ◌≤◌, min, List, [], ◌∷◌, length, take, sym, refl, ap, ◌∙◌, arith, length-take-le}
 use Rattle.columns.specs.Reading.{Label, labels_of}
 use Rattle.cover.specs.Chains.{ranges_of}
 use Rattle.cover.specs.Answers.{RangeColumns}
 use Rattle.cover_sort.specs.labels.Runs.{ranges_over}
 
-pub chains-few : (cs ss : List ℕ) → length cs < length ss → length cs ≡ length (labels_of cs ss)
+pub labels-min : (cs ss : List ℕ) → min (length cs) (length ss) ≡ length (labels_of cs ss)
 unfolding labels_of
-chains-few [] ss h = refl
-chains-few (c ∷ cs) [] h = absurd (omega arith)
-chains-few (c ∷ cs) (s ∷ ss) h = ap suc (chains-few cs ss (omega arith))
-
-pub seqs-few : (cs ss : List ℕ) → length ss ≤ length cs → length ss ≡ length (labels_of cs ss)
-unfolding labels_of
-seqs-few [] [] h = refl
-seqs-few [] (s ∷ ss) h = absurd (omega arith)
-seqs-few (c ∷ cs) [] h = refl
-seqs-few (c ∷ cs) (s ∷ ss) h = ap suc (seqs-few cs ss (omega arith))
+labels-min [] ss = omega arith
+labels-min (c ∷ cs) [] = omega arith
+labels-min (c ∷ cs) (s ∷ ss) = omega (arith, labels-min cs ss)
 
 least : (cs ss : List ℕ) → (length (labels_of cs ss) ≤ length cs) × (length (labels_of cs ss) ≤ length ss)
 unfolding labels_of

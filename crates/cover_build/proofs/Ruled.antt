@@ -1,5 +1,5 @@
 -- The rules of building, return by return, and what holds where all are kept.
-use Rattle.std.proofs.Common.{◌≡◌, ℕ, ◌≤◌, Bool, true, false, not, ◌&&◌, eqb, ltb, List, [], ◌∷◌, length, sym, ◌∙◌, arith, eqb-true}
+use Rattle.std.proofs.Common.{◌≡◌, ℕ, ◌≤◌, Bool, true, false, not, ◌&&◌, eqb, ltb, List, [], ◌∷◌, length, sym, ◌∙◌, arith, eqb-true, Err, Ok, Result}
 use mathlib.Core.Option.{none}
 use borrow.Author.Tests.{not-true, not-false}
 use Rattle.lists.specs.Lists.{any}
@@ -7,8 +7,7 @@ use Rattle.lists.proofs.Tests.{both}
 use Rattle.columns.specs.Limits.{max_records}
 use Rattle.columns.specs.Refusal.{refuse, first_of, Lent, short, limits}
 use Rattle.columns.specs.Answers.{label_columns, ruling}
-use Rattle.columns.specs.declared.refusal.Ruling.{Ruling}
-use Rattle.columns.specs.declared.refusal.Ruling.TheVariants.{Kept, Broken}
+use Rattle.columns.specs.declared.refusal.Refusal.{Refusal}
 use Rattle.columns.specs.declared.refusal.Refusal.TheVariants.{OverRecords, SliceShort, CoverForm}
 use Rattle.columns.proofs.FirstBroken.{each_none, not-refused, passed}
 use Rattle.columns.proofs.Told.{told-kept}
@@ -25,12 +24,12 @@ module _ (chains seqs s b c d : List ℕ) (lent : List Lent) where
   -- ── return by return ───────────────────────────────────────────────────────────────────────
 
   module _ {t : Bool} (e : t ≡ any (ltb max_records) (length chains ∷ length seqs ∷ length s ∷ length b ∷ length c ∷ length d ∷ [])) where
-    pub over-told : t ≡ true → Broken OverRecords ≡ ruling (build_rules (label_columns chains seqs) (link_columns s b c d) lent)
+    pub over-told : t ≡ true → Err OverRecords ≡ ruling (build_rules (label_columns chains seqs) (link_columns s b c d) lent)
     unfolding build_rules first_of
     over-told h = rw (limits-records lengths [] lent (sym e ∙ h))
 
     module _ (h : t ≡ false) {u : Bool} (f : u ≡ any short lent) where
-      pub short-told : u ≡ true → Broken SliceShort ≡ ruling (build_rules (label_columns chains seqs) (link_columns s b c d) lent)
+      pub short-told : u ≡ true → Err SliceShort ≡ ruling (build_rules (label_columns chains seqs) (link_columns s b c d) lent)
       unfolding build_rules first_of
       short-told m = rw (limits-short lengths [] lent (sym e ∙ h) (any-nil _) (sym f ∙ m))
 
@@ -38,17 +37,17 @@ module _ (chains seqs s b c d : List ℕ) (lent : List Lent) where
         within : limits lengths [] lent ≡ none
         within = limits-none lengths [] lent (sym e ∙ h) (any-nil _) (sym f ∙ m)
 
-        pub uneven-told : not v ≡ true → Broken CoverForm ≡ ruling (build_rules (label_columns chains seqs) (link_columns s b c d) lent)
+        pub uneven-told : not v ≡ true → Err CoverForm ≡ ruling (build_rules (label_columns chains seqs) (link_columns s b c d) lent)
         unfolding build_rules first_of
         uneven-told p = rw (within, sym g ∙ not-true v p)
 
-        pub kept-told : not v ≡ false → Kept ≡ ruling (build_rules (label_columns chains seqs) (link_columns s b c d) lent)
+        pub kept-told : not v ≡ false → (Ok tt) ≡ ruling (build_rules (label_columns chains seqs) (link_columns s b c d) lent)
         unfolding build_rules first_of
         kept-told p = rw (within, sym g ∙ not-false v p)
 
   -- ── where all are kept ─────────────────────────────────────────────────────────────────────
 
-  module _ (k : Ruling) (e : k ≡ ruling (build_rules (label_columns chains seqs) (link_columns s b c d) lent)) (h : k ≡ Kept) where
+  module _ (k : Result (Unit {0}) Refusal) (e : k ≡ ruling (build_rules (label_columns chains seqs) (link_columns s b c d) lent)) (h : k ≡ Ok tt) where
     none-broken : (limits lengths [] lent ≡ none) × (refuse CoverForm (not (even_columns (link_columns s b c d))) ≡ none)
     unfolding build_rules
     none-broken = let o = each_none (limits lengths [] lent ∷ refuse CoverForm (not (even_columns (link_columns s b c d))) ∷ []) (told-kept _ e h) in (o.0, o.1.0)
@@ -75,8 +74,8 @@ module _ (chains seqs s b c d : List ℕ) (lent : List Lent) where
 
 -- ── the lent slices ──────────────────────────────────────────────────────────────────────────
 
-module _ (chains seqs s b c d : List ℕ) (i m x p q r o : ℕ) (k : Ruling)
-    (e : k ≡ ruling (build_rules (label_columns chains seqs) (link_columns s b c d) (for_records (i ∷ m ∷ x ∷ p ∷ q ∷ r ∷ o ∷ [])))) (h : k ≡ Kept) where
+module _ (chains seqs s b c d : List ℕ) (i m x p q r o : ℕ) (k : Result (Unit {0}) Refusal)
+    (e : k ≡ ruling (build_rules (label_columns chains seqs) (link_columns s b c d) (for_records (i ∷ m ∷ x ∷ p ∷ q ∷ r ∷ o ∷ [])))) (h : k ≡ Ok tt) where
   ranges-lent : (1024 ≤ i) × ((1024 ≤ m) × ((1024 ≤ x) × (any short (for_records (p ∷ q ∷ r ∷ o ∷ [])) ≡ false)))
   ranges-lent =
       let f = long-first i _ (no-limit chains seqs s b c d _ k e h).1 in

@@ -1,11 +1,9 @@
 -- Building's verdict by its rules: the answer and the columns, for each way out.
-use Rattle.std.proofs.Common.{◌≡◌, ℕ, List, length, refl, ap, ◌∙◌}
+use Rattle.std.proofs.Common.{◌≡◌, ℕ, List, length, refl, ap, ◌∙◌, Err, Ok, Result}
 use mathlib.Core.Option.{Option}
 use Rattle.columns.specs.Refusal.{Verdict, refused, accepted, unless, Lent}
 use Rattle.columns.specs.Reading.{labels_of}
 use Rattle.columns.specs.Answers.{label_columns, ruling}
-use Rattle.columns.specs.declared.refusal.Ruling.{Ruling}
-use Rattle.columns.specs.declared.refusal.Ruling.TheVariants.{Kept, Broken}
 use Rattle.columns.specs.declared.refusal.Refusal.{Refusal}
 use Rattle.columns.proofs.Told.{told-kept, told}
 use Rattle.cover.specs.Chains.{ranges_of, sort_links}
@@ -14,14 +12,13 @@ use Rattle.cover.specs.Answers.{RangeColumns, link_columns, links_over, links_af
 use Rattle.cover_rows.proofs.limits.Verdicts.{columns-kept, columns-written}
 use Rattle.cover_sort.specs.labels.Runs.{ranges_over}
 use Rattle.cover_build.specs.Built.{build_rules, built_of, ranges_after}
-use Rattle.cover_build.specs.declared.Built.TheVariants.{Refused, Done}
 
 module _ (v : Verdict Cover) where
-  answer-refused : {why : Refusal} → v ≡ refused why → Refused why ≡ built_of v
+  answer-refused : {why : Refusal} → v ≡ refused why → Err why ≡ built_of v
   unfolding built_of
   answer-refused e = rw e
 
-  answer-done : (c : Cover) (m n : ℕ) → v ≡ accepted c → m ≡ length c.ranges → n ≡ length c.links → Done m n ≡ built_of v
+  answer-done : (c : Cover) (m n : ℕ) → v ≡ accepted c → m ≡ length c.ranges → n ≡ length c.links → Ok (m, n) ≡ built_of v
   unfolding built_of
   answer-done c m n e f g = rw (e, f, g)
 
@@ -33,7 +30,7 @@ module _ (v : Verdict Cover) where
   unfolding ranges_after
   ranges-written c o o' e f = rw e f
 
-module _ (chains seqs s b c d : List ℕ) (lent : List Lent) (k : Ruling) (e : k ≡ ruling (build_rules (label_columns chains seqs) (link_columns s b c d) lent)) where
+module _ (chains seqs s b c d : List ℕ) (lent : List Lent) (k : Result (Unit {0}) Refusal) (e : k ≡ ruling (build_rules (label_columns chains seqs) (link_columns s b c d) lent)) where
   abbrev rules : Option Refusal
   rules = build_rules (label_columns chains seqs) (link_columns s b c d) lent
 
@@ -44,12 +41,12 @@ module _ (chains seqs s b c d : List ℕ) (lent : List Lent) (k : Ruling) (e : k
   unfolding build_cover build_rules
   by-rules = refl
 
-  module _ (why : Refusal) (h : k ≡ Broken why) where
+  module _ (why : Refusal) (h : k ≡ Err why) where
     refusing : build_cover (label_columns chains seqs) (link_columns s b c d) lent ≡ refused why
     unfolding unless
     refusing = by-rules ∙ ap (λ o. unless o cover) (told rules e h)
 
-    pub refused-told : Refused why ≡ built_of (build_cover (label_columns chains seqs) (link_columns s b c d) lent)
+    pub refused-told : Err why ≡ built_of (build_cover (label_columns chains seqs) (link_columns s b c d) lent)
     refused-told = answer-refused _ refusing
 
     pub refused-ranges : (o : RangeColumns) → o ≡ ranges_after (build_cover (label_columns chains seqs) (link_columns s b c d) lent) o
@@ -58,13 +55,13 @@ module _ (chains seqs s b c d : List ℕ) (lent : List Lent) (k : Ruling) (e : k
     pub refused-links : (o : LinkColumns) → o ≡ links_after (λ x. x.links) (build_cover (label_columns chains seqs) (link_columns s b c d) lent) o
     refused-links o = columns-kept _ _ why o refusing
 
-  module _ (h : k ≡ Kept) where
+  module _ (h : k ≡ Ok tt) where
     accepting : build_cover (label_columns chains seqs) (link_columns s b c d) lent ≡ accepted cover
     unfolding unless
     accepting = by-rules ∙ ap (λ o. unless o cover) (told-kept rules e h)
 
     pub built-told : (m n : ℕ) → m ≡ length (ranges_of (labels_of chains seqs)) → n ≡ length (sort_links (links_of s b c d))
-        → Done m n ≡ built_of (build_cover (label_columns chains seqs) (link_columns s b c d) lent)
+        → Ok (m, n) ≡ built_of (build_cover (label_columns chains seqs) (link_columns s b c d) lent)
     unfolding cover_of
     built-told m n f g = answer-done _ cover m n accepting f g
 

@@ -1,5 +1,5 @@
 -- What building answers and writes.
-use Rattle.std.specs.Prelude.{not, List, [], ◌∷◌, length}
+use Rattle.std.specs.Prelude.{ℕ, not, List, [], ◌∷◌, length, Err, Ok, Result}
 use Rattle.std.proofs.Math.Option.{Option}
 use Rattle.columns.specs.Refusal.{Verdict, refused, accepted, refuse, first_of, Lent, limits}
 use Rattle.columns.specs.Reading.{Labels}
@@ -8,8 +8,6 @@ use Rattle.columns.specs.declared.refusal.Refusal.TheVariants.{CoverForm}
 use Rattle.cover.specs.Cover.{LinkColumns, Cover, even_columns}
 use Rattle.cover.specs.Answers.{RangeColumns}
 use Rattle.cover_sort.specs.labels.Runs.{ranges_over}
-use Rattle.cover_build.specs.declared.Built.{Built}
-use Rattle.cover_build.specs.declared.Built.TheVariants.{Refused, Done}
 
 -- the rules of `buildCover` in order
 unfoldable pub build_rules : Labels → LinkColumns → List Lent → Option Refusal
@@ -18,9 +16,9 @@ build_rules l c lent =
     ∷ refuse CoverForm (not (even_columns c)) ∷ [])
 
 -- the answer: how many ranges and how many links
-unfoldable pub built_of : Verdict Cover → Built
-built_of (refused r) = Refused r
-built_of (accepted c) = Done (length c.ranges) (length c.links)
+unfoldable pub built_of : Verdict Cover → Result (ℕ × ℕ) Refusal
+built_of (refused r) = Err r
+built_of (accepted c) = Ok (length c.ranges, length c.links)
 
 -- range columns after a build: its ranges in front, or as they were
 unfoldable pub ranges_after : Verdict Cover → RangeColumns → RangeColumns

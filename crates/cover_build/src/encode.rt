@@ -3,14 +3,15 @@ ghost use Rattle.std.specs.Prelude.{◌≡◌, ◌≤◌, true, [], ◌∷◌, l
 ghost use Rattle.cover.specs.Cover.{wrapping_less, differences, even_columns, encode};
 ghost use Rattle.cover.specs.Answers.{link_columns, for_records, over, counted, columns_over, columns_after};
 
+use crate::are_even;
 use columns::refusal::Refusal;
-use cover::answer::Answer;
+use cover_rows::limits::{any_over, any_short};
 
 // The difference of two numbers of 32 bits, wrapping.
 fn wrapping_less(x: u32, before: u32) -> u32
     ensures { result ≡ wrapping_less x before }
 {
-    std::num::wrapping_sub_u32(x, before)
+    x.wrapping_sub(before)
 }
 
 // Writes each chain id less the one before it, the first less 0.
@@ -19,27 +20,11 @@ fn write_differences(chains: &[u32], out: &mut [u32])
     ensures { out.new ≡ over (differences 0 chains.now) out.old }
 {
     let mut before: u32 = 0;
-    let mut i = 0;
-    while i < chains.len() {
+    for i in 0..chains.len() {
         let x = chains[i];
         out[i] = wrapping_less(x, before);
         before = x;
-        i += 1;
     }
-}
-
-// Whether link columns are equal in number.
-fn are_even(chains: &[u32], fs: &[u32], tc: &[u32], ts: &[u32]) -> bool
-    ensures { result ≡ even_columns (link_columns chains.now fs.now tc.now ts.now) }
-{
-    let n = chains.len();
-    if fs.len() != n {
-        return false;
-    }
-    if tc.len() != n {
-        return false;
-    }
-    ts.len() == n
 }
 
 // Writes the stored columns of links that are equal in number.
@@ -75,7 +60,7 @@ pub fn encode_links(
     b: &mut [u32],
     c: &mut [u32],
     d: &mut [u32],
-) -> Answer
+) -> Result<usize, Refusal>
     ensures value { result ≡ counted (λ x. x.from_chains) (encode (link_columns chains.now fs.now tc.now ts.now)
         (for_records (length a.old ∷ length b.old ∷ length c.old ∷ length d.old ∷ []))) }
     ensures d_after { link_columns a.new b.new c.new d.new
@@ -83,16 +68,16 @@ pub fn encode_links(
         (for_records (length a.old ∷ length b.old ∷ length c.old ∷ length d.old ∷ [])))
         (link_columns a.old b.old c.old d.old) }
 {
-    if cover_rows::limits::four_over(chains.len(), fs.len(), tc.len(), ts.len()) {
-        return Answer::Refused(Refusal::OverRecords);
+    if any_over(&[chains.len(), fs.len(), tc.len(), ts.len()]) {
+        return Err(Refusal::OverRecords);
     }
-    if cover_rows::limits::four_short(a.len(), b.len(), c.len(), d.len()) {
-        return Answer::Refused(Refusal::SliceShort);
+    if any_short(&[a.len(), b.len(), c.len(), d.len()]) {
+        return Err(Refusal::SliceShort);
     }
     if !are_even(chains, fs, tc, ts) {
-        return Answer::Refused(Refusal::CoverForm);
+        return Err(Refusal::CoverForm);
     }
     let n = chains.len();
     write_stored(chains, fs, tc, ts, a, b, c, d);
-    Answer::Done(n)
+    Ok(n)
 }

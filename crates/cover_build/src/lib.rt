@@ -15,56 +15,15 @@ ghost use Rattle.cover.specs.Answers.{range_columns, link_columns, links_after, 
 ghost use Rattle.cover_sort.specs.labels.Runs.{ranges_over};
 ghost use Rattle.cover_build.specs.Built.{build_rules, built_of, ranges_after};
 
-use columns::refusal::{Refusal, Ruling};
-
-// How many ranges and how many links a build wrote, or why it wrote none.
-#[derive(Clone, Copy)]
-pub enum Built {
-    Refused(Refusal),
-    Done(usize, usize),
-}
-
-// Whether one of two label columns or four link columns is too long.
-fn six_over(a: usize, b: usize, c: usize, d: usize, e: usize, f: usize) -> bool
-    ensures { result ≡ any (nat_lt max_records) (a ∷ b ∷ c ∷ d ∷ e ∷ f ∷ []) }
-{
-    if 1024 < a {
-        return true;
-    }
-    if 1024 < b {
-        return true;
-    }
-    cover_rows::limits::four_over(c, d, e, f)
-}
-
-// Whether one of the slices lent for three range columns and four link columns is too short.
-fn seven_short(a: usize, b: usize, c: usize, d: usize, e: usize, f: usize, g: usize) -> bool
-    ensures { result ≡ any short (for_records (a ∷ b ∷ c ∷ d ∷ e ∷ f ∷ g ∷ [])) }
-{
-    if a < 1024 {
-        return true;
-    }
-    if b < 1024 {
-        return true;
-    }
-    if c < 1024 {
-        return true;
-    }
-    cover_rows::limits::four_short(d, e, f, g)
-}
+use columns::refusal::Refusal;
+use cover_rows::limits::{any_over, any_short};
 
 // Whether link columns are equal in number.
 fn are_even(fc: &[u32], fs: &[u32], tc: &[u32], ts: &[u32]) -> bool
     ensures { result ≡ even_columns (link_columns fc.now fs.now tc.now ts.now) }
 {
     let n = fc.len();
-    if fs.len() != n {
-        return false;
-    }
-    if tc.len() != n {
-        return false;
-    }
-    ts.len() == n
+    fs.len() == n && (tc.len() == n && ts.len() == n)
 }
 
 // What the rules say of the given columns and of the lent slices, of which only the lengths are asked.
@@ -82,37 +41,34 @@ fn build_rules(
     b: usize,
     c: usize,
     d: usize,
-) -> Ruling
+) -> Result<(), Refusal>
     ensures { result ≡ ruling (build_rules (label_columns chains.now seqs.now)
         (link_columns fc.now fs.now tc.now ts.now) (for_records (ids ∷ minima ∷ maxima ∷ a ∷ b ∷ c ∷ d ∷ []))) }
 {
-    if six_over(
+    if any_over(&[
         chains.len(),
         seqs.len(),
         fc.len(),
         fs.len(),
         tc.len(),
         ts.len(),
-    ) {
-        return Ruling::Broken(Refusal::OverRecords);
+    ]) {
+        return Err(Refusal::OverRecords);
     }
-    if seven_short(ids, minima, maxima, a, b, c, d) {
-        return Ruling::Broken(Refusal::SliceShort);
+    if any_short(&[ids, minima, maxima, a, b, c, d]) {
+        return Err(Refusal::SliceShort);
     }
     if !are_even(fc, fs, tc, ts) {
-        return Ruling::Broken(Refusal::CoverForm);
+        return Err(Refusal::CoverForm);
     }
-    Ruling::Kept
+    Ok(())
 }
 
 // How many labels two columns hold: as many as the shorter one.
 fn labels_count(chains: &[u32], seqs: &[u32]) -> usize
     ensures { result ≡ length (labels_of chains.now seqs.now) }
 {
-    if chains.len() < seqs.len() {
-        return chains.len();
-    }
-    seqs.len()
+    chains.len().min(seqs.len())
 }
 
 // Writes the ranges of the labels that two columns hold, and answers how many there are.
@@ -149,7 +105,7 @@ pub fn build(
     b: &mut [u32],
     c: &mut [u32],
     d: &mut [u32],
-) -> Built
+) -> Result<(usize, usize), Refusal>
     ensures value { result ≡ built_of (build_cover (label_columns chains.now seqs.now)
         (link_columns fc.now fs.now tc.now ts.now)
         (for_records (length ids.old ∷ length minima.old ∷ length maxima.old ∷ length a.old ∷ length b.old ∷ length
@@ -165,7 +121,7 @@ pub fn build(
         (for_records (length ids.old ∷ length minima.old ∷ length maxima.old ∷ length a.old ∷ length b.old ∷ length
         c.old ∷ length d.old ∷ []))) (link_columns a.old b.old c.old d.old) }
 {
-    let rules = build_rules(
+    build_rules(
         chains,
         seqs,
         fc,
@@ -179,13 +135,8 @@ pub fn build(
         b.len(),
         c.len(),
         d.len(),
-    );
-    match rules {
-        Ruling::Kept => {
-            let ranges = write_ranges(chains, seqs, ids, minima, maxima);
-            let links = cover_sort::sort_links(fc, fs, tc, ts, a, b, c, d);
-            Built::Done(ranges, links)
-        }
-        Ruling::Broken(why) => Built::Refused(why),
-    }
+    )?;
+    let ranges = write_ranges(chains, seqs, ids, minima, maxima);
+    let links = cover_sort::sort_links(fc, fs, tc, ts, a, b, c, d);
+    Ok((ranges, links))
 }

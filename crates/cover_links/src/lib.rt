@@ -14,21 +14,11 @@ pub struct Link {
     pub to_seq: u32,
 }
 
-// The lesser of two numbers.
-fn lesser(a: usize, b: usize) -> usize
-    ensures { result ≡ min a b }
-{
-    if b < a {
-        return b;
-    }
-    a
-}
-
 // The least of five numbers.
 fn least_of(a: usize, b: usize, c: usize, d: usize, e: usize) -> usize
     ensures { result ≡ least a b c d e }
 {
-    lesser(lesser(lesser(lesser(a, b), c), d), e)
+    a.min(b).min(c).min(d).min(e)
 }
 
 // Writes links into four columns, from the start of each, as many as every column has room for; answers how many.
@@ -48,14 +38,12 @@ pub fn ridgeoven_links_apart(
         × (d.new ≡ over (map to_seq_of (take (carried links.now a.old b.old c.old d.old) links.now)) d.old)))) }
 {
     let n = least_of(links.len(), a.len(), b.len(), c.len(), d.len());
-    let mut i = 0;
-    while i < n {
+    for i in 0..n {
         let l = links[i];
         a[i] = l.from_chain;
         b[i] = l.from_seq;
         c[i] = l.to_chain;
         d[i] = l.to_seq;
-        i += 1;
     }
     n
 }
@@ -73,15 +61,13 @@ pub fn ridgeoven_links_together(
         (places (carried links.old a.now b.now c.now d.now))) links.old) }
 {
     let n = least_of(links.len(), a.len(), b.len(), c.len(), d.len());
-    let mut i = 0;
-    while i < n {
+    for i in 0..n {
         links[i] = Link {
             from_chain: a[i],
             from_seq: b[i],
             to_chain: c[i],
             to_seq: d[i],
         };
-        i += 1;
     }
     n
 }

@@ -1,4 +1,5 @@
 -- The verdict of reading, return by return.
+use Rattle.std.specs.Prelude.{Err, Ok}
 use mathlib.Core.Path.{◌≡◌, sym, ◌∙◌}
 use mathlib.Core.Bool.{Bool, true, false, not}
 use mathlib.Core.List.{List, [], ◌∷◌, ◌++◌}
@@ -15,7 +16,6 @@ use Rattle.columns.specs.declared.refusal.Refusal.TheVariants.{OverRecords, Slic
 use Rattle.columns.proofs.FirstBroken.{passes}
 use Rattle.cover.specs.Cover.{LinkColumns, Cover, links_ok, link_rules, stored_links}
 use Rattle.cover.specs.Answers.{RangeColumns, range_lengths, link_lengths, lent_ranges, ranges_fit, column_rules, for_records, read_lent, counted, links_over, links_after}
-use Rattle.cover.specs.declared.answer.Answer.TheVariants.{Refused, Done}
 use Rattle.cover_rows.proofs.limits.Anyone.{any-nil, few-first, long-first}
 use Rattle.cover_rows.proofs.Fitting.{ok-count}
 use Rattle.cover_rows.proofs.limits.Verdicts.{counted-refused, columns-kept, counted-done, columns-written, limits-records, limits-short, limits-none, first-refuses, next-rule, no-rule, refuse-not}
@@ -29,7 +29,7 @@ module _ (r : RangeColumns) (l : LinkColumns) (ns : List ℕ) where
     unfolding read_lent
     read-over h = first-refuses cover OverRecords _ _ (limits-records (range_lengths r ++ link_lengths l) [] (for_records ns) (sym e ∙ h))
 
-    pub read-over-told : t ≡ true → Refused OverRecords ≡ counted (λ x. x.links) (read_lent r l (for_records ns))
+    pub read-over-told : t ≡ true → Err OverRecords ≡ counted (λ x. x.links) (read_lent r l (for_records ns))
     read-over-told h = counted-refused _ _ (read-over h)
 
     pub read-over-kept : (o : LinkColumns) → t ≡ true → o ≡ links_after (λ x. x.links) (read_lent r l (for_records ns)) o
@@ -40,7 +40,7 @@ module _ (r : RangeColumns) (l : LinkColumns) (ns : List ℕ) where
       unfolding read_lent
       read_short k = first-refuses cover SliceShort _ _ (limits-short (range_lengths r ++ link_lengths l) [] (for_records ns) (sym e ∙ h) (any-nil _) (sym f ∙ k))
 
-      pub read-short-told : u ≡ true → Refused SliceShort ≡ counted (λ x. x.links) (read_lent r l (for_records ns))
+      pub read-short-told : u ≡ true → Err SliceShort ≡ counted (λ x. x.links) (read_lent r l (for_records ns))
       read-short-told k = counted-refused _ _ (read_short k)
 
       pub read-short-kept : (o : LinkColumns) → u ≡ true → o ≡ links_after (λ x. x.links) (read_lent r l (for_records ns)) o
@@ -54,7 +54,7 @@ module _ (r : RangeColumns) (l : LinkColumns) (ns : List ℕ) where
         unfolding read_lent column_rules
         read-ranges m = next-rule cover (refused CoverForm) _ _ within (first-refuses cover CoverForm _ _ (refuse-not CoverForm (ranges_fit r) (sym g ∙ not-true v m)))
 
-        pub read-ranges-told : not v ≡ true → Refused CoverForm ≡ counted (λ x. x.links) (read_lent r l (for_records ns))
+        pub read-ranges-told : not v ≡ true → Err CoverForm ≡ counted (λ x. x.links) (read_lent r l (for_records ns))
         read-ranges-told m = counted-refused _ _ (read-ranges m)
 
         pub read-ranges-kept : (o : LinkColumns) → not v ≡ true → o ≡ links_after (λ x. x.links) (read_lent r l (for_records ns)) o
@@ -67,7 +67,7 @@ module _ (r : RangeColumns) (l : LinkColumns) (ns : List ℕ) where
               next-rule cover (refused CoverForm) _ _ within (next-rule cover (refused CoverForm) _ _ (passes CoverForm (ranges_fit r) (sym g ∙ not-false v m))
               (first-refuses cover CoverForm _ _ (refuse-not CoverForm (links_ok l) (sym o ∙ not-true w p))))
 
-          pub read-links-told : not w ≡ true → Refused CoverForm ≡ counted (λ x. x.links) (read_lent r l (for_records ns))
+          pub read-links-told : not w ≡ true → Err CoverForm ≡ counted (λ x. x.links) (read_lent r l (for_records ns))
           read-links-told p = counted-refused _ _ (read-links p)
 
           pub read-links-kept : (q : LinkColumns) → not w ≡ true → q ≡ links_after (λ x. x.links) (read_lent r l (for_records ns)) q
@@ -79,7 +79,7 @@ module _ (r : RangeColumns) (l : LinkColumns) (ns : List ℕ) where
               next-rule cover (accepted cover) _ _ within (next-rule cover (accepted cover) _ _ (passes CoverForm (ranges_fit r) (sym g ∙ not-false v m))
               (next-rule cover (accepted cover) _ _ (passes CoverForm (links_ok l) (sym o ∙ not-false w p)) (no-rule cover)))
 
-          pub read-all-told : not w ≡ false → Done (length l.from_chains) ≡ counted (λ x. x.links) (read_lent r l (for_records ns))
+          pub read-all-told : not w ≡ false → Ok (length l.from_chains) ≡ counted (λ x. x.links) (read_lent r l (for_records ns))
           read-all-told p = counted-done _ _ cover (read_all p) (ok-count l.from_chains l.from_seqs l.to_chains l.to_seqs (sym o ∙ not-false w p))
 
           pub read-all-written : (x y : LinkColumns) → y ≡ links_over (stored_links l) x → not w ≡ false → y ≡ links_after (λ x. x.links) (read_lent r l (for_records ns)) x

@@ -1,4 +1,5 @@
 -- The window question's verdict, return by return.
+use Rattle.std.specs.Prelude.{Err, Ok}
 use mathlib.Core.Path.{◌≡◌, sym, ◌∙◌}
 use mathlib.Core.Bool.{Bool, true, false, not}
 use mathlib.Core.List.{List, [], ◌∷◌}
@@ -13,17 +14,16 @@ use Rattle.columns.specs.declared.refusal.Refusal.TheVariants.{OverRecords, Cove
 use Rattle.columns.proofs.FirstBroken.{passes}
 use Rattle.cover.specs.Questions.{meets}
 use Rattle.cover.specs.Answers.{ranges_in, range_columns, range_lengths, ranges_fit, column_rules, may_hold_lent, window_answer}
-use Rattle.cover.specs.declared.answer.Window.TheVariants.{Refused, Holds}
 use Rattle.cover_rows.proofs.limits.Anyone.{any-nil}
 use Rattle.cover_rows.proofs.limits.Verdicts.{limits-records, limits-none, first-refuses, next-rule, no-rule, refuse-not}
 
 module _ (a b c : List ℕ) (chain low high : ℕ) {t : Bool} (e : t ≡ any (ltb max_records) (length a ∷ length b ∷ length c ∷ [])) where
-  pub window-over : t ≡ true → Refused OverRecords ≡ window_answer (may_hold_lent (range_columns a b c) chain low high)
+  pub window-over : t ≡ true → Err OverRecords ≡ window_answer (may_hold_lent (range_columns a b c) chain low high)
   unfolding window_answer may_hold_lent
   window-over h = rw (first-refuses (any (meets chain low high) (ranges_in a b c)) OverRecords _ _ (limits-records (range_lengths (range_columns a b c)) [] [] (sym e ∙ h)))
 
   module _ (h : t ≡ false) {s : Bool} (f : s ≡ ranges_fit (range_columns a b c)) where
-    pub window-form : not s ≡ true → Refused CoverForm ≡ window_answer (may_hold_lent (range_columns a b c) chain low high)
+    pub window-form : not s ≡ true → Err CoverForm ≡ window_answer (may_hold_lent (range_columns a b c) chain low high)
     unfolding window_answer may_hold_lent column_rules
     window-form q =
         rw (next-rule (any (meets chain low high) (ranges_in a b c)) (refused CoverForm) _ _ (limits-none (range_lengths (range_columns a b c)) [] [] (sym e ∙ h) (any-nil _) (any-nil _))
@@ -32,7 +32,7 @@ module _ (a b c : List ℕ) (chain low high : ℕ) {t : Bool} (e : t ≡ any (lt
     pub window-fits : not s ≡ false → ranges_fit (range_columns a b c) ≡ true
     window-fits q = sym f ∙ not-false s q
 
-    pub window-told : not s ≡ false → (r : Bool) → r ≡ any (meets chain low high) (ranges_in a b c) → Holds r ≡ window_answer (may_hold_lent (range_columns a b c) chain low high)
+    pub window-told : not s ≡ false → (r : Bool) → r ≡ any (meets chain low high) (ranges_in a b c) → Ok r ≡ window_answer (may_hold_lent (range_columns a b c) chain low high)
     unfolding window_answer may_hold_lent column_rules
     window-told q r g =
         rw (

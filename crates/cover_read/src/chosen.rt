@@ -6,12 +6,6 @@ ghost use Rattle.arrays.specs.searching.Place.{place_of};
 ghost use Rattle.cover.specs.Answers.{over};
 ghost use Rattle.cover_read.specs.chosen.Chosen.{run_of, rows_of};
 
-fn wide(x: u32) -> u64
-    ensures { result ≡ x }
-{
-    x as u64
-}
-
 // The first place from p on whose chain is not below the given one.
 fn first_from(from: &[u32], p: usize, chain: u64) -> usize
     requires { (p ≤ length from.now) × (not_falling from.now ≡ true) }
@@ -27,17 +21,15 @@ fn put_run(from: &[u32], start: usize, chain: u64, rows: &mut [usize], k: usize)
     ensures rows_after { take (k + (result - start)) rows.new ≡ take k rows.old ++ up_from start (result - start) }
 {
     let mut at = k;
-    let mut i = start;
-    while i < from.len() {
-        let x = wide(from[i]);
+    for i in start..from.len() {
+        let x = u64::from(from[i]);
         if x != chain {
             return i;
         }
         rows[at] = i;
         at += 1;
-        i += 1;
     }
-    i
+    from.len()
 }
 
 // Writes the places whose chain is among the chains; both columns don't fall. A chain that comes again finds an empty run.
@@ -47,13 +39,11 @@ fn choose(from: &[u32], chains: &[u64], rows: &mut [usize]) -> usize
 {
     let mut k = 0;
     let mut p = 0;
-    let mut i = 0;
-    while i < chains.len() {
+    for i in 0..chains.len() {
         let chain = chains[i];
         let start = first_from(from, p, chain);
         p = put_run(from, start, chain, rows, k);
         k += p - start;
-        i += 1;
     }
     k
 }
@@ -63,22 +53,18 @@ fn widen(chains: &[u32], out: &mut [u64])
     requires { length chains.now ≤ length out.old }
     ensures { out.new ≡ over chains.now out.old }
 {
-    let mut i = 0;
-    while i < chains.len() {
-        out[i] = wide(chains[i]);
-        i += 1;
+    for i in 0..chains.len() {
+        out[i] = u64::from(chains[i]);
     }
 }
 
 // Copies chains into wider numbers and puts them in order.
 fn put_sorted(chains: &[u32], out: &mut [u64])
-    requires { (length chains.now ≤ 4096) × (length chains.now ≤ length out.old) }
+    requires { length chains.now ≤ length out.old }
     ensures { out.new ≡ over (sort chains.now) out.old }
 {
-    let n = chains.len();
     widen(chains, out);
-    let mut w = [0u64; 4096];
-    arrays::sorting::sort_part(out, 0, n, &mut w);
+    arrays::sorting::sort_all(&mut out[..chains.len()]);
 }
 
 // Writes the places whose chain is among the chains, which come in any order.

@@ -11,7 +11,7 @@ ghost use Rattle.cover.specs.Cover.{links_ok, stored_links};
 ghost use Rattle.cover.specs.Answers.{range_columns, link_columns, for_records, read_lent, counted, links_after, links_over};
 
 use columns::refusal::Refusal;
-use cover::answer::Answer;
+use cover_rows::limits::{any_over, any_short};
 
 // Writes the links that stored columns in form hold.
 fn write_links(
@@ -50,7 +50,7 @@ pub fn read(
     b: &mut [u32],
     c: &mut [u32],
     d: &mut [u32],
-) -> Answer
+) -> Result<usize, Refusal>
     ensures value { result ≡ counted (λ x. x.links) (read_lent (range_columns ids.now minima.now maxima.now)
         (link_columns differences.now fs.now tc.now ts.now)
         (for_records (length a.old ∷ length b.old ∷ length c.old ∷ length d.old ∷ []))) }
@@ -60,7 +60,7 @@ pub fn read(
         (for_records (length a.old ∷ length b.old ∷ length c.old ∷ length d.old ∷ [])))
         (link_columns a.old b.old c.old d.old) }
 {
-    if cover_rows::limits::seven_over(
+    if any_over(&[
         ids.len(),
         minima.len(),
         maxima.len(),
@@ -68,19 +68,19 @@ pub fn read(
         fs.len(),
         tc.len(),
         ts.len(),
-    ) {
-        return Answer::Refused(Refusal::OverRecords);
+    ]) {
+        return Err(Refusal::OverRecords);
     }
-    if cover_rows::limits::four_short(a.len(), b.len(), c.len(), d.len()) {
-        return Answer::Refused(Refusal::SliceShort);
+    if any_short(&[a.len(), b.len(), c.len(), d.len()]) {
+        return Err(Refusal::SliceShort);
     }
     if !crate::ranges::ranges_fit(ids, minima, maxima) {
-        return Answer::Refused(Refusal::CoverForm);
+        return Err(Refusal::CoverForm);
     }
     if !cover_rows::links_fit(differences, fs, tc, ts) {
-        return Answer::Refused(Refusal::CoverForm);
+        return Err(Refusal::CoverForm);
     }
     let n = differences.len();
     write_links(differences, fs, tc, ts, a, b, c, d);
-    Answer::Done(n)
+    Ok(n)
 }

@@ -11,13 +11,11 @@ fn rise_from(ids: &[u32], first: u32) -> bool
     ensures { result ≡ rises_above first (drop 1 ids.now) }
 {
     let mut low = first;
-    let mut i = 1;
-    while i < ids.len() {
+    for i in 1..ids.len() {
         if ids[i] <= low {
             return false;
         }
         low = ids[i];
-        i += 1;
     }
     true
 }
@@ -37,12 +35,10 @@ fn in_order(ids: &[u32], minima: &[u32], maxima: &[u32]) -> bool
     requires { (length minima.now ≡ length ids.now) × (length maxima.now ≡ length ids.now) }
     ensures { result ≡ all (λ x. leb x.least x.greatest) (ranges_in ids.now minima.now maxima.now) }
 {
-    let mut i = 0;
-    while i < ids.len() {
+    for i in 0..ids.len() {
         if maxima[i] < minima[i] {
             return false;
         }
-        i += 1;
     }
     true
 }

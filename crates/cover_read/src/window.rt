@@ -3,7 +3,6 @@ ghost use Rattle.std.specs.Prelude.{◌≡◌};
 ghost use Rattle.cover.specs.Answers.{range_columns, may_hold_lent, window_answer};
 
 use columns::refusal::Refusal;
-use cover::answer::Window;
 
 // Whether the chain may hold an event whose seq lies from low to high.
 pub fn may_hold_chain(
@@ -13,14 +12,14 @@ pub fn may_hold_chain(
     chain: u32,
     low: u32,
     high: u32,
-) -> Window
+) -> Result<bool, Refusal>
     ensures { result ≡ window_answer (may_hold_lent (range_columns ids.now minima.now maxima.now) chain low high) }
 {
-    if cover_rows::limits::three_over(ids.len(), minima.len(), maxima.len()) {
-        return Window::Refused(Refusal::OverRecords);
+    if cover_rows::limits::any_over(&[ids.len(), minima.len(), maxima.len()]) {
+        return Err(Refusal::OverRecords);
     }
     if !crate::ranges::ranges_fit(ids, minima, maxima) {
-        return Window::Refused(Refusal::CoverForm);
+        return Err(Refusal::CoverForm);
     }
-    Window::Holds(crate::ranges::holds(ids, minima, maxima, chain, low, high))
+    Ok(crate::ranges::holds(ids, minima, maxima, chain, low, high))
 }

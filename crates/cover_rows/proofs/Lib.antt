@@ -1,3 +1,4 @@
 pub mod Rowed
 pub mod Columned
 pub mod Fitting
+pub mod Linked

@@ -1,8 +1,8 @@
 -- Link columns row by row: the comparison of two links, and the loop that tests their order.
-use mathlib.Core.Path.{◌≡◌, refl}
+use mathlib.Core.Path.{◌≡◌, refl, ap, ◌∙◌}
 use mathlib.Core.Bool.{Bool, true, false, not, ◌&&◌, ◌||◌}
 use mathlib.Core.List.{List, [], ◌∷◌}
-use Prim.Native.Nat.{ℕ, suc, ◌+◌, ◌-◌, ◌≤◌, ◌<◌}
+use Prim.Native.Nat.{ℕ, zero, suc, ◌+◌, ◌-◌, ◌≤◌, ◌<◌}
 use native.Mathlib.Numerals.{add-one}
 use native.Mathlib.Omega.{arith}
 use lib.Dec.{ltb, eqb}
@@ -51,6 +51,10 @@ module _ (a b c d x y z w : ℕ) where
 
 -- ── rows ─────────────────────────────────────────────────────────────────────────────────────
 
+pub row_is : (a b c d : List ℕ) (i : ℕ) → link (get_or a i 0) (get_or b i 0) (get_or c i 0) (get_or d i 0) ≡ row_at a b c d i
+unfolding row_at
+row_is a b c d i = refl
+
 pub row_told : {r : Bool} (a b c d : List ℕ) (i j : ℕ)
     → r ≡ link_less (link (get_or a i 0) (get_or b i 0) (get_or c i 0) (get_or d i 0)) (link (get_or a j 0) (get_or b j 0) (get_or c j 0) (get_or d j 0))
     → r ≡ link_less (row_at a b c d i) (row_at a b c d j)
@@ -70,27 +74,27 @@ pub rows_none : (a b c d : List ℕ) (i : ℕ) → length a ≤ i → rows_from 
 unfolding links_of rows_from
 rows_none a b c d i h = rw (drop_of_length-le a {i = i} h)
 
-module _ (a b c d : List ℕ) where
-  pub rise-none : length a ≡ 0 → true ≡ links_rise (links_of a b c d)
-  unfolding links_rise
-  rise-none h = rw (rows_all a b c d, rows_none a b c d 0 (omega arith))
+module _ (a b c d : List ℕ) (p : length b ≡ length a) (q : length c ≡ length a) (r : length d ≡ length a) where
+  from_first : (n : ℕ) → length a ≡ n → links_rise (rows_from a b c d 0) ≡ links_above (row_at a b c d 0) (rows_from a b c d 1)
+  unfolding links_rise links_above
+  from_first zero z = rw (rows_none a b c d 0 (omega arith), rows_none a b c d 1 (omega arith))
+  from_first (suc n) z = rw (rows-cons a b c d p q r 0 (omega arith))
 
-  pub rise-first : (length a ≡ 0 → ⊥) → length b ≡ length a → length c ≡ length a → length d ≡ length a
-      → links_rise (links_of a b c d) ≡ links_above (row_at a b c d 0) (rows_from a b c d 1)
-  unfolding links_rise
-  rise-first h p q r = rw (rows_all a b c d, rows-cons a b c d p q r 0 (omega arith))
+  pub rise-first : links_rise (links_of a b c d) ≡ links_above (row_at a b c d (1 - 1)) (rows_from a b c d 1)
+  rise-first = ap links_rise (rows_all a b c d) ∙ from_first (length a) refl
 
-  module _ {t : Bool} (i n : ℕ) (e : t ≡ links_above (row_at a b c d i) (rows_from a b c d (i + 1))) where
-    pub rise-done : n - 1 ≤ i → n ≡ length a → true ≡ t
-    unfolding links_above
-    rise-done h z = rw (e, rows_none a b c d (i + 1) (omega arith))
-
-    module _ (f : Bool) (g : f ≡ link_less (row_at a b c d i) (row_at a b c d (i + 1))) (h : i < n - 1) (z : n ≡ length a)
-        (p : length b ≡ length a) (q : length c ≡ length a) (r : length d ≡ length a) where
+  module _ {t : Bool} (i : ℕ) (e : t ≡ links_above (row_at a b c d (i - 1)) (rows_from a b c d i)) where
+    module _ (f : Bool) (g : f ≡ link_less (row_at a b c d (i - 1)) (row_at a b c d i)) (h : i < length a) where
       pub rise-not : not f ≡ true → false ≡ t
       unfolding links_above
-      rise-not k = rw (e, rows-cons a b c d p q r (i + 1) (omega arith), ← g, not-true f k)
+      rise-not k = rw (e, rows-cons a b c d p q r i h, ← g, not-true f k)
 
-      pub rise-on : not f ≡ false → t ≡ links_above (row_at a b c d (i + 1)) (rows_from a b c d (i + 1 + 1))
+      pub rise-on : not f ≡ false → t ≡ links_above (row_at a b c d (i + 1 - 1)) (rows_from a b c d (i + 1))
       unfolding links_above
-      rise-on k = rw (e, rows-cons a b c d p q r (i + 1) (omega arith), ← g, not-false f k, add-one (i + 1))
+      rise-on k =
+          let z : i + 1 - 1 ≡ i = omega arith in
+          rw (e, rows-cons a b c d p q r i h, ← g, not-false f k, z, add-one i)
+
+pub rise-done : (a b c d : List ℕ) {t : Bool} (i : ℕ) → t ≡ links_above (row_at a b c d (i - 1)) (rows_from a b c d i) → length a ≤ i → true ≡ t
+unfolding links_above
+rise-done a b c d i e h = rw (e, rows_none a b c d i h)

@@ -1,1 +1,2 @@
 pub mod pick
+pub mod Links

@@ -6,61 +6,64 @@ pub mod pick;
 
 ghost use Rattle.std.specs.Prelude.{◌≡◌, true, ◌≤◌, ◌<◌, length};
 ghost use Rattle.cover.specs.Chains.{link_less, links_rise};
-ghost use Rattle.cover.specs.Cover.{links_of, sums, sums_fit, links_ok};
+ghost use Rattle.cover.specs.Cover.{sums, sums_fit, links_ok};
 ghost use Rattle.cover.specs.Answers.{link, link_columns, over};
-ghost use Rattle.cover.specs.Places.{row_at};
 
-// Whether the link a b c d stands before the link x y z w.
-pub fn is_less(a: u32, b: u32, c: u32, d: u32, x: u32, y: u32, z: u32, w: u32) -> bool
-    ensures { result ≡ link_less (link a b c d) (link x y z w) }
-{
-    if a < x {
-        return true;
-    }
-    if x < a {
-        return false;
-    }
-    if b < y {
-        return true;
-    }
-    if y < b {
-        return false;
-    }
-    if c < z {
-        return true;
-    }
-    if z < c {
-        return false;
-    }
-    d < w
+// Four columns that hold links, place by place.
+#[derive(Clone, Copy)]
+pub struct Links<'a> {
+    pub from_chains: &'a [u32],
+    pub from_seqs: &'a [u32],
+    pub to_chains: &'a [u32],
+    pub to_seqs: &'a [u32],
+    ghost from_even: { length from_seqs.now ≡ length from_chains.now },
+    ghost to_even: { length to_chains.now ≡ length from_chains.now },
+    ghost ends_even: { length to_seqs.now ≡ length from_chains.now },
 }
 
-// Whether the link at place i stands before the link at place j.
-pub fn row_less(a: &[u32], b: &[u32], c: &[u32], d: &[u32], i: usize, j: usize) -> bool
-    requires i_in_bounds { (i < length a.now) × (j < length a.now) }
-    requires b_len { (length b.now ≡ length a.now) × ((length c.now ≡ length a.now) × (length d.now ≡ length a.now)) }
-    ensures { result ≡ link_less (row_at a.now b.now c.now d.now i) (row_at a.now b.now c.now d.now j) }
-{
-    is_less(a[i], b[i], c[i], d[i], a[j], b[j], c[j], d[j])
+// A link, in the order of its numbers.
+#[derive(Clone, Copy, PartialEq, Eq, PartialOrd, Ord)]
+struct Link {
+    from_chain: u32,
+    from_seq: u32,
+    to_chain: u32,
+    to_seq: u32,
 }
 
-// Whether each link stands before the next.
-pub fn links_rise(a: &[u32], b: &[u32], c: &[u32], d: &[u32]) -> bool
-    requires { (length b.now ≡ length a.now) × ((length c.now ≡ length a.now) × (length d.now ≡ length a.now)) }
-    ensures { result ≡ links_rise (links_of a.now b.now c.now d.now) }
-{
-    let n = a.len();
-    if n == 0 {
-        return true;
-    }
-    let mut i = 0;
-    while i < n - 1 {
-        if !row_less(a, b, c, d, i, i + 1) {
-            return false;
+impl Links<'_> {
+    ghost use Rattle.cover_rows.specs.Links.{links_in, link_at};
+
+    fn at(&self, i: usize) -> Link
+        requires { i < length self.now.from_chains.now }
+        ensures { link result.from_chain result.from_seq result.to_chain result.to_seq ≡ link_at self.now i }
+    {
+        Link {
+            from_chain: self.from_chains[i],
+            from_seq: self.from_seqs[i],
+            to_chain: self.to_chains[i],
+            to_seq: self.to_seqs[i],
         }
-        i += 1;
     }
-    true
+
+    // Whether the link at place i stands before the link at place j.
+    pub fn is_less(&self, i: usize, j: usize) -> bool
+        requires { (i < length self.now.from_chains.now) × (j < length self.now.from_chains.now) }
+        ensures { result ≡ link_less (link_at self.now i) (link_at self.now j) }
+    {
+        self.at(i) < self.at(j)
+    }
+
+    // Whether each link stands before the next.
+    pub fn rise(&self) -> bool
+        ensures { result ≡ links_rise (links_in self.now) }
+    {
+        for i in 1..self.from_chains.len() {
+            if !self.is_less(i - 1, i) {
+                return false;
+            }
+        }
+        true
+    }
 }
 
 // Whether no sum of the differences passes 2^32 − 1.
@@ -68,14 +71,12 @@ fn sums_fit(differences: &[u32]) -> bool
     ensures { result ≡ sums_fit differences.now }
 {
     let mut sum: u32 = 0;
-    let mut i = 0;
-    while i < differences.len() {
+    for i in 0..differences.len() {
         let d = differences[i];
         if 4294967295 - sum < d {
             return false;
         }
         sum += d;
-        i += 1;
     }
     true
 }
@@ -86,11 +87,9 @@ pub fn write_sums(differences: &[u32], out: &mut [u32])
     ensures { out.new ≡ over (sums 0 differences.now) out.old }
 {
     let mut sum: u32 = 0;
-    let mut i = 0;
-    while i < differences.len() {
+    for i in 0..differences.len() {
         sum += differences[i];
         out[i] = sum;
-        i += 1;
     }
 }
 
@@ -99,10 +98,8 @@ pub fn copy_column(column: &[u32], out: &mut [u32])
     requires { length column.now ≤ length out.old }
     ensures { out.new ≡ over column.now out.old }
 {
-    let mut i = 0;
-    while i < column.len() {
+    for i in 0..column.len() {
         out[i] = column[i];
-        i += 1;
     }
 }
 
@@ -112,19 +109,16 @@ pub fn links_fit(differences: &[u32], b: &[u32], c: &[u32], d: &[u32]) -> bool
     ensures { result ≡ links_ok (link_columns differences.now b.now c.now d.now) }
 {
     let n = differences.len();
-    if b.len() != n {
-        return false;
-    }
-    if c.len() != n {
-        return false;
-    }
-    if d.len() != n {
-        return false;
-    }
-    if !sums_fit(differences) {
+    if b.len() != n || c.len() != n || d.len() != n || !sums_fit(differences) {
         return false;
     }
     let mut a = [0u32; 1024];
     write_sums(differences, &mut a);
-    links_rise(&a[..n], b, c, d)
+    let links = Links {
+        from_chains: &a[..n],
+        from_seqs: b,
+        to_chains: c,
+        to_seqs: d,
+    };
+    links.rise()
 }

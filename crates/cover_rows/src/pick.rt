@@ -1,8 +1,10 @@
 // Rows of link columns picked by their places: a column at a time, and all four.
 ghost use Rattle.std.specs.Prelude.{◌≡◌, true, map, ◌≤◌, length, take};
 ghost use Rattle.cover.specs.Answers.{link_columns, over, links_over};
-ghost use Rattle.cover.specs.Places.{row_at};
+ghost use Rattle.cover_rows.specs.Links.{link_at};
 ghost use Rattle.cover_rows.specs.pick.Picked.{picked, within};
+
+use crate::Links;
 
 // Writes what a column holds at the first n of the places.
 fn pick(column: &[u32], rows: &[usize], n: usize, out: &mut [u32])
@@ -10,20 +12,15 @@ fn pick(column: &[u32], rows: &[usize], n: usize, out: &mut [u32])
     requires rows_value { within (length column.now) (take n rows.now) ≡ true }
     ensures { out.new ≡ over (picked column.now (take n rows.now)) out.old }
 {
-    let mut i = 0;
-    while i < n {
+    for i in 0..n {
         let r = rows[i];
         out[i] = column[r];
-        i += 1;
     }
 }
 
 // Writes the links at the first n of the places.
 pub fn pick_links(
-    a: &[u32],
-    b: &[u32],
-    c: &[u32],
-    d: &[u32],
+    links: &Links<'_>,
     rows: &[usize],
     n: usize,
     x: &mut [u32],
@@ -31,15 +28,13 @@ pub fn pick_links(
     z: &mut [u32],
     w: &mut [u32],
 )
-    requires b_len { (length b.now ≡ length a.now) × ((length c.now ≡ length a.now) × (length d.now ≡ length a.now)) }
-    requires n_in_bounds { (n ≤ length rows.now) × (within (length a.now) (take n rows.now) ≡ true) }
+    requires n_in_bounds { (n ≤ length rows.now) × (within (length links.now.from_chains.now) (take n rows.now) ≡ true) }
     requires n_in_bounds_2 { (n ≤ length x.old) × ((n ≤ length y.old) × ((n ≤ length z.old) × (n ≤ length w.old))) }
     ensures { link_columns x.new y.new z.new w.new
-        ≡ links_over (map (row_at a.now b.now c.now d.now) (take n rows.now))
-        (link_columns x.old y.old z.old w.old) }
+        ≡ links_over (map (link_at links.now) (take n rows.now)) (link_columns x.old y.old z.old w.old) }
 {
-    pick(a, rows, n, x);
-    pick(b, rows, n, y);
-    pick(c, rows, n, z);
-    pick(d, rows, n, w);
+    pick(links.from_chains, rows, n, x);
+    pick(links.from_seqs, rows, n, y);
+    pick(links.to_chains, rows, n, z);
+    pick(links.to_seqs, rows, n, w);
 }

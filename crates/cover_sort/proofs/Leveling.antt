@@ -1,5 +1,5 @@
 -- The loop that tests whether links fall.
-use Rattle.std.proofs.Common.{◌≡◌, ℕ, zero, suc, ◌+◌, ◌<◌, ◌≤◌, Bool, true, false, List, length, sym, refl, ap, ◌∙◌, add-one, arith}
+use Rattle.std.proofs.Common.{◌≡◌, ℕ, zero, suc, ◌+◌, ◌-◌, ◌<◌, ◌≤◌, Bool, true, false, List, length, sym, refl, ap, ◌∙◌, add-one, arith}
 use Rattle.cover.specs.Chains.{link_less}
 use Rattle.cover.specs.Cover.{links_of}
 use Rattle.cover.specs.Places.{row_at, rows_from}
@@ -12,19 +12,21 @@ module _ (a b c d : List ℕ) (p : length b ≡ length a) (q : length c ≡ leng
   from_first zero z = rw (rows_none a b c d 0 (omega arith), rows_none a b c d 1 (omega arith))
   from_first (suc n) z = rw (rows-cons a b c d p q r 0 (omega arith))
 
-  pub level-start : links_level (links_of a b c d) ≡ level_from (row_at a b c d 0) (rows_from a b c d (0 + 1))
+  pub level-start : links_level (links_of a b c d) ≡ level_from (row_at a b c d (1 - 1)) (rows_from a b c d 1)
   level-start = ap links_level (rows_all a b c d) ∙ from_first (length a) refl
 
-  module _ {t : Bool} (i : ℕ) (e : t ≡ level_from (row_at a b c d i) (rows_from a b c d (i + 1))) where
-    module _ (f : Bool) (g : f ≡ link_less (row_at a b c d (i + 1)) (row_at a b c d i)) (h : i + 1 < length a) where
+  module _ {t : Bool} (i : ℕ) (e : t ≡ level_from (row_at a b c d (i - 1)) (rows_from a b c d i)) where
+    module _ (f : Bool) (g : f ≡ link_less (row_at a b c d i) (row_at a b c d (i - 1))) (h : i < length a) where
       pub level-not : f ≡ true → false ≡ t
       unfolding level_from
-      level-not k = rw (e, rows-cons a b c d p q r (i + 1) h, sym g ∙ k)
+      level-not k = rw (e, rows-cons a b c d p q r i h, sym g ∙ k)
 
-      pub level-on : f ≡ false → t ≡ level_from (row_at a b c d (i + 1)) (rows_from a b c d (i + 1 + 1))
+      pub level-on : f ≡ false → t ≡ level_from (row_at a b c d (i + 1 - 1)) (rows_from a b c d (i + 1))
       unfolding level_from
-      level-on k = rw (e, rows-cons a b c d p q r (i + 1) h, sym g ∙ k, add-one (i + 1))
+      level-on k =
+          let z : i + 1 - 1 ≡ i = omega arith in
+          rw (e, rows-cons a b c d p q r i h, sym g ∙ k, z, add-one i)
 
-pub level-done : (a b c d : List ℕ) {t : Bool} (i : ℕ) → t ≡ level_from (row_at a b c d i) (rows_from a b c d (i + 1)) → length a ≤ i + 1 → true ≡ t
+pub level-done : (a b c d : List ℕ) {t : Bool} (i : ℕ) → t ≡ level_from (row_at a b c d (i - 1)) (rows_from a b c d i) → length a ≤ i → true ≡ t
 unfolding level_from
-level-done a b c d i e h = rw (e, rows_none a b c d (i + 1) h)
+level-done a b c d i e h = rw (e, rows_none a b c d i h)

@@ -39,19 +39,14 @@ fn join_from(
     let mut first = start;
     let mut last = start;
     let mut at = 0;
-    let mut i = 1;
-    while i < keys.len() {
+    for i in 1..keys.len() {
         let key = keys[i];
-        if key / 4294967296 == last / 4294967296 {
-            last = key;
-            i += 1;
-        } else {
+        if key / 4294967296 != last / 4294967296 {
             put_range(ids, minima, maxima, at, first, last);
             at += 1;
             first = key;
-            last = key;
-            i += 1;
         }
+        last = key;
     }
     put_range(ids, minima, maxima, at, first, last);
     at + 1
@@ -70,64 +65,41 @@ fn join_runs(keys: &[u64], ids: &mut [u32], minima: &mut [u32], maxima: &mut [u3
     join_from(keys, keys[0], ids, minima, maxima)
 }
 
-// Writes each chain's range by way of as many keys. w is work space and keeps what is left there.
+// Writes each chain's range by way of as many keys.
 fn ranges_by(
     chains: &[u32],
     seqs: &[u32],
     keys: &mut [u64],
-    w: &mut [u64],
     ids: &mut [u32],
     minima: &mut [u32],
     maxima: &mut [u32],
 ) -> usize
-    requires seqs_len { (length seqs.now ≡ length chains.now) × ((length keys.old ≡ length chains.now) × (length chains.now ≤ length w.old)) }
+    requires seqs_len { (length seqs.now ≡ length chains.now) × (length keys.old ≡ length chains.now) }
     requires chains_in_bounds { (length chains.now ≤ length ids.old) × ((length chains.now ≤ length minima.old) × (length chains.now ≤ length maxima.old)) }
     ensures value { result ≡ length (ranges_of (labels_of chains.now seqs.now)) }
     ensures maxima_after { range_columns ids.new minima.new maxima.new
         ≡ ranges_over (ranges_of (labels_of chains.now seqs.now)) (range_columns ids.old minima.old maxima.old) }
 {
-    crate::packing::put_sorted_keys(chains, seqs, keys, w);
+    crate::packing::put_sorted_keys(chains, seqs, keys);
     join_runs(keys, ids, minima, maxima)
 }
 
-// Writes the ranges of up to 256 labels: less work space is to be cleared for them.
-fn ranges_few(
+// Writes the ranges of labels by way of N keys: fewer are to be cleared for few labels.
+fn ranges_within<const N: usize>(
     chains: &[u32],
     seqs: &[u32],
     ids: &mut [u32],
     minima: &mut [u32],
     maxima: &mut [u32],
 ) -> usize
-    requires seqs_len { (length seqs.now ≡ length chains.now) × (length chains.now ≤ 256) }
+    requires seqs_len { (length seqs.now ≡ length chains.now) × ((length chains.now ≤ N) × (N ≤ 1024)) }
     requires chains_in_bounds { (length chains.now ≤ length ids.old) × ((length chains.now ≤ length minima.old) × (length chains.now ≤ length maxima.old)) }
     ensures value { result ≡ length (ranges_of (labels_of chains.now seqs.now)) }
     ensures maxima_after { range_columns ids.new minima.new maxima.new
         ≡ ranges_over (ranges_of (labels_of chains.now seqs.now)) (range_columns ids.old minima.old maxima.old) }
 {
-    let n = chains.len();
-    let mut keys = [0u64; 256];
-    let mut w = [0u64; 256];
-    ranges_by(chains, seqs, &mut keys[..n], &mut w, ids, minima, maxima)
-}
-
-// Writes the ranges of labels.
-fn ranges_many(
-    chains: &[u32],
-    seqs: &[u32],
-    ids: &mut [u32],
-    minima: &mut [u32],
-    maxima: &mut [u32],
-) -> usize
-    requires seqs_len { (length seqs.now ≡ length chains.now) × (length chains.now ≤ 1024) }
-    requires chains_in_bounds { (length chains.now ≤ length ids.old) × ((length chains.now ≤ length minima.old) × (length chains.now ≤ length maxima.old)) }
-    ensures value { result ≡ length (ranges_of (labels_of chains.now seqs.now)) }
-    ensures maxima_after { range_columns ids.new minima.new maxima.new
-        ≡ ranges_over (ranges_of (labels_of chains.now seqs.now)) (range_columns ids.old minima.old maxima.old) }
-{
-    let n = chains.len();
-    let mut keys = [0u64; 1024];
-    let mut w = [0u64; 1024];
-    ranges_by(chains, seqs, &mut keys[..n], &mut w, ids, minima, maxima)
+    let mut keys = [0u64; N];
+    ranges_by(chains, seqs, &mut keys[..chains.len()], ids, minima, maxima)
 }
 
 // Writes each chain's least and greatest seq, by rising chain id, and answers how many chains there are.
@@ -145,7 +117,7 @@ pub fn ranges_of(
         ≡ ranges_over (ranges_of (labels_of chains.now seqs.now)) (range_columns ids.old minima.old maxima.old) }
 {
     if chains.len() <= 256 {
-        return ranges_few(chains, seqs, ids, minima, maxima);
+        return ranges_within::<256>(chains, seqs, ids, minima, maxima);
     }
-    ranges_many(chains, seqs, ids, minima, maxima)
+    ranges_within::<1024>(chains, seqs, ids, minima, maxima)
 }

@@ -1,19 +1,18 @@
 // Whether links fall nowhere.
-ghost use Rattle.std.specs.Prelude.{◌≡◌, length};
-ghost use Rattle.cover.specs.Cover.{links_of};
+ghost use Rattle.std.specs.Prelude.{◌≡◌};
+ghost use Rattle.cover_rows.specs.Links.{links_in};
 ghost use Rattle.cover_sort.specs.Kept.{links_level};
 
+use cover_rows::Links;
+
 // Whether no link stands before the one before it.
-pub fn links_level(a: &[u32], b: &[u32], c: &[u32], d: &[u32]) -> bool
-    requires { (length b.now ≡ length a.now) × ((length c.now ≡ length a.now) × (length d.now ≡ length a.now)) }
-    ensures { result ≡ links_level (links_of a.now b.now c.now d.now) }
+pub fn links_level(links: &Links<'_>) -> bool
+    ensures { result ≡ links_level (links_in links.now) }
 {
-    let mut i = 0;
-    while i + 1 < a.len() {
-        if cover_rows::row_less(a, b, c, d, i + 1, i) {
+    for i in 1..links.from_chains.len() {
+        if links.is_less(i, i - 1) {
             return false;
         }
-        i += 1;
     }
     true
 }

@@ -1,5 +1,5 @@
 -- Encoding: the loop that writes differences, and the verdict, return by return.
-use Rattle.std.proofs.Common.{◌≡◌, ℕ, ◌+◌, ◌<◌, ◌≤◌, Bool, true, false, not, ◌&&◌, eqb, ltb, List, [], ◌∷◌, length, get_or, drop, set, sym, ap, ◌∙◌, add-one, arith, drop_of_length-le, drop-cons, eq-eqb, ne_eqb, eqb-true}
+use Rattle.std.proofs.Common.{◌≡◌, ℕ, ◌+◌, ◌<◌, ◌≤◌, Bool, true, false, not, ◌&&◌, eqb, ltb, List, [], ◌∷◌, length, get_or, drop, set, sym, ap, ◌∙◌, add-one, arith, drop_of_length-le, drop-cons, eq-eqb, ne_eqb, eqb-true, Err, Ok}
 use mathlib.Core.Option.{none}
 use lib.Seq.{sets}
 use borrow.Author.Tests.{not-true, not-false}
@@ -11,7 +11,6 @@ use Rattle.columns.specs.declared.refusal.Refusal.TheVariants.{OverRecords, Slic
 use Rattle.columns.proofs.FirstBroken.{passes}
 use Rattle.cover.specs.Cover.{LinkColumns, links_of, even_columns, wrapping_less, differences, columns_of, encode}
 use Rattle.cover.specs.Answers.{link_columns, link_lengths, for_records, over, counted, columns_over, columns_after}
-use Rattle.cover.specs.declared.answer.Answer.TheVariants.{Refused, Done}
 use Rattle.cover.proofs.Stored.{length-differences}
 use Rattle.cover_rows.proofs.limits.Anyone.{any-nil}
 use Rattle.cover_rows.proofs.Columned.{over-sets}
@@ -104,7 +103,7 @@ module _ (s b c d ns : List ℕ) where
     unfolding encode
     over-limit h = first-refuses k OverRecords _ _ (limits-records (link_lengths l) [] (for_records ns) (sym e ∙ h))
 
-    pub encode-over-told : t ≡ true → Refused OverRecords ≡ counted (λ x. x.from_chains) (encode (link_columns s b c d) (for_records ns))
+    pub encode-over-told : t ≡ true → Err OverRecords ≡ counted (λ x. x.from_chains) (encode (link_columns s b c d) (for_records ns))
     encode-over-told h = counted-refused _ _ (over-limit h)
 
     pub encode-over-kept : (o : LinkColumns) → t ≡ true → o ≡ columns_after (encode (link_columns s b c d) (for_records ns)) o
@@ -115,7 +114,7 @@ module _ (s b c d ns : List ℕ) where
       unfolding encode
       too_short m = first-refuses k SliceShort _ _ (limits-short (link_lengths l) [] (for_records ns) (sym e ∙ h) (any-nil _) (sym f ∙ m))
 
-      pub encode-short-told : u ≡ true → Refused SliceShort ≡ counted (λ x. x.from_chains) (encode (link_columns s b c d) (for_records ns))
+      pub encode-short-told : u ≡ true → Err SliceShort ≡ counted (λ x. x.from_chains) (encode (link_columns s b c d) (for_records ns))
       encode-short-told m = counted-refused _ _ (too_short m)
 
       pub encode-short-kept : (o : LinkColumns) → u ≡ true → o ≡ columns_after (encode (link_columns s b c d) (for_records ns)) o
@@ -129,7 +128,7 @@ module _ (s b c d ns : List ℕ) where
         unfolding encode
         uneven p = next-rule k (refused CoverForm) _ _ within (first-refuses k CoverForm _ _ (refuse-not CoverForm (even_columns l) (sym g ∙ not-true v p)))
 
-        pub encode-uneven-told : not v ≡ true → Refused CoverForm ≡ counted (λ x. x.from_chains) (encode (link_columns s b c d) (for_records ns))
+        pub encode-uneven-told : not v ≡ true → Err CoverForm ≡ counted (λ x. x.from_chains) (encode (link_columns s b c d) (for_records ns))
         encode-uneven-told p = counted-refused _ _ (uneven p)
 
         pub encode-uneven-kept : (o : LinkColumns) → not v ≡ true → o ≡ columns_after (encode (link_columns s b c d) (for_records ns)) o
@@ -141,7 +140,7 @@ module _ (s b c d ns : List ℕ) where
             next-rule k (accepted k) _ _ within (next-rule k (accepted k) _ _ (passes CoverForm (even_columns l) (sym g ∙ not-false v p)) (no-rule k))
             ∙ ap accepted (stored s b c d (sym g ∙ not-false v p))
 
-        pub encode-told : not v ≡ false → Done (length s) ≡ counted (λ x. x.from_chains) (encode (link_columns s b c d) (for_records ns))
+        pub encode-told : not v ≡ false → Ok (length s) ≡ counted (λ x. x.from_chains) (encode (link_columns s b c d) (for_records ns))
         encode-told p = counted-done _ _ (link_columns (differences 0 s) b c d) (done p) (sym (length-differences 0 s))
 
         pub encode-written : (x y : LinkColumns) → y ≡ columns_over (link_columns (differences 0 s) b c d) x → not v ≡ false → y ≡ columns_after (encode (link_columns s b c d) (for_records ns)) x

@@ -1,6 +1,7 @@
+use Rattle.std.proofs.Common.{rules}
 use Rattle.cover_links.specs.Links.{least}
 use Rattle.cover_links.proofs.least_of.Goals as goal
 
 pub returns : goal.returns
 unfolding least
-returns c = cc
+returns c = search rules

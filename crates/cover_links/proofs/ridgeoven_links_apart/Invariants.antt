@@ -1,5 +1,5 @@
 -- The first i of each column are written; each column and the links are as long as the links that are carried.
-use Rattle.std.proofs.Common.{◌-◌, ◌≡◌, take, ◌≤◌, length}
+use Rattle.std.proofs.Common.{◌≡◌, take, ◌≤◌, length}
 use Rattle.cover_links.specs.Links.{from_chain_of, from_seq_of, to_chain_of, to_seq_of}
 use Rattle.cover_links.proofs.Written.{column}
 use Rattle.cover_links.proofs.ridgeoven_links_apart.Given as goal
@@ -17,6 +17,3 @@ invariant-loop-i l = record {
   c_is : l.c ≡ column to_chain_of (take l.n l.links) l.fn.c l.i;
   d_is : l.d ≡ column to_seq_of (take l.n l.links) l.fn.d l.i;
 }
-
-abbrev pub decreases-loop-i : goal.decreases-loop-i
-decreases-loop-i l = l.n - l.i

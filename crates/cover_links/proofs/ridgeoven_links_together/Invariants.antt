@@ -1,5 +1,5 @@
 -- The first i of the links are written; each column and the links are as long as the links that are carried.
-use Rattle.std.proofs.Common.{◌-◌, ◌≡◌, ◌≤◌, length}
+use Rattle.std.proofs.Common.{◌≡◌, ◌≤◌, length}
 use Rattle.cover_links.specs.Links.{link_in, places}
 use Rattle.cover_links.proofs.Written.{column}
 use Rattle.cover_links.proofs.ridgeoven_links_together.Given as goal
@@ -14,6 +14,3 @@ invariant-loop-i l = record {
   in_d : l.n ≤ length l.d;
   links_is : l.links ≡ column (link_in l.a l.b l.c l.d) (places l.n) l.fn.links l.i;
 }
-
-abbrev pub decreases-loop-i : goal.decreases-loop-i
-decreases-loop-i l = l.n - l.i

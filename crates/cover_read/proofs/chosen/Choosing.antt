@@ -15,7 +15,6 @@ use Rattle.lists.specs.Order.{level_above, not_falling, sort}
 use Rattle.lists.proofs.Tests.{both}
 use Rattle.lists.proofs.Rising.{sort-level, length-sort}
 use Rattle.lists.proofs.Flat.{up_from-snoc}
-use Rattle.arrays.specs.sorting.Ordered.{part_sorted}
 use Rattle.cover.specs.Answers.{over}
 use Rattle.arrays.specs.searching.Place.{place_of}
 use Rattle.cover_rows.proofs.Columned.{copies, take-over}
@@ -44,6 +43,9 @@ module _ {t : ℕ} (x i : ℕ) (l : List ℕ) (e : t ≡ i + run_of x (drop i l)
   pub run_ends : length l ≤ i → i ≡ t
   unfolding run_of
   run_ends h = rw (e, drop_of_length-le l {i = i} h) (omega arith)
+
+  pub run-past : length l ≤ i → i ≤ length l → length l ≡ t
+  run-past h k = let z : length l ≡ i = omega arith in z ∙ run_ends h
 
   module _ (y : ℕ) (f : y ≡ get_or l i 0) (h : i < length l) where
     pub run-stops : (y ≡ x → ⊥) → i ≡ t
@@ -101,10 +103,9 @@ widens i vs out x e f h = rw f (copies i vs out e h)
 -- ── chains in order ──────────────────────────────────────────────────────────────────────────
 
 module _ (chains out out' : List ℕ) (e : out' ≡ over chains out) where
-  pub chains-sorted : {r : List ℕ} → r ≡ part_sorted 0 (length chains) out' → r ≡ over (sort chains) out
-  unfolding over part_sorted
-  chains-sorted f =
-      rw (f, e, take_at chains (drop (length chains) out) (length chains) refl, drop_at chains (drop (length chains) out) (length chains) refl, length-sort chains)
+  pub chains-sorted : {q : List ℕ} → q ≡ sort (take (length chains) out') → q ++ drop (length chains) out' ≡ over (sort chains) out
+  unfolding over
+  chains-sorted f = rw (f, e, take_at chains (drop (length chains) out) (length chains) refl, drop_at chains (drop (length chains) out) (length chains) refl, length-sort chains)
 
 module _ (chains out out' : List ℕ) (e : out' ≡ over (sort chains) out) where
   front : take (length chains) out' ≡ sort chains

@@ -1,4 +1,5 @@
 -- The links question's verdict, return by return.
+use Rattle.std.specs.Prelude.{Err, Ok}
 use mathlib.Core.Path.{◌≡◌, sym, ◌∙◌}
 use mathlib.Core.Bool.{Bool, true, false, not}
 use mathlib.Core.List.{List, [], ◌∷◌}
@@ -16,7 +17,6 @@ use Rattle.cover.specs.Chains.{Link}
 use Rattle.cover.specs.Cover.{LinkColumns, links_ok, link_rules, stored_links}
 use Rattle.cover.specs.Questions.{chain_links}
 use Rattle.cover.specs.Answers.{link_lengths, for_records, counted, links_over, links_after}
-use Rattle.cover.specs.declared.answer.Answer.TheVariants.{Refused, Done}
 use Rattle.cover_rows.proofs.limits.Anyone.{any_here, any-on, any-nil}
 use Rattle.cover_rows.proofs.limits.Verdicts.{counted-refused, counted-done, columns-kept, columns-written, limits-records, limits-numbers, limits-short, limits-none}
 use Rattle.cover_rows.proofs.limits.Verdicts.{first-refuses, next-rule, no-rule, refuse-not}
@@ -31,7 +31,7 @@ module _ (l : LinkColumns) (chains ns : List ℕ) where
     unfolding chain_links
     over h = first-refuses _ OverRecords _ _ (limits-records (link_lengths l) (length chains ∷ []) (for_records ns) (sym e ∙ h))
 
-    pub over-told : t ≡ true → Refused OverRecords ≡ counted (λ x. x) (chain_links l chains (for_records ns))
+    pub over-told : t ≡ true → Err OverRecords ≡ counted (λ x. x) (chain_links l chains (for_records ns))
     over-told h = counted-refused _ _ (over h)
 
     pub over-kept : (o : LinkColumns) → t ≡ true → o ≡ links_after (λ x. x) (chain_links l chains (for_records ns)) o
@@ -42,7 +42,7 @@ module _ (l : LinkColumns) (chains ns : List ℕ) where
       unfolding chain_links
       many k = first-refuses _ OverNumbers _ _ (limits-numbers (link_lengths l) (length chains ∷ []) (for_records ns) (sym e ∙ h) (sym (any_here 4096 (length chains) [] k)))
 
-      pub many-told : 4096 < length chains → Refused OverNumbers ≡ counted (λ x. x) (chain_links l chains (for_records ns))
+      pub many-told : 4096 < length chains → Err OverNumbers ≡ counted (λ x. x) (chain_links l chains (for_records ns))
       many-told k = counted-refused _ _ (many k)
 
       pub many-kept : (o : LinkColumns) → 4096 < length chains → o ≡ links_after (λ x. x) (chain_links l chains (for_records ns)) o
@@ -56,7 +56,7 @@ module _ (l : LinkColumns) (chains ns : List ℕ) where
         unfolding chain_links
         no_room m = first-refuses _ SliceShort _ _ (limits-short (link_lengths l) (length chains ∷ []) (for_records ns) (sym e ∙ h) few-chains (sym f ∙ m))
 
-        pub short-told : u ≡ true → Refused SliceShort ≡ counted (λ x. x) (chain_links l chains (for_records ns))
+        pub short-told : u ≡ true → Err SliceShort ≡ counted (λ x. x) (chain_links l chains (for_records ns))
         short-told m = counted-refused _ _ (no_room m)
 
         pub short-kept : (o : LinkColumns) → u ≡ true → o ≡ links_after (λ x. x) (chain_links l chains (for_records ns)) o
@@ -70,7 +70,7 @@ module _ (l : LinkColumns) (chains ns : List ℕ) where
           unfolding chain_links link_rules
           broken p = next-rule _ (refused CoverForm) _ _ within (first-refuses _ CoverForm _ _ (refuse-not CoverForm (links_ok l) (sym g ∙ not-true w p)))
 
-          pub form-told : not w ≡ true → Refused CoverForm ≡ counted (λ x. x) (chain_links l chains (for_records ns))
+          pub form-told : not w ≡ true → Err CoverForm ≡ counted (λ x. x) (chain_links l chains (for_records ns))
           form-told p = counted-refused _ _ (broken p)
 
           pub form-kept : (o : LinkColumns) → not w ≡ true → o ≡ links_after (λ x. x) (chain_links l chains (for_records ns)) o
@@ -80,7 +80,7 @@ module _ (l : LinkColumns) (chains ns : List ℕ) where
           unfolding chain_links link_rules links_from
           done p = next-rule _ (accepted found) _ _ within (next-rule _ (accepted found) _ _ (passes CoverForm (links_ok l) (sym g ∙ not-false w p)) (no-rule found))
 
-          pub found-told : not w ≡ false → (k : ℕ) → k ≡ length (links_from chains (stored_links l)) → Done k ≡ counted (λ x. x) (chain_links l chains (for_records ns))
+          pub found-told : not w ≡ false → (k : ℕ) → k ≡ length (links_from chains (stored_links l)) → Ok k ≡ counted (λ x. x) (chain_links l chains (for_records ns))
           found-told p k q = counted-done _ _ found (done p) q
 
           pub found-written : not w ≡ false → (o o' : LinkColumns) → o' ≡ links_over (links_from chains (stored_links l)) o → o' ≡ links_after (λ x. x) (chain_links l chains (for_records ns)) o

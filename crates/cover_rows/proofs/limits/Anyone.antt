@@ -5,10 +5,17 @@ use mathlib.Core.List.{List, [], ◌∷◌}
 use Prim.Native.Nat.{ℕ, ◌≤◌, ◌<◌}
 use lib.Dec.{ltb}
 use borrow.Author.Tests.{lt-ltb, le-ltb, ltb-false}
+use Rattle.std.specs.List.{list_any}
 use Rattle.lists.specs.Lists.{any}
 use Rattle.lists.proofs.Once.{or-is-false}
 use Rattle.columns.specs.Refusal.{short}
 use Rattle.cover.specs.Answers.{for_records}
+
+-- the library's test and ours
+pub any-listed : (p : ℕ → Bool) (xs : List ℕ) → list_any p xs ≡ any p xs
+unfolding any
+any-listed p [] = refl
+any-listed p (x ∷ xs) = rw (any-listed p xs)
 
 pub any_here : (m x : ℕ) (xs : List ℕ) → m < x → true ≡ any (ltb m) (x ∷ xs)
 unfolding any
@@ -27,6 +34,11 @@ unfolding any
 any-nil p = refl
 
 -- ── slices lent for records ──────────────────────────────────────────────────────────────────
+
+pub short-listed : (xs : List ℕ) → list_any (λ n. ltb n 1024) xs ≡ any short (for_records xs)
+unfolding any short for_records
+short-listed [] = refl
+short-listed (x ∷ xs) = rw (short-listed xs)
 
 pub short-here : (x : ℕ) (xs : List ℕ) → x < 1024 → true ≡ any short (for_records (x ∷ xs))
 unfolding any short for_records

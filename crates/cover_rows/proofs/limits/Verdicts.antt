@@ -1,4 +1,5 @@
 -- Limits and verdicts: which refusal comes first.
+use Rattle.std.specs.Prelude.{Err, Ok}
 use mathlib.Core.Path.{◌≡◌, refl}
 use mathlib.Core.Bool.{Bool, true, false, not}
 use mathlib.Core.List.{List, [], ◌∷◌}
@@ -14,7 +15,6 @@ use Rattle.columns.specs.declared.refusal.Refusal.TheVariants.{SliceShort, OverR
 use Rattle.cover.specs.Chains.{Link}
 use Rattle.cover.specs.Cover.{LinkColumns}
 use Rattle.cover.specs.Answers.{counted, links_over, links_after}
-use Rattle.cover.specs.declared.answer.Answer.TheVariants.{Refused, Done}
 
 module _ (records columns : List ℕ) (lent : List Lent) where
   pub limits-records : any (ltb max_records) records ≡ true → limits records columns lent ≡ some OverRecords
@@ -56,11 +56,11 @@ refuse-not r t e = rw e
 
 -- a refused call answers its refusal, another how many records it wrote
 module _ {A B : Type 0} (f : A → List B) (v : Verdict A) where
-  pub counted-refused : {r : Refusal} → v ≡ refused r → Refused r ≡ counted f v
+  pub counted-refused : {r : Refusal} → v ≡ refused r → Err r ≡ counted f v
   unfolding counted
   counted-refused e = rw e
 
-  pub counted-done : (a : A) {n : ℕ} → v ≡ accepted a → n ≡ length (f a) → Done n ≡ counted f v
+  pub counted-done : (a : A) {n : ℕ} → v ≡ accepted a → n ≡ length (f a) → Ok n ≡ counted f v
   unfolding counted
   counted-done a e g = rw (e, g)
 

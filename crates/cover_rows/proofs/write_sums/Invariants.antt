@@ -1,5 +1,5 @@
 use mathlib.Core.Path.{◌≡◌}
-use Prim.Native.Nat.{◌-◌, ◌≤◌}
+use Prim.Native.Nat.{◌≤◌}
 use mathlib.Core.Bool.{true}
 use lib.ListN.{length, drop}
 use lib.Seq.{sets}
@@ -12,6 +12,3 @@ abbrev pub invariant-loop-i : goal.invariant-loop-i
 invariant-loop-i l =
     (l.i ≤ length l.differences) × (length l.out ≡ length l.initial.out) × (all_fit (sums l.sum (drop l.i l.differences)) ≡ true)
     × (over (sums 0 l.differences) l.initial.out ≡ sets l.out l.i (sums l.sum (drop l.i l.differences)))
-
-abbrev pub decreases-loop-i : goal.decreases-loop-i
-decreases-loop-i l = length l.differences - l.i

@@ -1,4 +1,5 @@
-use Rattle.cover_read.proofs.chosen.Choosing.{put-start, put-told, run_ends, run-stops, run-goes, put_more}
+use Rattle.std.proofs.Common.{◌≡◌, length, arith}
+use Rattle.cover_read.proofs.chosen.Choosing.{put-start, put-told, run-past, run-stops, run-goes, put_more}
 use borrow.Author.Rules.{rules}
 use Rattle.cover_read.proofs.chosen.put_run.Goals as goal
 
@@ -15,7 +16,10 @@ pub loop-i-preserved : goal.loop-i-preserved
 loop-i-preserved c = (search rules, search rules, search rules, search rules, search run-goes, search put_more)
 
 pub returns-clause-lower_bound : goal.returns-clause-lower_bound
-returns-clause-lower_bound c = (search rules, (search rules, search run_ends))
+returns-clause-lower_bound c = (search rules, (search rules, search run-past))
 
 pub returns-clause-rows_after : goal.returns-clause-rows_after
-returns-clause-rows_after c = search put-told
+returns-clause-rows_after c =
+    let inv = c.loop-i.invariant in
+    let end : length c.args.from.now ≡ c.loop-i.i = omega arith in
+    rw end (put-told _ _ _ inv.2 inv.5)

@@ -11,6 +11,3 @@ invariant-loop-i l =
     (l.start ≤ l.i) × (l.i ≤ length l.from) × (l.at ≡ l.k + (l.i - l.start)) × (length l.rows ≡ length l.initial.rows)
     × (l.start + run_of l.chain (drop l.start l.from) ≡ l.i + run_of l.chain (drop l.i l.from))
     × (take l.at l.rows ≡ take l.k l.initial.rows ++ up_from l.start (l.i - l.start))
-
-abbrev pub decreases-loop-i : goal.decreases-loop-i
-decreases-loop-i l = length l.from - l.i

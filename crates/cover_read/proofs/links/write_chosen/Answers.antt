@@ -6,11 +6,15 @@ use Rattle.cover_read.proofs.links.write_chosen.Goals as goal
 pub write_sums-requires : goal.write_sums-requires
 write_sums-requires c = (search rules, search ok-sums)
 
-pub slice_bounds-pick_chosen-end : goal.slice_bounds-pick_chosen-end
-slice_bounds-pick_chosen-end c = search sums-count
+pub slice_bounds-links-end : goal.slice_bounds-links-end
+slice_bounds-links-end c = search sums-count
 
-pub pick_chosen-requires-clause-fs_len : goal.pick_chosen-requires-clause-fs_len
-pick_chosen-requires-clause-fs_len c = (search even-seqs, (search even-chains, search even-ends))
+pub invariant_of-links : goal.invariant_of-links
+invariant_of-links c = record {
+  from_even = search (even-seqs, even-chains, even-ends);
+  to_even = search (even-seqs, even-chains, even-ends);
+  ends_even = search (even-seqs, even-chains, even-ends);
+}
 
 pub pick_chosen-requires-clause-from_value : goal.pick_chosen-requires-clause-from_value
 pick_chosen-requires-clause-from_value c = (search from-level, (search from-room, search rules))

@@ -1,8 +1,8 @@
 use Rattle.cover_read.proofs.Windows.{window-over, window-form, window-fits, window-told}
 use Rattle.cover_read.proofs.window.may_hold_chain.Goals as goal
 
-pub returns-then-three_over : goal.returns-then-three_over
-returns-then-three_over c = search window-over
+pub returns-then-any_over : goal.returns-then-any_over
+returns-then-any_over c = search window-over
 
 pub returns-then-not-ranges_fit : goal.returns-then-not-ranges_fit
 returns-then-not-ranges_fit c = search window-form
