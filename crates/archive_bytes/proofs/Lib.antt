@@ -2,3 +2,4 @@ pub mod Numbers
 pub mod Cells
 pub mod Twos
 pub mod Several
+pub mod Listed

@@ -1,6 +1,7 @@
 // Big-endian numbers in lent bytes: one number read or written at a place that its caller has looked at.
 #![tactic(auto)]
 
+pub mod big_endian;
 pub mod number_columns;
 
 ghost use Rattle.std.specs.Prelude.{◌≡◌, ◌∷◌, [], ◌+◌, ◌≤◌, ◌<◌, ◌^◌, length};

@@ -5,113 +5,91 @@ ghost use Rattle.columns.specs.Answers.{ruling};
 ghost use Rattle.archive_bytes.specs.After.{left};
 ghost use Rattle.archive_bytes.specs.Bytes.{bytes_of, unsigned_of};
 ghost use Rattle.archive_cursor.specs.Short.{no_room};
-ghost use Rattle.archive_cursor.specs.cursor.Cursor.{number_at, delta_at};
+ghost use Rattle.archive_cursor.specs.cursor.Cursor.{read_as, number_at, delta_at};
 
-use archive_bytes::{load_u32, load_u64, signed, store_u8, store_u32, store_u64, unsigned, wide};
-use columns::refusal::{Refusal, Ruling};
+use archive_bytes::big_endian::BigEndian;
+use archive_bytes::number_columns::fits;
+use archive_bytes::store_u8;
+use columns::refusal::Refusal;
 
-// An unsigned number at a place, or why there is none.
-#[derive(Clone, Copy)]
-pub enum Number {
-    Is(u64),
-    Refused(Refusal),
+fn number<T: BigEndian>(bytes: &[u8], at: usize) -> Result<T, Refusal>
+    ensures { result ≡ read_as T.number_of T.WIDTH bytes.now at }
+{
+    if !fits(bytes.len(), at, 1, T::WIDTH) {
+        return Err(Refusal::RecordBroken);
+    }
+    Ok(T::load(bytes, at))
 }
 
-// A signed number at a place, or why there is none.
-#[derive(Clone, Copy)]
-pub enum Delta {
-    Signed(i64),
-    Refused(Refusal),
+// Writes a number, if there is room.
+fn put<T: BigEndian>(out: &mut [u8], at: usize, n: T) -> Result<(), Refusal>
+    ensures value { result ≡ ruling (no_room T.WIDTH out.old at) }
+    ensures out_after { out.new ≡ left (no_room T.WIDTH out.old at) out.old (sets out.old at (bytes_of T.WIDTH (T.bits_of n))) }
+{
+    if !fits(out.len(), at, 1, T::WIDTH) {
+        return Err(Refusal::SliceShort);
+    }
+    n.store(out, at);
+    Ok(())
 }
 
-pub fn u8_at(bytes: &[u8], at: usize) -> Number
+pub fn u8_at(bytes: &[u8], at: usize) -> Result<u64, Refusal>
     ensures { result ≡ number_at 1 bytes.now at }
 {
     if bytes.len() <= at {
-        return Number::Refused(Refusal::RecordBroken);
+        return Err(Refusal::RecordBroken);
     }
-    Number::Is(wide(bytes[at]))
+    Ok(u64::from(bytes[at]))
 }
 
-pub fn u32_at(bytes: &[u8], at: usize) -> Number
+pub fn u32_at(bytes: &[u8], at: usize) -> Result<u64, Refusal>
     ensures { result ≡ number_at 4 bytes.now at }
 {
-    if bytes.len() < 4 {
-        return Number::Refused(Refusal::RecordBroken);
-    }
-    if bytes.len() - 4 < at {
-        return Number::Refused(Refusal::RecordBroken);
-    }
-    Number::Is(load_u32(bytes, at))
+    let n: u32 = number(bytes, at)?;
+    Ok(u64::from(n))
 }
 
-pub fn u64_at(bytes: &[u8], at: usize) -> Number
+pub fn u64_at(bytes: &[u8], at: usize) -> Result<u64, Refusal>
     ensures { result ≡ number_at 8 bytes.now at }
 {
-    if bytes.len() < 8 {
-        return Number::Refused(Refusal::RecordBroken);
-    }
-    if bytes.len() - 8 < at {
-        return Number::Refused(Refusal::RecordBroken);
-    }
-    Number::Is(load_u64(bytes, at))
+    number(bytes, at)
 }
 
-pub fn i64_at(bytes: &[u8], at: usize) -> Delta
+pub fn i64_at(bytes: &[u8], at: usize) -> Result<i64, Refusal>
     ensures { result ≡ delta_at bytes.now at }
 {
-    if bytes.len() < 8 {
-        return Delta::Refused(Refusal::RecordBroken);
-    }
-    if bytes.len() - 8 < at {
-        return Delta::Refused(Refusal::RecordBroken);
-    }
-    Delta::Signed(signed(load_u64(bytes, at)))
+    number(bytes, at)
 }
 
 // Writes a byte, if there is room.
-pub fn put_u8(out: &mut [u8], at: usize, b: u8) -> Ruling
+pub fn put_u8(out: &mut [u8], at: usize, b: u8) -> Result<(), Refusal>
     ensures value { result ≡ ruling (no_room 1 out.old at) }
     ensures out_after { out.new ≡ left (no_room 1 out.old at) out.old (sets out.old at (b ∷ [])) }
 {
     if out.len() <= at {
-        return Ruling::Broken(Refusal::SliceShort);
+        return Err(Refusal::SliceShort);
     }
     store_u8(out, at, b);
-    Ruling::Kept
+    Ok(())
 }
 
-pub fn put_u32(out: &mut [u8], at: usize, n: u32) -> Ruling
+pub fn put_u32(out: &mut [u8], at: usize, n: u32) -> Result<(), Refusal>
     ensures value { result ≡ ruling (no_room 4 out.old at) }
     ensures out_after { out.new ≡ left (no_room 4 out.old at) out.old (sets out.old at (bytes_of 4 n)) }
 {
-    if out.len() < 4 {
-        return Ruling::Broken(Refusal::SliceShort);
-    }
-    if out.len() - 4 < at {
-        return Ruling::Broken(Refusal::SliceShort);
-    }
-    store_u32(out, at, n as u64);
-    Ruling::Kept
+    put(out, at, n)
 }
 
-pub fn put_u64(out: &mut [u8], at: usize, n: u64) -> Ruling
+pub fn put_u64(out: &mut [u8], at: usize, n: u64) -> Result<(), Refusal>
     ensures value { result ≡ ruling (no_room 8 out.old at) }
     ensures out_after { out.new ≡ left (no_room 8 out.old at) out.old (sets out.old at (bytes_of 8 n)) }
 {
-    if out.len() < 8 {
-        return Ruling::Broken(Refusal::SliceShort);
-    }
-    if out.len() - 8 < at {
-        return Ruling::Broken(Refusal::SliceShort);
-    }
-    store_u64(out, at, n);
-    Ruling::Kept
+    put(out, at, n)
 }
 
-pub fn put_i64(out: &mut [u8], at: usize, x: i64) -> Ruling
+pub fn put_i64(out: &mut [u8], at: usize, x: i64) -> Result<(), Refusal>
     ensures value { result ≡ ruling (no_room 8 out.old at) }
     ensures out_after { out.new ≡ left (no_room 8 out.old at) out.old (sets out.old at (bytes_of 8 (unsigned_of x))) }
 {
-    put_u64(out, at, unsigned(x))
+    put(out, at, x)
 }

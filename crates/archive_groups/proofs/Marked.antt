@@ -1,4 +1,5 @@
 -- Group numbers met so far: one file more, and each answer.
+use Rattle.std.specs.Prelude.{None, Some, Option}
 use mathlib.Core.Path.{◌≡◌, refl, sym, ◌∙◌, ap}
 use mathlib.Core.Bool.{Bool, true, false, ◌||◌, false≢true}
 use mathlib.Core.List.{List, [], ◌∷◌, ◌++◌, foldl, foldl-append, append_assoc, append-nil}
@@ -21,8 +22,6 @@ use Rattle.archive.specs.Parse.{file, files, parse}
 use Rattle.archive_read.specs.bodies.View.{head_in}
 use Rattle.archive_read.specs.Layout.{front_in, file_from, file_in, file_of, AfterFile}
 use Rattle.archive_read.specs.declared.records.FileAt.{FileAt}
-use Rattle.archive_read.specs.declared.records.FileRead.{FileRead}
-use Rattle.archive_read.specs.declared.records.FileRead.TheVariants.{FileIs, NoFile}
 use Rattle.archive_read.proofs.AtFiles.{files-end, file-past}
 use Rattle.archive_groups.specs.Groups.{files_of, is_read, groups_of, groups_over}
 
@@ -128,18 +127,18 @@ module _ (l : List ℕ) (k m p : ℕ) (s : List ℕ) (st : Still l k s (files ki
       let e = st.same ∙ ap (λ x. foldl add s (groups_of x)) (files-end (length l - m) l p h) in
       sym (le-ltb max_groups (length (once (up_from 0 k ++ groups_of (parse kinds l)))) (omega (arith, ap length e)))
 
-  module _ (h : p < length l) (g : m ≤ p) (x : FileRead) (d : file_of l x ≡ file kinds l p) where
+  module _ (h : p < length l) (g : m ≤ p) (x : Option FileAt) (d : file_of l x ≡ file kinds l p) where
     z : length l - m ≡ suc (length l - (m + 1))
     z = omega arith
 
-    never : x ≡ NoFile → false ≡ true
+    never : x ≡ None → false ≡ true
     unfolding files ◌>>=◌ is_read
     never f = rw (z, lt-leb (length l) p h, ← d, f) at st.read
 
-    pub no-file : x ≡ NoFile → false ≡ groups_over k (files_of (parse kinds l))
+    pub no-file : x ≡ None → false ≡ groups_over k (files_of (parse kinds l))
     no-file f = absurd (false≢true (never f))
 
-    module _ {f : FileAt} (y : x ≡ FileIs f) where
+    module _ {f : FileAt} (y : x ≡ Some f) where
       opened : files kinds (length l - m) l p ≡ and_then (files kinds (length l - (m + 1)) l f.tail.end) (λ fs q. got (file_in l f ∷ fs) q)
       unfolding files ◌>>=◌
       opened = rw (z, lt-leb (length l) p h, ← d, y)
@@ -172,14 +171,14 @@ module _ (l : List ℕ) (k n m p : ℕ) (list : List ℕ) (few : k + n ≤ 16) (
   pub none_over : length l ≤ p → false ≡ groups_over k (files_of (parse kinds l))
   none_over h = few-left l k m p (up_from 0 k ++ take n list) st h (omega (arith, length-append (up_from 0 k) (take n list), length-up_from 0 k, length-take-le n list (omega arith)))
 
-  pub over-now : {r g : ℕ} (list' : List ℕ) (x : FileRead) {f : FileAt} → p < length l → m ≤ p → file_of l x ≡ file kinds l p → x ≡ FileIs f
+  pub over-now : {r g : ℕ} (list' : List ℕ) (x : Option FileAt) {f : FileAt} → p < length l → m ≤ p → file_of l x ≡ file kinds l p → x ≡ Some f
       → up_from 0 k ++ take r list' ≡ add (up_from 0 k ++ take n list) g → g ≡ f.front.head.group → r ≤ n + 1 → length list' ≡ 17 → 16 < k + r → true ≡ groups_over k (files_of (parse kinds l))
   over-now {r} list' x {f} h j d y a b c e o =
       too_many l k r list' (files kinds (length l - (m + 1)) l f.tail.end) (next l k m p (up_from 0 k ++ take n list) st h j x d y a b) (omega arith) o
 
 -- ── the loop moves on ────────────────────────────────────────────────────────────────────────
 
-module _ (l : List ℕ) (p : ℕ) (x : FileRead) {f : FileAt} (a : AfterFile l p x) (e : x ≡ FileIs f) where
+module _ (l : List ℕ) (p : ℕ) (x : Option FileAt) {f : FileAt} (a : AfterFile l p x) (e : x ≡ Some f) where
   pub one-file-more : (m : ℕ) → m ≤ p → m + 1 ≤ f.tail.end
   one-file-more m h = omega (arith, file-past l p x a e)
 

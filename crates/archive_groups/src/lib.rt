@@ -7,25 +7,17 @@ ghost use Rattle.lists.specs.Lists.{mem, add, up_from};
 ghost use Rattle.archive.specs.Parse.{parse};
 ghost use Rattle.archive_groups.specs.Groups.{files_of, is_read, groups_over};
 
-use archive_read::records::{FileAt, FileRead, file_at};
-
-fn wide(g: u8) -> usize
-    ensures { result ≡ g }
-{
-    g as usize
-}
+use archive_read::records::{FileAt, file_at};
 
 // Whether the number is among the first n.
 fn among(list: &[u8], n: usize, g: u8) -> bool
     requires { n ≤ length list.now }
     ensures { result ≡ mem g (take n list.now) }
 {
-    let mut i = 0;
-    while i < n {
+    for i in 0..n {
         if list[i] == g {
             return true;
         }
-        i += 1;
     }
     false
 }
@@ -36,7 +28,7 @@ fn with_group(list: &mut [u8], n: usize, k: usize, g: u8) -> usize
     ensures list_after { up_from 0 k ++ take result list.new ≡ add (up_from 0 k ++ take n list.old) g }
     ensures upper_bound { (result ≤ n + 1) × (length list.new ≡ 17) }
 {
-    if wide(g) < k {
+    if usize::from(g) < k {
         return n;
     }
     if among(list, n, g) {
@@ -49,9 +41,7 @@ fn with_group(list: &mut [u8], n: usize, k: usize, g: u8) -> usize
 fn group_of(f: FileAt) -> u8
     ensures { result ≡ f.front.head.group }
 {
-    let h = f.front;
-    let n = h.head;
-    n.group
+    f.front.head.group
 }
 
 // The run holds the groups 0 up to k; the archive's bytes are known not to be broken.
@@ -65,19 +55,18 @@ pub fn groups_over(bytes: &[u8], k: usize) -> bool
     let mut list = [0u8; 17];
     let mut n = 0;
     let mut m: usize = 0;
+    // A place and no index, since it moves by a file's size.
     let mut p = 0;
     while p < bytes.len() {
-        let x = file_at(bytes, p);
-        let FileRead::FileIs(f) = x else {
+        let Some(f) = file_at(bytes, p) else {
             return false;
         };
         n = with_group(&mut list, n, k, group_of(f));
         if 16 < k + n {
             return true;
         }
-        let e = f.tail;
         m += 1;
-        p = e.end;
+        p = f.tail.end;
     }
     false
 }

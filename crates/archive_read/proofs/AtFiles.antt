@@ -1,4 +1,5 @@
 -- The sums over an archive's files: one turn of the loop that adds them up, and each of its answers.
+use Rattle.std.specs.Prelude.{Err, None, Ok, Result, Some, Option}
 use mathlib.Core.Path.{◌≡◌, refl, sym}
 use mathlib.Core.Bool.{Bool, true, false, cond}
 use mathlib.Core.List.{List, [], ◌∷◌}
@@ -9,6 +10,7 @@ use lib.ListN.{length, length-map}
 use borrow.Author.Tests.{le-leb, lt-leb}
 use Rattle.columns.specs.Limits.{kinds}
 use Rattle.lists.specs.Lists.{sum}
+use Rattle.columns.specs.declared.refusal.Refusal.{Refusal}
 use Rattle.columns.specs.declared.refusal.Refusal.TheVariants.{RecordBroken}
 use Rattle.archive.specs.Reader.{Parsed, broken, got, and_then, ◌>>=◌}
 use Rattle.archive.specs.File.{Row, CoverColumns, no_references, File}
@@ -18,11 +20,7 @@ use Rattle.archive_read.specs.Layout.{part_in, front_in, middle_in, tail_in, Unc
 use Rattle.archive_read.specs.Sums.{ranges_in, links_in, totals, totals_of, with_file, Below, plus}
 use Rattle.archive_read.specs.declared.bodies.CoverAt.{CoverAt}
 use Rattle.archive_read.specs.declared.records.FileAt.{FileAt}
-use Rattle.archive_read.specs.declared.records.FileRead.{FileRead}
-use Rattle.archive_read.specs.declared.records.FileRead.TheVariants.{FileIs, NoFile}
 use Rattle.archive_read.specs.declared.files.Totals.{Totals}
-use Rattle.archive_read.specs.declared.files.Summed.{Summed}
-use Rattle.archive_read.specs.declared.files.Summed.TheVariants.{Sums, Refused}
 use Rattle.archive.proofs.Back.{length-several}
 
 -- ── a file's counts are the lengths of its columns ───────────────────────────────────────────
@@ -97,20 +95,21 @@ abbrev none_yet : Totals
 none_yet = record { files = 0; events = 0; roots = 0; unresolved = 0; ranges = 0; links = 0; forward = 0; reverse = 0; inbound = 0; references = 0 }
 
 same-sums : {a b c d e f g h i j a' b' c' d' e' f' g' h' i' j' : ℕ} → a ≡ a' → b ≡ b' → c ≡ c' → d ≡ d' → e ≡ e' → f ≡ f' → g ≡ g' → h ≡ h' → i ≡ i' → j ≡ j'
-    → Sums (record { files = a; events = b; roots = c; unresolved = d; ranges = e; links = f; forward = g; reverse = h; inbound = i; references = j })
-    ≡ Sums (record { files = a'; events = b'; roots = c'; unresolved = d'; ranges = e'; links = f'; forward = g'; reverse = h'; inbound = i'; references = j' })
+    → ◌≡◌ {A = Result Totals Refusal}
+    (Ok (record { files = a; events = b; roots = c; unresolved = d; ranges = e; links = f; forward = g; reverse = h; inbound = i; references = j }))
+    (Ok (record { files = a'; events = b'; roots = c'; unresolved = d'; ranges = e'; links = f'; forward = g'; reverse = h'; inbound = i'; references = j' }))
 same-sums p q r s t u v w x y = rw (p, q, r, s, t, u, v, w, x, y)
 
-plus_none : (c : Summed) → c ≡ plus none_yet c
+plus_none : (c : Result Totals Refusal) → c ≡ plus none_yet c
 unfolding plus
-plus_none (Refused r) = refl
-plus_none (Sums u) = same-sums (omega arith) (omega arith) (omega arith) (omega arith) (omega arith) (omega arith) (omega arith) (omega arith) (omega arith) (omega arith)
+plus_none (Err r) = refl
+plus_none (Ok u) = same-sums (omega arith) (omega arith) (omega arith) (omega arith) (omega arith) (omega arith) (omega arith) (omega arith) (omega arith) (omega arith)
 
 pub sums-start : (l : List ℕ) → totals_of (parse kinds l) ≡ plus none_yet (totals_of (files kinds (length l - 0) l 0))
 unfolding parse
 sums-start l = let z : length l - 0 ≡ length l = omega arith in rw z (plus_none (totals_of (files kinds (length l) l 0)))
 
-plus-sums : (t : Totals) → plus t (Sums (totals [])) ≡ Sums t
+plus-sums : (t : Totals) → plus t (Ok (totals [])) ≡ Ok t
 unfolding plus totals sum
 plus-sums t = same-sums (omega arith) (omega arith) (omega arith) (omega arith) (omega arith) (omega arith) (omega arith) (omega arith) (omega arith) (omega arith)
 
@@ -136,29 +135,29 @@ unfolding files ◌>>=◌
 files-end zero l p h = rw (le-leb (length l) p h)
 files-end (suc n) l p h = rw (le-leb (length l) p h)
 
-module _ {s : Summed} (l : List ℕ) (t : Totals) (p : ℕ) (e : s ≡ plus t (totals_of (files kinds (length l - t.files) l p))) where
-  pub sums-done : length l ≤ p → Sums t ≡ s
+module _ {s : Result Totals Refusal} (l : List ℕ) (t : Totals) (p : ℕ) (e : s ≡ plus t (totals_of (files kinds (length l - t.files) l p))) where
+  pub sums-done : length l ≤ p → Ok t ≡ s
   unfolding totals_of
   sums-done h = rw (e, files-end (length l - t.files) l p h) (sym (plus-sums t))
 
-  module _ (h : p < length l) (g : t.files ≤ p) (x : FileRead) (d : file_of l x ≡ file kinds l p) where
+  module _ (h : p < length l) (g : t.files ≤ p) (x : Option FileAt) (d : file_of l x ≡ file kinds l p) where
     z : length l - t.files ≡ suc (length l - (t.files + 1))
     z = omega arith
 
-    pub sums-broken : x ≡ NoFile → Refused RecordBroken ≡ s
+    pub sums-broken : x ≡ None → Err RecordBroken ≡ s
     unfolding files plus totals_of ◌>>=◌
     sums-broken f = rw (e, z, lt-leb (length l) p h, ← d, f)
 
-    pub sums_next : {f : FileAt} {u : Totals} → x ≡ FileIs f → AfterFile l p x → u ≡ with_file t f → s ≡ plus u (totals_of (files kinds (length l - u.files) l f.tail.end))
+    pub sums_next : {f : FileAt} {u : Totals} → x ≡ Some f → AfterFile l p x → u ≡ with_file t f → s ≡ plus u (totals_of (files kinds (length l - u.files) l f.tail.end))
     unfolding files ◌>>=◌ with_file
     sums_next {f} k a w =
         let c = rw k at a in
         rw (w) (go c)
       where
-        go : AfterFile l p (FileIs f) → s ≡ plus (with_file t f) (totals_of (files kinds (length l - (with_file t f).files) l f.tail.end))
+        go : AfterFile l p (Some f) → s ≡ plus (with_file t f) (totals_of (files kinds (length l - (with_file t f).files) l f.tail.end))
         go c = rw (e, z, lt-leb (length l) p h, ← d, k) (one-file l t f c.2.5 c.3.tail.references (files kinds (length l - (t.files + 1)) l f.tail.end))
 
-module _ (l : List ℕ) (p : ℕ) (x : FileRead) {f : FileAt} (a : AfterFile l p x) (e : x ≡ FileIs f) where
+module _ (l : List ℕ) (p : ℕ) (x : Option FileAt) {f : FileAt} (a : AfterFile l p x) (e : x ≡ Some f) where
   pub file-past : p < f.tail.end
   file-past = (rw e at a).0
 

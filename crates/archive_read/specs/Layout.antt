@@ -1,5 +1,6 @@
 -- What the reader's answers say of a file and of an archive: each part of a file lies between two places of the archive's bytes.
-use Rattle.std.specs.Prelude.{Bool, true, false, cond, List, ◌≡◌, ℕ, ◌+◌, ◌*◌, ◌≤◌, ◌<◌, length, drop}
+use Rattle.std.specs.Prelude.{Bool, true, false, cond, List, ◌≡◌, ℕ, ◌+◌, ◌*◌, ◌≤◌, ◌<◌, length, drop, None, Some}
+use Rattle.std.specs.declared.option.Option as rust
 use Rattle.std.proofs.Math.Option.{Option, none, some}
 use Rattle.lists.specs.Lists.{sum}
 use Rattle.columns.specs.Limits.{kinds}
@@ -13,40 +14,27 @@ use Rattle.archive_read.specs.declared.bodies.HeadAt.{HeadAt}
 use Rattle.archive_read.specs.declared.bodies.EdgesAt.{EdgesAt}
 use Rattle.archive_read.specs.declared.bodies.CoverAt.{CoverAt}
 use Rattle.archive_read.specs.declared.records.Part.{Part}
-use Rattle.archive_read.specs.declared.records.Body.{Body}
-use Rattle.archive_read.specs.declared.records.Body.TheVariants.{BodyAt, NoBody}
-use Rattle.archive_read.specs.declared.records.Optional.{Optional}
-use Rattle.archive_read.specs.declared.records.Optional.TheVariants.{Covered, Uncovered, BadCover}
-use Rattle.archive_read.specs.declared.records.Cites.{Cites}
-use Rattle.archive_read.specs.declared.records.Cites.TheVariants.{Cited, Uncited, BadCites}
+use Rattle.archive_read.specs.declared.records.CoverPart.{CoverPart}
+use Rattle.archive_read.specs.declared.records.CitesPart.{CitesPart}
 use Rattle.archive_read.specs.declared.records.FrontAt.{FrontAt}
-use Rattle.archive_read.specs.declared.records.FrontRead.{FrontRead}
-use Rattle.archive_read.specs.declared.records.FrontRead.TheVariants.{FrontIs, NoFront}
 use Rattle.archive_read.specs.declared.records.MiddleAt.{MiddleAt}
-use Rattle.archive_read.specs.declared.records.MiddleRead.{MiddleRead}
-use Rattle.archive_read.specs.declared.records.MiddleRead.TheVariants.{MiddleIs, NoMiddle}
 use Rattle.archive_read.specs.declared.records.TailAt.{TailAt}
-use Rattle.archive_read.specs.declared.records.TailRead.{TailRead}
-use Rattle.archive_read.specs.declared.records.TailRead.TheVariants.{TailIs, NoTail}
-use Rattle.archive_read.specs.declared.records.RestRead.{RestRead}
-use Rattle.archive_read.specs.declared.records.RestRead.TheVariants.{RestIs, NoRest}
+use Rattle.archive_read.specs.declared.records.RestAt.{RestAt}
 use Rattle.archive_read.specs.declared.records.FileAt.{FileAt}
-use Rattle.archive_read.specs.declared.records.FileRead.{FileRead}
-use Rattle.archive_read.specs.declared.records.FileRead.TheVariants.{FileIs, NoFile}
 
 abbrev pub part_in : List ℕ → Part → List ℕ
 part_in l p = body_in l p.at p.end
 
 -- ── one record ───────────────────────────────────────────────────────────────────────────────
 
-abbrev pub body_of : List ℕ → Body → Parsed (List ℕ)
-body_of l NoBody = broken
-body_of l (BodyAt a) = got (part_in l a) a.end
+abbrev pub body_of : List ℕ → rust.Option Part → Parsed (List ℕ)
+body_of l None = broken
+body_of l (Some a) = got (part_in l a) a.end
 
 -- a body lies past the place where its record starts, and inside the bytes
-abbrev pub Inside : List ℕ → ℕ → Body → Type 0
-Inside l p NoBody = Unit {0}
-Inside l p (BodyAt a) = (p < a.at) × (a.at ≤ a.end) × (a.end ≤ length l)
+abbrev pub Inside : List ℕ → ℕ → rust.Option Part → Type 0
+Inside l p None = Unit {0}
+Inside l p (Some a) = (p < a.at) × (a.at ≤ a.end) × (a.end ≤ length l)
 
 -- a part ends past place p and inside the bytes
 abbrev pub Ends : List ℕ → ℕ → Part → Type 0
@@ -79,30 +67,30 @@ FewOf p c q = (p + c.ranges ≤ q) × (p + c.links ≤ q)
 abbrev pub HoldsCover : List ℕ → ℕ → CoverAt → Part → Type 0
 HoldsCover l rows c a = Holds l a (cover_end rows c.ranges c.links)
 
-abbrev pub optional_of : List ℕ → ℕ → ℕ → Optional → Parsed (Option CoverColumns)
-optional_of l rows p BadCover = broken
-optional_of l rows p Uncovered = got none p
-optional_of l rows p (Covered c a) = got (some (cover_in (part_in l a) rows c)) a.end
+abbrev pub optional_of : List ℕ → ℕ → ℕ → rust.Option (rust.Option CoverPart) → Parsed (Option CoverColumns)
+optional_of l rows p None = broken
+optional_of l rows p (Some None) = got none p
+optional_of l rows p (Some (Some c)) = got (some (cover_in (part_in l c.part) rows c.cover)) c.part.end
 
-abbrev pub AfterOptional : List ℕ → ℕ → ℕ → Optional → Type 0
-AfterOptional l p rows BadCover = Unit {0}
-AfterOptional l p rows Uncovered = Unit {0}
-AfterOptional l p rows (Covered c a) = Ends l p a × FewOf p c a.end × HoldsCover l rows c a
+abbrev pub AfterOptional : List ℕ → ℕ → ℕ → rust.Option (rust.Option CoverPart) → Type 0
+AfterOptional l p rows None = Unit {0}
+AfterOptional l p rows (Some None) = Unit {0}
+AfterOptional l p rows (Some (Some c)) = Ends l p c.part × FewOf p c.cover c.part.end × HoldsCover l rows c.cover c.part
 
 -- 7: so many references, which are there
 pub record HoldsCites (l : List ℕ) (rows n : ℕ) (a : Part) : Type 0 where
   pub holds : Holds l a n
   pub counted : n ≡ sum length (references_from rows (part_in l a))
 
-abbrev pub cites_of : List ℕ → ℕ → ℕ → Cites → Parsed (Option (List (List Reference)))
-cites_of l rows p BadCites = broken
-cites_of l rows p Uncited = got none p
-cites_of l rows p (Cited n a) = got (some (references_from rows (part_in l a))) a.end
+abbrev pub cites_of : List ℕ → ℕ → ℕ → rust.Option (rust.Option CitesPart) → Parsed (Option (List (List Reference)))
+cites_of l rows p None = broken
+cites_of l rows p (Some None) = got none p
+cites_of l rows p (Some (Some c)) = got (some (references_from rows (part_in l c.part))) c.part.end
 
-abbrev pub AfterCites : List ℕ → ℕ → ℕ → Cites → Type 0
-AfterCites l p rows BadCites = Unit {0}
-AfterCites l p rows Uncited = Unit {0}
-AfterCites l p rows (Cited n a) = Ends l p a × (p + n ≤ a.end) × HoldsCites l rows n a
+abbrev pub AfterCites : List ℕ → ℕ → ℕ → rust.Option (rust.Option CitesPart) → Type 0
+AfterCites l p rows None = Unit {0}
+AfterCites l p rows (Some None) = Unit {0}
+AfterCites l p rows (Some (Some c)) = Ends l p c.part × (p + c.count ≤ c.part.end) × HoldsCites l rows c.count c.part
 
 -- ── records in pairs ─────────────────────────────────────────────────────────────────────────
 
@@ -119,13 +107,13 @@ front = do
 unfoldable pub front_in : List ℕ → FrontAt → Front
 front_in l f = record { head = head_in (part_in l f.file) f.head; sets = sets_in (part_in l f.sets) f.head.rows f.edges }
 
-abbrev pub front_of : List ℕ → FrontRead → Parsed Front
-front_of l NoFront = broken
-front_of l (FrontIs f) = got (front_in l f) f.sets.end
+abbrev pub front_of : List ℕ → rust.Option FrontAt → Parsed Front
+front_of l None = broken
+front_of l (Some f) = got (front_in l f) f.sets.end
 
-abbrev pub AfterFront : List ℕ → ℕ → FrontRead → Type 0
-AfterFront l p NoFront = Unit {0}
-AfterFront l p (FrontIs f) = Ends l p f.sets × FewDeltas p f.edges f.sets.end × HoldsHead l f.head f.file × HoldsSets l f.head.rows f.edges f.sets
+abbrev pub AfterFront : List ℕ → ℕ → rust.Option FrontAt → Type 0
+AfterFront l p None = Unit {0}
+AfterFront l p (Some f) = Ends l p f.sets × FewDeltas p f.edges f.sets.end × HoldsHead l f.head f.file × HoldsSets l f.head.rows f.edges f.sets
 
 pub record Middle : Type 0 where
   pub rows : List Row
@@ -140,18 +128,18 @@ middle n = do
 unfoldable pub middle_in : List ℕ → ℕ → MiddleAt → Middle
 middle_in l n m = record { rows = several 9 row_at n (part_in l m.rows); unresolved = several 13 unresolved_at m.count (drop 4 (part_in l m.unresolved)) }
 
-abbrev pub middle_of : List ℕ → ℕ → MiddleRead → Parsed Middle
-middle_of l n NoMiddle = broken
-middle_of l n (MiddleIs m) = got (middle_in l n m) m.unresolved.end
+abbrev pub middle_of : List ℕ → ℕ → rust.Option MiddleAt → Parsed Middle
+middle_of l n None = broken
+middle_of l n (Some m) = got (middle_in l n m) m.unresolved.end
 
 -- the rows and the unresolved references are there
 pub record HoldsMiddle (l : List ℕ) (n : ℕ) (m : MiddleAt) : Type 0 where
   pub rows : Holds l m.rows (n * 9)
   pub unresolved : Holds l m.unresolved (4 + m.count * 13)
 
-abbrev pub AfterMiddle : List ℕ → ℕ → ℕ → MiddleRead → Type 0
-AfterMiddle l p n NoMiddle = Unit {0}
-AfterMiddle l p n (MiddleIs m) = Ends l p m.unresolved × (p + n ≤ m.unresolved.end) × (p + m.count ≤ m.unresolved.end) × HoldsMiddle l n m
+abbrev pub AfterMiddle : List ℕ → ℕ → ℕ → rust.Option MiddleAt → Type 0
+AfterMiddle l p n None = Unit {0}
+AfterMiddle l p n (Some m) = Ends l p m.unresolved × (p + n ≤ m.unresolved.end) × (p + m.count ≤ m.unresolved.end) × HoldsMiddle l n m
 
 pub record Tail : Type 0 where
   pub roots : List Root
@@ -178,21 +166,21 @@ tail_in l n t = record {
   references = cond t.cited (some (references_from n (part_in l t.cites))) none;
 }
 
-abbrev pub tail_of : List ℕ → ℕ → TailRead → Parsed Tail
-tail_of l n NoTail = broken
-tail_of l n (TailIs t) = got (tail_in l n t) t.end
+abbrev pub tail_of : List ℕ → ℕ → rust.Option TailAt → Parsed Tail
+tail_of l n None = broken
+tail_of l n (Some t) = got (tail_in l n t) t.end
 
--- a tail from the roots and what came of looking for a cover
-unfoldable pub covered_with : ℕ → Part → Optional → TailRead
-covered_with n a BadCover = NoTail
-covered_with n a Uncovered =
-    TailIs (record { count = n; roots = a; covered = false; cover = record { ranges = 0; links = 0 }; body = a; cited = false; references = 0; cites = a; end = a.end })
-covered_with n a (Covered c b) = TailIs (record { count = n; roots = a; covered = true; cover = c; body = b; cited = false; references = 0; cites = a; end = b.end })
+-- a tail from the roots and the cover
+unfoldable pub covered_with : ℕ → Part → rust.Option CoverPart → TailAt
+covered_with n a None =
+    record { count = n; roots = a; covered = false; cover = record { ranges = 0; links = 0 }; body = a; cited = false; references = 0; cites = a; end = a.end }
+covered_with n a (Some c) =
+    record { count = n; roots = a; covered = true; cover = c.cover; body = c.part; cited = false; references = 0; cites = a; end = c.part.end }
 
 -- no references are looked for yet
-abbrev pub Plain : TailRead → Type 0
-Plain NoTail = Unit {0}
-Plain (TailIs t) = t.cited ≡ false
+abbrev pub Plain : rust.Option TailAt → Type 0
+Plain None = Unit {0}
+Plain (Some t) = t.cited ≡ false
 
 -- a tail with references
 unfoldable pub cited_tail : TailAt → ℕ → Part → TailAt
@@ -208,11 +196,10 @@ cited_tail t n a = record {
   end = a.end;
 }
 
--- a tail with what came of looking for references
-abbrev pub cited_with : TailAt → Cites → TailRead
-cited_with t BadCites = NoTail
-cited_with t Uncited = TailIs t
-cited_with t (Cited n a) = TailIs (cited_tail t n a)
+-- a tail with its references, where there are some
+abbrev pub cited_with : TailAt → rust.Option CitesPart → TailAt
+cited_with t None = t
+cited_with t (Some c) = cited_tail t c.count c.part
 
 -- where there is no cover, it has no ranges and no links
 abbrev pub Uncovers : Bool → CoverAt → Type 0
@@ -235,9 +222,9 @@ pub record HoldsTail (l : List ℕ) (rows : ℕ) (t : TailAt) : Type 0 where
   pub cover : MayCover t.covered l rows t.cover t.body
   pub references : MayCite t.cited l rows t.references t.cites
 
-abbrev pub AfterTail : List ℕ → ℕ → ℕ → TailRead → Type 0
-AfterTail l p n NoTail = Unit {0}
-AfterTail l p n (TailIs t) = (p < t.end) × (t.end ≤ length l) × (p + t.count ≤ t.end) × FewOf p t.cover t.end × Uncovers t.covered t.cover × HoldsTail l n t
+abbrev pub AfterTail : List ℕ → ℕ → ℕ → rust.Option TailAt → Type 0
+AfterTail l p n None = Unit {0}
+AfterTail l p n (Some t) = (p < t.end) × (t.end ≤ length l) × (p + t.count ≤ t.end) × FewOf p t.cover t.end × Uncovers t.covered t.cover × HoldsTail l n t
     × (p + t.references ≤ t.end)
 
 pub record Rest : Type 0 where
@@ -250,15 +237,15 @@ rest n = do
   t ← tail n
   return (record { middle = m; tail = t })
 
-abbrev pub rest_of : List ℕ → ℕ → RestRead → Parsed Rest
-rest_of l n NoRest = broken
-rest_of l n (RestIs m t) = got (record { middle = middle_in l n m; tail = tail_in l n t }) t.end
+abbrev pub rest_of : List ℕ → ℕ → rust.Option RestAt → Parsed Rest
+rest_of l n None = broken
+rest_of l n (Some r) = got (record { middle = middle_in l n r.middle; tail = tail_in l n r.tail }) r.tail.end
 
-abbrev pub AfterRest : List ℕ → ℕ → ℕ → RestRead → Type 0
-AfterRest l p n NoRest = Unit {0}
-AfterRest l p n (RestIs m t) =
-    (p < t.end) × (t.end ≤ length l) × (p + n ≤ t.end) × (p + m.count ≤ t.end) × (p + t.count ≤ t.end) × FewOf p t.cover t.end × Uncovers t.covered t.cover
-    × HoldsMiddle l n m × HoldsTail l n t × (p + t.references ≤ t.end)
+abbrev pub AfterRest : List ℕ → ℕ → ℕ → rust.Option RestAt → Type 0
+AfterRest l p n None = Unit {0}
+AfterRest l p n (Some r) =
+    (p < r.tail.end) × (r.tail.end ≤ length l) × (p + n ≤ r.tail.end) × (p + r.middle.count ≤ r.tail.end) × (p + r.tail.count ≤ r.tail.end)
+    × FewOf p r.tail.cover r.tail.end × Uncovers r.tail.covered r.tail.cover × HoldsMiddle l n r.middle × HoldsTail l n r.tail × (p + r.tail.references ≤ r.tail.end)
 
 -- ── a file ───────────────────────────────────────────────────────────────────────────────────
 
@@ -282,9 +269,9 @@ file_from f r = record {
 unfoldable pub file_in : List ℕ → FileAt → File
 file_in l f = file_from (front_in l f.front) (record { middle = middle_in l f.front.head.rows f.middle; tail = tail_in l f.front.head.rows f.tail })
 
-abbrev pub file_of : List ℕ → FileRead → Parsed File
-file_of l NoFile = broken
-file_of l (FileIs f) = got (file_in l f) f.tail.end
+abbrev pub file_of : List ℕ → rust.Option FileAt → Parsed File
+file_of l None = broken
+file_of l (Some f) = got (file_in l f) f.tail.end
 
 -- a file's counts are no more than its bytes, and it ends inside the archive's
 abbrev pub Counts : ℕ → FileAt → Type 0
@@ -300,6 +287,6 @@ pub record HoldsFile (l : List ℕ) (f : FileAt) : Type 0 where
   pub middle : HoldsMiddle l f.front.head.rows f.middle
   pub tail : HoldsTail l f.front.head.rows f.tail
 
-abbrev pub AfterFile : List ℕ → ℕ → FileRead → Type 0
-AfterFile l p NoFile = Unit {0}
-AfterFile l p (FileIs f) = (p < f.tail.end) × (f.tail.end ≤ length l) × Counts p f × HoldsFile l f
+abbrev pub AfterFile : List ℕ → ℕ → rust.Option FileAt → Type 0
+AfterFile l p None = Unit {0}
+AfterFile l p (Some f) = (p < f.tail.end) × (f.tail.end ≤ length l) × Counts p f × HoldsFile l f

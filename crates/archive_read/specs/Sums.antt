@@ -1,14 +1,13 @@
 -- Document 01, 42 and 43: the sums over an archive's files, and how the reader adds up file by file.
-use Rattle.std.specs.Prelude.{List, ℕ, ◌+◌, ◌≤◌, length}
+use Rattle.std.specs.Prelude.{List, ℕ, ◌+◌, ◌≤◌, length, Err, Ok, Result}
 use Rattle.std.proofs.Math.Option.{Option, none, some}
 use Rattle.lists.specs.Lists.{sum}
+use Rattle.columns.specs.declared.refusal.Refusal.{Refusal}
 use Rattle.columns.specs.declared.refusal.Refusal.TheVariants.{RecordBroken}
 use Rattle.archive.specs.Reader.{Parsed, broken, got}
 use Rattle.archive.specs.File.{CoverColumns, File}
 use Rattle.archive_read.specs.declared.records.FileAt.{FileAt}
 use Rattle.archive_read.specs.declared.files.Totals.{Totals}
-use Rattle.archive_read.specs.declared.files.Summed.{Summed}
-use Rattle.archive_read.specs.declared.files.Summed.TheVariants.{Sums, Refused}
 
 abbrev pub ranges_in : Option CoverColumns → ℕ
 ranges_in none = 0
@@ -33,9 +32,9 @@ totals fs = record {
 }
 
 -- what an archive's bytes come to: 23, or the sums over its files
-unfoldable pub totals_of : Parsed (List File) → Summed
-totals_of broken = Refused RecordBroken
-totals_of (got fs p) = Sums (totals fs)
+unfoldable pub totals_of : Parsed (List File) → Result Totals Refusal
+totals_of broken = Err RecordBroken
+totals_of (got fs p) = Ok (totals fs)
 
 -- the sums with one file more, by the counts that the reader found
 unfoldable pub with_file : Totals → FileAt → Totals
@@ -58,9 +57,9 @@ Below t p =
     (t.files ≤ p) × (t.events ≤ p) × (t.roots ≤ p) × (t.unresolved ≤ p) × (t.ranges ≤ p) × (t.links ≤ p)
     × (t.forward ≤ p) × (t.reverse ≤ p) × (t.inbound ≤ p) × (t.references ≤ p)
 
-unfoldable pub plus : Totals → Summed → Summed
-plus t (Refused r) = Refused r
-plus t (Sums u) = Sums (record {
+unfoldable pub plus : Totals → Result Totals Refusal → Result Totals Refusal
+plus t (Err r) = Err r
+plus t (Ok u) = Ok (record {
   files = t.files + u.files;
   events = t.events + u.events;
   roots = t.roots + u.roots;

@@ -22,16 +22,11 @@ pub struct HeadAt {
     pub greatest: u64,
 }
 
+// A set: the number of its deltas, and the place after it.
 #[derive(Clone, Copy)]
-pub enum HeadRead {
-    HeadIs(HeadAt),
-    NoHead,
-}
-
-#[derive(Clone, Copy)]
-pub enum SetRead {
-    SetIs { count: usize, end: usize },
-    NoSet,
+pub struct SetAt {
+    pub count: usize,
+    pub end: usize,
 }
 
 // 2 edges: the number of deltas of each set, and where the second and the third set start.
@@ -44,36 +39,11 @@ pub struct EdgesAt {
     pub inbounds: usize,
 }
 
-#[derive(Clone, Copy)]
-pub enum EdgesRead {
-    EdgesIs(EdgesAt),
-    NoEdges,
-}
-
-// 4 unresolved and 5 roots: how many there are, from place 4 on.
-#[derive(Clone, Copy)]
-pub enum Counted {
-    CountIs(usize),
-    NoCount,
-}
-
 // 6 cover: the number of ranges and of links.
 #[derive(Clone, Copy)]
 pub struct CoverAt {
     pub ranges: usize,
     pub links: usize,
-}
-
-#[derive(Clone, Copy)]
-pub enum CoverRead {
-    CoverIs(CoverAt),
-    NoCover,
-}
-
-fn size(x: u8) -> usize
-    ensures { (result ≡ x) × (result < 256) }
-{
-    x as usize
 }
 
 fn depth_ok(flag: u8, least: u64, greatest: u64) -> bool
@@ -91,78 +61,69 @@ fn depth_ok(flag: u8, least: u64, greatest: u64) -> bool
     greatest == 0
 }
 
-pub fn head_body(b: &[u8]) -> HeadRead
+pub fn head_body(b: &[u8]) -> Option<HeadAt>
     ensures result_value { head_of b.now result ≡ whole head b.now }
     ensures head_inside { HeadInside b.now result }
 {
     if b.len() < 31 {
-        return HeadRead::NoHead;
+        return None;
     }
-    let s = size(b[13]);
+    let s = usize::from(b[13]);
     let p = 14 + s;
     if b.len() != p + 1 + 8 + 8 {
-        return HeadRead::NoHead;
+        return None;
     }
     let flag = b[p];
     let least = archive_bytes::load_u64(b, p + 1);
     let greatest = archive_bytes::load_u64(b, p + 1 + 8);
     if !depth_ok(flag, least, greatest) {
-        return HeadRead::NoHead;
+        return None;
     }
-    HeadRead::HeadIs(HeadAt {
+    Some(HeadAt {
         first: archive_bytes::load_u64(b, 0),
         rows: archive_bytes::load_u32(b, 8) as u32,
         group: b[12],
         subject: s,
-        flag: flag,
-        least: least,
-        greatest: greatest,
+        flag,
+        least,
+        greatest,
     })
 }
 
 // One set from place `p` on.
-fn set_at(b: &[u8], rows: usize, p: usize) -> SetRead
+fn set_at(b: &[u8], rows: usize, p: usize) -> Option<SetAt>
     requires { (rows < 2 ^ 32) × (p ≤ length b.now) }
     ensures result_value { set_of b.now rows p result ≡ edge_set kinds rows b.now p }
     ensures set_inside { SetInside b.now rows p result }
 {
     if b.len() - p < 4 {
-        return SetRead::NoSet;
+        return None;
     }
     let n = index(archive_bytes::load_u32(b, p));
     let end = p + 4 + (2 * rows + 1) * 8 + n * 8;
     if b.len() < end {
-        return SetRead::NoSet;
+        return None;
     }
-    SetRead::SetIs { count: n, end: end }
+    Some(SetAt { count: n, end })
 }
 
-pub fn edges_body(b: &[u8], rows: u32) -> EdgesRead
+pub fn edges_body(b: &[u8], rows: u32) -> Option<EdgesAt>
     ensures result_value { edges_of b.now rows result ≡ whole (sets kinds rows) b.now }
     ensures edges_inside { EdgesInside b.now rows result }
 {
     let n = rows as usize;
-    let x = set_at(b, n, 0);
-    let SetRead::SetIs { count: f, end: p } = x else {
-        return EdgesRead::NoEdges;
-    };
-    let y = set_at(b, n, p);
-    let SetRead::SetIs { count: r, end: q } = y else {
-        return EdgesRead::NoEdges;
-    };
-    let z = set_at(b, n, q);
-    let SetRead::SetIs { count: i, end: e } = z else {
-        return EdgesRead::NoEdges;
-    };
-    if b.len() != e {
-        return EdgesRead::NoEdges;
+    let forward = set_at(b, n, 0)?;
+    let reverse = set_at(b, n, forward.end)?;
+    let inbound = set_at(b, n, reverse.end)?;
+    if b.len() != inbound.end {
+        return None;
     }
-    EdgesRead::EdgesIs(EdgesAt {
-        forwards: f,
-        reverse: p,
-        reverses: r,
-        inbound: q,
-        inbounds: i,
+    Some(EdgesAt {
+        forwards: forward.count,
+        reverse: forward.end,
+        reverses: reverse.count,
+        inbound: reverse.end,
+        inbounds: inbound.count,
     })
 }
 
@@ -170,14 +131,10 @@ fn flags_ok(b: &[u8], n: usize) -> bool
     requires { n * 9 ≤ length b.now }
     ensures { result ≡ all (λ flag. leb flag 1) (several 9 (λ l. get_or l 0 0) n b.now) }
 {
-    let mut i = 0;
-    let mut p = 0;
-    while i < n {
-        if 1 < b[p] {
+    for i in 0..n {
+        if 1 < b[i * 9] {
             return false;
         }
-        i += 1;
-        p += 9;
     }
     true
 }
@@ -198,53 +155,45 @@ fn children_ok(b: &[u8], n: usize) -> bool
     requires { 4 + n * 13 ≤ length b.now }
     ensures { result ≡ not_falling (map (λ u. u.child) (several 13 unresolved_at n (drop 4 b.now))) }
 {
-    let mut i = 0;
-    let mut p = 4;
     let mut low = 0;
-    while i < n {
-        let x = archive_bytes::load_u64(b, p);
+    for i in 0..n {
+        let x = archive_bytes::load_u64(b, 4 + i * 13);
         if x < low {
             return false;
         }
         low = x;
-        i += 1;
-        p += 13;
     }
     true
 }
 
-pub fn unresolved_body(b: &[u8]) -> Counted
+pub fn unresolved_body(b: &[u8]) -> Option<usize>
     ensures result_value { unresolved_of b.now result ≡ whole unresolved b.now }
     ensures list_inside { ListInside 13 b.now result }
 {
     if b.len() < 4 {
-        return Counted::NoCount;
+        return None;
     }
     let n = index(archive_bytes::load_u32(b, 0));
     if b.len() != 4 + n * 13 {
-        return Counted::NoCount;
+        return None;
     }
     if !children_ok(b, n) {
-        return Counted::NoCount;
+        return None;
     }
-    Counted::CountIs(n)
+    Some(n)
 }
 
 fn rows_above(b: &[u8], n: usize) -> bool
     requires { (4 + n * 16 ≤ length b.now) × (0 < n) }
     ensures { result ≡ rising (map (λ t. t.row) (several 16 root_at n (drop 4 b.now))) }
 {
-    let mut i = 1;
-    let mut p = 20;
     let mut last = archive_bytes::load_u64(b, 4);
-    while i < n {
-        let x = archive_bytes::load_u64(b, p);
+    for i in 1..n {
+        let x = archive_bytes::load_u64(b, 4 + i * 16);
         if x <= last {
             return false;
         }
         last = x;
-        i += 1;
-        p += 16;
     }
     true
 }
@@ -259,42 +208,42 @@ fn rows_rise(b: &[u8], n: usize) -> bool
     rows_above(b, n)
 }
 
-pub fn roots_body(b: &[u8]) -> Counted
+pub fn roots_body(b: &[u8]) -> Option<usize>
     ensures result_value { roots_of b.now result ≡ whole roots b.now }
     ensures list_inside { ListInside 16 b.now result }
 {
     if b.len() < 4 {
-        return Counted::NoCount;
+        return None;
     }
     let n = index(archive_bytes::load_u32(b, 0));
     if b.len() != 4 + n * 16 {
-        return Counted::NoCount;
+        return None;
     }
     if !rows_rise(b, n) {
-        return Counted::NoCount;
+        return None;
     }
-    Counted::CountIs(n)
+    Some(n)
 }
 
-pub fn cover_body(b: &[u8], rows: u32) -> CoverRead
+pub fn cover_body(b: &[u8], rows: u32) -> Option<CoverAt>
     ensures result_value { cover_of b.now rows result ≡ whole (cover rows) b.now }
     ensures cover_inside { CoverInside b.now rows result }
 {
     let n = rows as usize;
     let p = n * 4 + n * 4;
     if b.len() < p + 4 {
-        return CoverRead::NoCover;
+        return None;
     }
     let m = index(archive_bytes::load_u32(b, p));
     let q = p + 4 + m * 12;
     if b.len() < q + 4 {
-        return CoverRead::NoCover;
+        return None;
     }
     let k = index(archive_bytes::load_u32(b, q));
     if b.len() != q + 4 + k * 4 + k * 4 + k * 4 + k * 4 {
-        return CoverRead::NoCover;
+        return None;
     }
-    CoverRead::CoverIs(CoverAt {
+    Some(CoverAt {
         ranges: m,
         links: k,
     })

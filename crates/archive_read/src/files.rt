@@ -5,7 +5,7 @@ ghost use Rattle.archive.specs.Parse.{parse};
 ghost use Rattle.archive_read.specs.Layout.{Counts};
 ghost use Rattle.archive_read.specs.Sums.{totals_of, with_file, Below};
 
-use crate::records::{FileAt, FileRead, file_at};
+use crate::records::{FileAt, file_at};
 use columns::refusal::Refusal;
 
 // How many files there are, and the sums of their counts.
@@ -23,39 +23,29 @@ pub struct Totals {
     pub references: usize,
 }
 
-#[derive(Clone, Copy)]
-pub enum Summed {
-    Sums(Totals),
-    Refused(Refusal),
-}
-
 // The sums with one file more, which starts at `p`.
 fn with_file(t: Totals, f: FileAt, p: usize) -> Totals
     requires { Below t p × (Counts p f × ((p < f.tail.end) × (f.tail.end < 2 ^ 64))) }
     ensures { result ≡ with_file t f }
 {
-    let h = f.front;
-    let m = f.middle;
-    let e = f.tail;
-    let n = h.head;
-    let s = h.edges;
-    let c = e.cover;
+    let sets = f.front.edges;
+    let cover = f.tail.cover;
     Totals {
         files: t.files + 1,
-        events: t.events + n.rows as usize,
-        roots: t.roots + e.count,
-        unresolved: t.unresolved + m.count,
-        ranges: t.ranges + c.ranges,
-        links: t.links + c.links,
-        forward: t.forward + s.forwards,
-        reverse: t.reverse + s.reverses,
-        inbound: t.inbound + s.inbounds,
-        references: t.references + e.references,
+        events: t.events + f.front.head.rows as usize,
+        roots: t.roots + f.tail.count,
+        unresolved: t.unresolved + f.middle.count,
+        ranges: t.ranges + cover.ranges,
+        links: t.links + cover.links,
+        forward: t.forward + sets.forwards,
+        reverse: t.reverse + sets.reverses,
+        inbound: t.inbound + sets.inbounds,
+        references: t.references + f.tail.references,
     }
 }
 
 // The sums over an archive's files, or 23.
-pub fn sum_up(bytes: &[u8]) -> Summed
+pub fn sum_up(bytes: &[u8]) -> Result<Totals, Refusal>
     ensures { result ≡ totals_of (parse kinds bytes.now) }
 {
     let mut t = Totals {
@@ -70,15 +60,14 @@ pub fn sum_up(bytes: &[u8]) -> Summed
         inbound: 0,
         references: 0,
     };
+    // A place and no index, since it moves by a file's size.
     let mut p = 0;
     while p < bytes.len() {
-        let x = file_at(bytes, p);
-        let FileRead::FileIs(f) = x else {
-            return Summed::Refused(Refusal::RecordBroken);
+        let Some(f) = file_at(bytes, p) else {
+            return Err(Refusal::RecordBroken);
         };
         t = with_file(t, f, p);
-        let e = f.tail;
-        p = e.end;
+        p = f.tail.end;
     }
-    Summed::Sums(t)
+    Ok(t)
 }

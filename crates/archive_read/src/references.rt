@@ -6,7 +6,6 @@ ghost use Rattle.archive.specs.Reader.{whole};
 ghost use Rattle.archive.specs.Parse.{reference_at, reference_ok, of_kind, references_ok, row_references, references};
 ghost use Rattle.archive_read.specs.bodies.View.{row_cited, RowInside, cited_of, CitedInside};
 
-use crate::bodies::Counted;
 use arrays::index;
 
 // Whether each of `n` references from `p` on is of a kind and a space that there are.
@@ -14,17 +13,14 @@ fn kinds_ok(b: &[u8], p: usize, n: usize) -> bool
     requires { p + n * 10 ≤ length b.now }
     ensures { result ≡ all reference_ok (several 10 reference_at n (drop p b.now)) }
 {
-    let mut i = 0;
-    let mut q = p;
-    while i < n {
+    for i in 0..n {
+        let q = p + i * 10;
         if 5 < b[q] {
             return false;
         }
         if 3 < b[q + 1] {
             return false;
         }
-        i += 1;
-        q += 10;
     }
     true
 }
@@ -43,13 +39,9 @@ fn count_kind(b: &[u8], p: usize, n: usize, kind: u8) -> usize
     requires { p + n * 10 ≤ length b.now }
     ensures { result ≡ of_kind kind (several 10 reference_at n (drop p b.now)) }
 {
-    let mut i = 0;
-    let mut q = p;
     let mut found = 0;
-    while i < n {
-        found += one_if(b[q], kind);
-        i += 1;
-        q += 10;
+    for i in 0..n {
+        found += one_if(b[p + i * 10], kind);
     }
     found
 }
@@ -72,46 +64,41 @@ fn are_known(b: &[u8], p: usize, n: usize) -> bool
 }
 
 // How many references the row at `p` has.
-fn row_at(b: &[u8], p: usize) -> Counted
+fn row_at(b: &[u8], p: usize) -> Option<usize>
     requires { p ≤ length b.now }
     ensures result_value { row_cited b.now p result ≡ row_references b.now p }
     ensures row_inside { RowInside b.now p result }
 {
     if b.len() - p < 4 {
-        return Counted::NoCount;
+        return None;
     }
     let n = index(archive_bytes::load_u32(b, p));
     if b.len() < p + 4 + n * 10 {
-        return Counted::NoCount;
+        return None;
     }
     if !are_known(b, p + 4, n) {
-        return Counted::NoCount;
+        return None;
     }
-    Counted::CountIs(n)
+    Some(n)
 }
 
-pub fn references_body(b: &[u8], rows: u32) -> Counted
+pub fn references_body(b: &[u8], rows: u32) -> Option<usize>
     ensures result_value { cited_of b.now rows result ≡ whole (references rows) b.now }
     ensures cited_inside { CitedInside b.now rows result }
 {
     let n = rows as usize;
-    let mut i = 0;
     let mut p = 0;
     let mut total = 0;
-    while i < n {
-        let x = row_at(b, p);
-        let Counted::CountIs(k) = x else {
-            return Counted::NoCount;
-        };
+    for i in 0..n {
+        let k = row_at(b, p)?;
         total += k;
         p = p + 4 + k * 10;
-        i += 1;
     }
     if b.len() != p {
-        return Counted::NoCount;
+        return None;
     }
     if total == 0 {
-        return Counted::NoCount;
+        return None;
     }
-    Counted::CountIs(total)
+    Some(total)
 }

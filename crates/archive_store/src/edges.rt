@@ -7,36 +7,42 @@ ghost use Rattle.archive_store.specs.Lent.{set_from, set_size};
 use archive_bytes::number_columns::{store_i64s, store_u64s};
 use archive_bytes::store_u32;
 
+// A set that is to be stored.
+#[derive(Clone, Copy)]
+pub struct SetOut<'a> {
+    pub offsets: &'a [u64],
+    pub deltas: &'a [i64],
+}
+
 // One set from `at` on; answers the place after it.
-fn store_set(out: &mut [u8], at: usize, offsets: &[u64], deltas: &[i64]) -> usize
-    requires { (at + set_size (length offsets.now) (length deltas.now) ≤ length out.old) × (length deltas.now < 2 ^ 32) }
-    ensures out_after { out.new ≡ sets out.old at (set_bytes (set_from offsets.now deltas.now)) }
-    ensures value { result ≡ at + set_size (length offsets.now) (length deltas.now) }
+fn store_set(out: &mut [u8], at: usize, set: &SetOut<'_>) -> usize
+    requires { (at + set_size (length set.now.offsets.now) (length set.now.deltas.now) ≤ length out.old) × (length set.now.deltas.now < 2 ^ 32) }
+    ensures out_after { out.new ≡ sets out.old at (set_bytes (set_from set.now.offsets.now set.now.deltas.now)) }
+    ensures value { result ≡ at + set_size (length set.now.offsets.now) (length set.now.deltas.now) }
 {
-    let n = offsets.len();
-    let m = deltas.len();
+    let n = set.offsets.len();
+    let m = set.deltas.len();
     store_u32(out, at, m as u64);
-    store_u64s(offsets, n, out, at + 4);
-    store_i64s(deltas, m, out, at + 4 + 8 * n);
+    store_u64s(set.offsets, n, out, at + 4);
+    store_i64s(set.deltas, m, out, at + 4 + 8 * n);
     at + 4 + 8 * n + 8 * m
 }
 
 pub fn store_edges(
     out: &mut [u8],
     at: usize,
-    fo: &[u64],
-    fd: &[i64],
-    ro: &[u64],
-    rd: &[i64],
-    io: &[u64],
-    id: &[i64],
+    forward: &SetOut<'_>,
+    reverse: &SetOut<'_>,
+    inbound: &SetOut<'_>,
 )
-    requires id_in_bounds { at + (set_size (length fo.now) (length fd.now) + (set_size (length ro.now) (length rd.now) + set_size (length io.now) (length id.now))) ≤ length out.old }
-    requires fd_len_bound { (length fd.now < 2 ^ 32) × (length rd.now < 2 ^ 32) × (length id.now < 2 ^ 32) }
+    requires id_in_bounds { at + (set_size (length forward.now.offsets.now) (length forward.now.deltas.now) + (set_size
+        (length reverse.now.offsets.now) (length reverse.now.deltas.now) + set_size (length inbound.now.offsets.now) (length inbound.now.deltas.now))) ≤ length out.old }
+    requires fd_len_bound { (length forward.now.deltas.now < 2 ^ 32) × (length reverse.now.deltas.now < 2 ^ 32) × (length inbound.now.deltas.now < 2 ^ 32) }
     ensures { out.new ≡ sets out.old at
-        (sets_bytes (set_from fo.now fd.now) (set_from ro.now rd.now) (set_from io.now id.now)) }
+        (sets_bytes (set_from forward.now.offsets.now forward.now.deltas.now) (set_from reverse.now.offsets.now reverse.now.deltas.now)
+        (set_from inbound.now.offsets.now inbound.now.deltas.now)) }
 {
-    let p = store_set(out, at, fo, fd);
-    let q = store_set(out, p, ro, rd);
-    store_set(out, q, io, id);
+    let p = store_set(out, at, forward);
+    let q = store_set(out, p, reverse);
+    store_set(out, q, inbound);
 }

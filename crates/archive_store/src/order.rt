@@ -9,14 +9,12 @@ pub fn is_level(column: &[u64], n: usize) -> bool
     ensures { result ≡ not_falling (take n column.now) }
 {
     let mut low = 0;
-    let mut i = 0;
-    while i < n {
+    for i in 0..n {
         let x = column[i];
         if x < low {
             return false;
         }
         low = x;
-        i += 1;
     }
     true
 }
@@ -27,14 +25,12 @@ fn rises_from(column: &[u64], n: usize, first: u64) -> bool
     ensures { result ≡ rises_above first (slice 1 n column.now) }
 {
     let mut low = first;
-    let mut i = 1;
-    while i < n {
+    for i in 1..n {
         let x = column[i];
         if x <= low {
             return false;
         }
         low = x;
-        i += 1;
     }
     true
 }

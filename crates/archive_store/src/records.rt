@@ -7,8 +7,8 @@ ghost use Rattle.archive.specs.Encode.{record_bytes, sets_bytes, row_bytes, unre
 ghost use Rattle.archive_store.specs.Lent.{zip2, zip3, head_from, set_from, row_from, unresolved_from, root_from, range_from, links_from, cover_from};
 ghost use Rattle.archive_store.specs.records.Sizes.{head_size, sets_size, rows_size, unresolved_size, roots_size, cover_body};
 
-use crate::covers::store_cover;
-use crate::edges::store_edges;
+use crate::covers::{CoverOut, store_cover};
+use crate::edges::{SetOut, store_edges};
 use crate::heads::{HeadOut, store_head, store_start};
 use crate::tables::{store_roots, store_rows, store_unresolved};
 use archive_bytes::store_u32;
@@ -34,23 +34,30 @@ pub fn sets_size(fo: usize, fd: usize, ro: usize, rd: usize, io: usize, id: usiz
 pub fn record_edges(
     out: &mut [u8],
     at: usize,
-    fo: &[u64],
-    fd: &[i64],
-    ro: &[u64],
-    rd: &[i64],
-    io: &[u64],
-    id: &[i64],
+    forward: &SetOut<'_>,
+    reverse: &SetOut<'_>,
+    inbound: &SetOut<'_>,
 ) -> usize
-    requires id_in_bounds { at + (6 + sets_size (length fo.now) (length fd.now) (length ro.now) (length rd.now) (length io.now) (length id.now)) ≤ length out.old }
-    requires id_bound { 2 + sets_size (length fo.now) (length fd.now) (length ro.now) (length rd.now) (length io.now) (length id.now) < 2 ^ 32 }
+    requires id_in_bounds { at + (6 + sets_size (length forward.now.offsets.now) (length forward.now.deltas.now)
+        (length reverse.now.offsets.now) (length reverse.now.deltas.now) (length inbound.now.offsets.now) (length inbound.now.deltas.now)) ≤ length out.old }
+    requires id_bound { 2 + sets_size (length forward.now.offsets.now) (length forward.now.deltas.now) (length reverse.now.offsets.now)
+        (length reverse.now.deltas.now) (length inbound.now.offsets.now) (length inbound.now.deltas.now) < 2 ^ 32 }
     ensures out_after { out.new ≡ sets out.old at
-        (record_bytes 2 (sets_bytes (set_from fo.now fd.now) (set_from ro.now rd.now) (set_from io.now id.now))) }
-    ensures value { result ≡ at + (6 + sets_size (length fo.now) (length fd.now) (length ro.now) (length rd.now)
-        (length io.now) (length id.now)) }
+        (record_bytes 2 (sets_bytes (set_from forward.now.offsets.now forward.now.deltas.now)
+        (set_from reverse.now.offsets.now reverse.now.deltas.now) (set_from inbound.now.offsets.now inbound.now.deltas.now))) }
+    ensures value { result ≡ at + (6 + sets_size (length forward.now.offsets.now) (length forward.now.deltas.now) (length reverse.now.offsets.now) (length reverse.now.deltas.now)
+        (length inbound.now.offsets.now) (length inbound.now.deltas.now)) }
 {
-    let n = sets_size(fo.len(), fd.len(), ro.len(), rd.len(), io.len(), id.len());
+    let n = sets_size(
+        forward.offsets.len(),
+        forward.deltas.len(),
+        reverse.offsets.len(),
+        reverse.deltas.len(),
+        inbound.offsets.len(),
+        inbound.deltas.len(),
+    );
     store_start(out, at, n, 2);
-    store_edges(out, at + 6, fo, fd, ro, rd, io, id);
+    store_edges(out, at + 6, forward, reverse, inbound);
     at + 6 + n
 }
 
@@ -112,38 +119,28 @@ pub fn cover_body(
     8 + 4 * chains + 4 * seqs + 12 * ranges + 4 * a + 4 * b + 4 * c + 4 * d
 }
 
-pub fn record_cover(
-    out: &mut [u8],
-    at: usize,
-    chains: &[u32],
-    seqs: &[u32],
-    ids: &[u32],
-    minima: &[u32],
-    maxima: &[u32],
-    a: &[u32],
-    b: &[u32],
-    c: &[u32],
-    d: &[u32],
-) -> usize
-    requires d_in_bounds { at + (6 + cover_body (length chains.now) (length seqs.now) (length ids.now) (length a.now) (length b.now) (length c.now) (length d.now)) ≤ length out.old }
-    requires minima_len { (length minima.now ≡ length ids.now) × (length maxima.now ≡ length ids.now)
-        × (2 + cover_body (length chains.now) (length seqs.now) (length ids.now) (length a.now) (length b.now) (length c.now) (length d.now) < 2 ^ 32) }
+pub fn record_cover(out: &mut [u8], at: usize, c: &CoverOut<'_>) -> usize
+    requires d_in_bounds { at + (6 + cover_body (length c.now.chains.now) (length c.now.seqs.now) (length c.now.ids.now)
+        (length c.now.from_chains.now) (length c.now.from_seqs.now) (length c.now.to_chains.now) (length c.now.to_seqs.now)) ≤ length out.old }
+    requires minima_len { (length c.now.minima.now ≡ length c.now.ids.now) × (length c.now.maxima.now ≡ length c.now.ids.now)
+        × (2 + cover_body (length c.now.chains.now) (length c.now.seqs.now) (length c.now.ids.now) (length c.now.from_chains.now)
+        (length c.now.from_seqs.now) (length c.now.to_chains.now) (length c.now.to_seqs.now) < 2 ^ 32) }
     ensures out_after { out.new ≡ sets out.old at
-        (record_bytes 6 (cover_bytes (cover_from chains.now seqs.now (zip3 range_from ids.now minima.now maxima.now)
-        (links_from a.now b.now c.now d.now)))) }
-    ensures value { result ≡ at + (6 + cover_body (length chains.now) (length seqs.now) (length ids.now) (length a.now)
-        (length b.now) (length c.now) (length d.now)) }
+        (record_bytes 6 (cover_bytes (cover_from c.now.chains.now c.now.seqs.now (zip3 range_from c.now.ids.now c.now.minima.now c.now.maxima.now)
+        (links_from c.now.from_chains.now c.now.from_seqs.now c.now.to_chains.now c.now.to_seqs.now)))) }
+    ensures value { result ≡ at + (6 + cover_body (length c.now.chains.now) (length c.now.seqs.now) (length c.now.ids.now) (length c.now.from_chains.now)
+        (length c.now.from_seqs.now) (length c.now.to_chains.now) (length c.now.to_seqs.now)) }
 {
     let n = cover_body(
-        chains.len(),
-        seqs.len(),
-        ids.len(),
-        a.len(),
-        b.len(),
-        c.len(),
-        d.len(),
+        c.chains.len(),
+        c.seqs.len(),
+        c.ids.len(),
+        c.from_chains.len(),
+        c.from_seqs.len(),
+        c.to_chains.len(),
+        c.to_seqs.len(),
     );
     store_start(out, at, n, 6);
-    store_cover(out, at + 6, chains, seqs, ids, minima, maxima, a, b, c, d);
+    store_cover(out, at + 6, c);
     at + 6 + n
 }

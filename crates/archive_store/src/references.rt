@@ -38,11 +38,9 @@ fn store_between(
     ensures { out.new ≡ sets out.old at
         (flat reference_bytes (slice from to (zip3 reference_from kinds.now spaces.now targets.now))) }
 {
-    let mut i = from;
     let mut p = at;
-    while i < to {
+    for i in from..to {
         store_reference(out, p, kinds[i], spaces[i], targets[i]);
-        i += 1;
         p += 10;
     }
 }

@@ -22,12 +22,10 @@ pub fn count_between(list: &[u64], from: usize, to: usize, low: u64, high: u64) 
     ensures upper_bound { result ≤ to - from }
 {
     let mut k = 0;
-    let mut j = from;
-    while j < to {
+    for j in from..to {
         if is_between(list[j], low, high) {
             k += 1;
         }
-        j += 1;
     }
     k
 }
@@ -59,12 +57,10 @@ fn store_starts(
     ensures value { result ≡ length (joined (rows_within kinds low high from n offsets.now targets.now)) }
 {
     let mut sum = 0;
-    let mut q = 0;
     let mut p = at;
-    while q < 2 * n {
+    for q in 0..2 * n {
         store_u64(out, p, sum as u64);
         sum += count_list(offsets, targets, 2 * from + q, low, high);
-        q += 1;
         p += 8;
     }
     store_u64(out, p, sum as u64);
@@ -101,11 +97,9 @@ fn store_list(
     ensures value { result ≡ at + length (delta_bytes (deltas_within low high event (slice_index_or (cut offsets.now targets.now) s []))) }
 {
     let b = index(offsets[s + 1]);
-    let mut j = index(offsets[s]);
     let mut p = at;
-    while j < b {
+    for j in index(offsets[s])..b {
         p = store_delta(out, p, event, targets[j], low, high);
-        j += 1;
     }
     p
 }
@@ -128,12 +122,10 @@ fn store_deltas(
     ensures out_after { out.new ≡ sets out.old at (delta_bytes (joined (deltas_from kinds first 0 (rows_within kinds low high from n offsets.now targets.now)))) }
     ensures value { result ≡ at + length (delta_bytes (joined (deltas_from kinds first 0 (rows_within kinds low high from n offsets.now targets.now)))) }
 {
-    let mut q = 0;
     let mut p = at;
-    while q < 2 * n {
+    for q in 0..2 * n {
         let event = first + ((q / 2) as u64);
         p = store_list(out, p, event, offsets, targets, 2 * from + q, low, high);
-        q += 1;
     }
     p
 }

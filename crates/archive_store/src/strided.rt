@@ -20,22 +20,18 @@ pub fn store_words(out: &mut [u8], at: usize, table: &[u64], p: usize, width: us
     requires { (p + n * width < length table.now + width) × (at + 8 * n ≤ length out.old) }
     ensures { out.new ≡ sets out.old at (flat (bytes_of 8) (several width (λ l. slice_index l 0) n (drop p table.now))) }
 {
-    let mut i = 0;
-    while i < n {
+    for i in 0..n {
         store_u64(out, at + 8 * i, number_at(table, p, i, width));
-        i += 1;
     }
 }
 
-// 4 bytes each, of numbers below 2^32.
+// 4 bytes each, of numbers below 2^32. It stands beside `store_words`, since a number of the table is no u32 before its bound is known.
 pub fn store_halves(out: &mut [u8], at: usize, table: &[u64], p: usize, width: usize, n: usize)
     requires width_in_bounds { (p + n * width < length table.now + width) × (at + 4 * n ≤ length out.old) }
     requires each { Each (λ x. x < 2 ^ 32) (several width (λ l. slice_index l 0) n (drop p table.now)) }
     ensures { out.new ≡ sets out.old at (flat (bytes_of 4) (several width (λ l. slice_index l 0) n (drop p table.now))) }
 {
-    let mut i = 0;
-    while i < n {
+    for i in 0..n {
         store_u32(out, at + 4 * i, number_at(table, p, i, width));
-        i += 1;
     }
 }

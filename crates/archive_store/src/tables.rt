@@ -28,11 +28,9 @@ pub fn store_rows(out: &mut [u8], at: usize, flags: &[u8], tags: &[u64])
     requires { (length flags.now ≡ length tags.now) × (at + length tags.now * 9 ≤ length out.old) }
     ensures { out.new ≡ sets out.old at (flat row_bytes (zip2 row_from flags.now tags.now)) }
 {
-    let mut i = 0;
     let mut p = at;
-    while i < tags.len() {
+    for i in 0..tags.len() {
         store_row(out, p, flags[i], tags[i]);
-        i += 1;
         p += 9;
     }
 }
@@ -50,11 +48,9 @@ pub fn store_unresolved(out: &mut [u8], at: usize, children: &[u64], kinds: &[u8
     requires { (length kinds.now ≡ length children.now) × (length handles.now ≡ length children.now) × (at + length children.now * 13 ≤ length out.old) }
     ensures { out.new ≡ sets out.old at (flat unresolved_bytes (zip3 unresolved_from children.now kinds.now handles.now)) }
 {
-    let mut i = 0;
     let mut p = at;
-    while i < children.len() {
+    for i in 0..children.len() {
         store_one(out, p, children[i], kinds[i], handles[i]);
-        i += 1;
         p += 13;
     }
 }
@@ -71,11 +67,9 @@ pub fn store_roots(out: &mut [u8], at: usize, rows: &[u64], handles: &[u64])
     requires { (length handles.now ≡ length rows.now) × (at + length rows.now * 16 ≤ length out.old) }
     ensures { out.new ≡ sets out.old at (flat root_bytes (zip2 root_from rows.now handles.now)) }
 {
-    let mut i = 0;
     let mut p = at;
-    while i < rows.len() {
+    for i in 0..rows.len() {
         store_root(out, p, rows[i], handles[i]);
-        i += 1;
         p += 16;
     }
 }
@@ -93,11 +87,9 @@ pub fn store_ranges(out: &mut [u8], at: usize, ids: &[u32], minima: &[u32], maxi
     requires { (length minima.now ≡ length ids.now) × (length maxima.now ≡ length ids.now) × (at + length ids.now * 12 ≤ length out.old) }
     ensures { out.new ≡ sets out.old at (flat range_bytes (zip3 range_from ids.now minima.now maxima.now)) }
 {
-    let mut i = 0;
     let mut p = at;
-    while i < ids.len() {
+    for i in 0..ids.len() {
         store_range(out, p, ids[i], minima[i], maxima[i]);
-        i += 1;
         p += 12;
     }
 }

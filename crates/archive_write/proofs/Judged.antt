@@ -1,4 +1,5 @@
 -- The rules of a call that writes a record: which refusal comes first, and what holds where there is none.
+use Rattle.std.specs.Prelude.{Err, Ok, Result}
 use mathlib.Core.Path.{◌≡◌, refl, sym, ◌∙◌}
 use mathlib.Core.Bool.{Bool, true, false, not, ◌&&◌, and-eq-true_iff}
 use mathlib.Core.List.{List, [], ◌∷◌}
@@ -16,8 +17,6 @@ use Rattle.columns.specs.Refusal.{refuse, first_of, limits}
 use Rattle.columns.specs.Answers.{ruling}
 use Rattle.columns.specs.declared.refusal.Refusal.{Refusal}
 use Rattle.columns.specs.declared.refusal.Refusal.TheVariants.{SliceShort, OverRecords, OverNumbers}
-use Rattle.columns.specs.declared.refusal.Ruling.{Ruling}
-use Rattle.columns.specs.declared.refusal.Ruling.TheVariants.{Kept, Broken}
 use Rattle.columns.proofs.FirstBroken.{each_none, not-refused, passed}
 use Rattle.columns.proofs.Told.{told-kept}
 use Rattle.cover_rows.proofs.limits.Anyone.{any-nil, few-first}
@@ -162,12 +161,12 @@ subject-few {r} n e h = subject-small n (sym e ∙ not-false r h)
 -- ── tests in order ───────────────────────────────────────────────────────────────────────────
 
 module _ (records columns : List ℕ) (x : Refusal) (ok : Bool) (len at n : ℕ) {b : Bool} (d : b ≡ any (ltb max_records) records) where
-  pub many-rows : b ≡ true → Broken OverRecords ≡ ruling (write_rules records columns x ok len at n)
+  pub many-rows : b ≡ true → Err OverRecords ≡ ruling (write_rules records columns x ok len at n)
   unfolding write_rules first_of
   many-rows e = rw (limits-records records columns [] (sym d ∙ e))
 
   module _ (e : b ≡ false) {m : Bool} (f : m ≡ any (ltb max_numbers) columns) where
-    pub many : m ≡ true → Broken OverNumbers ≡ ruling (write_rules records columns x ok len at n)
+    pub many : m ≡ true → Err OverNumbers ≡ ruling (write_rules records columns x ok len at n)
     unfolding write_rules first_of
     many g = rw (limits-numbers records columns [] (sym d ∙ e) (sym f ∙ g))
 
@@ -176,33 +175,33 @@ module _ (records columns : List ℕ) (x : Refusal) (ok : Bool) (len at n : ℕ)
       unfolding any
       within = limits-none records columns [] (sym d ∙ e) (sym f ∙ g) refl
 
-      pub broken : not u ≡ true → Broken x ≡ ruling (write_rules records columns x ok len at n)
+      pub broken : not u ≡ true → Err x ≡ ruling (write_rules records columns x ok len at n)
       unfolding write_rules first_of
       broken h = rw (within, ← k, not-true u h)
 
       module _ (h : not u ≡ false) {s : Bool} (i : s ≡ ltb len (at + n)) where
-        pub no_room : s ≡ true → Broken SliceShort ≡ ruling (write_rules records columns x ok len at n)
+        pub no_room : s ≡ true → Err SliceShort ≡ ruling (write_rules records columns x ok len at n)
         unfolding write_rules first_of
         no_room j = rw (within, ← k, not-false u h, ← i, j)
 
-        pub none-broken : s ≡ false → Kept ≡ ruling (write_rules records columns x ok len at n)
+        pub none-broken : s ≡ false → (Ok tt) ≡ ruling (write_rules records columns x ok len at n)
         unfolding write_rules first_of
         none-broken j = rw (within, ← k, not-false u h, ← i, j)
 
 -- a record of no other columns
 module _ (records : List ℕ) (x : Refusal) (ok : Bool) (len at n : ℕ) {b : Bool} (d : b ≡ any (ltb max_records) records) where
-  pub over : b ≡ true → Broken OverRecords ≡ ruling (write_rules records [] x ok len at n)
+  pub over : b ≡ true → Err OverRecords ≡ ruling (write_rules records [] x ok len at n)
   over e = many-rows records [] x ok len at n d e
 
   module _ (e : b ≡ false) {u : Bool} (k : u ≡ ok) where
-    pub unfit : not u ≡ true → Broken x ≡ ruling (write_rules records [] x ok len at n)
+    pub unfit : not u ≡ true → Err x ≡ ruling (write_rules records [] x ok len at n)
     unfit h = broken records [] x ok len at n d e (sym (any-nil (ltb max_numbers))) refl k h
 
     module _ (h : not u ≡ false) {s : Bool} (i : s ≡ ltb len (at + n)) where
-      pub too-low : s ≡ true → Broken SliceShort ≡ ruling (write_rules records [] x ok len at n)
+      pub too-low : s ≡ true → Err SliceShort ≡ ruling (write_rules records [] x ok len at n)
       too-low j = no_room records [] x ok len at n d e (sym (any-nil (ltb max_numbers))) refl k h i j
 
-      pub fit : s ≡ false → Kept ≡ ruling (write_rules records [] x ok len at n)
+      pub fit : s ≡ false → (Ok tt) ≡ ruling (write_rules records [] x ok len at n)
       fit j = none-broken records [] x ok len at n d e (sym (any-nil (ltb max_numbers))) refl k h i j
 
 -- ── few enough ───────────────────────────────────────────────────────────────────────────────
@@ -277,7 +276,7 @@ module _ (records columns : List ℕ) (x : Refusal) (ok : Bool) (len at n : ℕ)
   few-numbers = few.1
 
 -- the same, as the code tells it
-module _ (records columns : List ℕ) (x : Refusal) (ok : Bool) (len at n : ℕ) (v : Ruling) (d : v ≡ ruling (write_rules records columns x ok len at n)) (e : v ≡ Kept) where
+module _ (records columns : List ℕ) (x : Refusal) (ok : Bool) (len at n : ℕ) (v : Result (Unit {0}) Refusal) (d : v ≡ ruling (write_rules records columns x ok len at n)) (e : v ≡ Ok tt) where
   kept : write_rules records columns x ok len at n ≡ none
   kept = told-kept (write_rules records columns x ok len at n) d e
 

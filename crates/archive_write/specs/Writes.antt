@@ -1,5 +1,5 @@
 -- Document 01, "Refused for the state", "Order" and "Archive records", and document 02, L1: what a call that writes one record answers, and what the lent bytes hold after it.
-use Rattle.std.specs.Prelude.{Bool, not, ◌&&◌, List, [], ◌∷◌, ℕ, ◌+◌, ◌-◌, ◌/◌, eqb, ltb, leb, length}
+use Rattle.std.specs.Prelude.{Bool, not, ◌&&◌, List, [], ◌∷◌, ℕ, ◌+◌, ◌-◌, ◌/◌, eqb, ltb, leb, length, Err, Ok, Result}
 use Rattle.std.proofs.Math.Option.{Option, none, some}
 use Rattle.lists.specs.Lists.{all}
 use Rattle.lists.specs.Order.{rising, not_falling}
@@ -13,8 +13,6 @@ use Rattle.archive.specs.Parse.{references_ok}
 use Rattle.archive_store.specs.Lent.{cited_from}
 use Rattle.archive_store.specs.records.Sizes.{head_size, sets_size, rows_size, unresolved_size, roots_size, cover_body, references_size}
 use Rattle.archive_store.specs.sizes.FileSize.{offsets_of}
-use Rattle.archive_write.specs.declared.writer.Wrote.{Wrote}
-use Rattle.archive_write.specs.declared.writer.Wrote.TheVariants.{Ends, Refused}
 
 -- ── rules ────────────────────────────────────────────────────────────────────────────────────
 
@@ -96,6 +94,6 @@ references_rules offsets kinds spaces targets len at =
 -- ── answers ──────────────────────────────────────────────────────────────────────────────────
 
 -- the refusal, or the place after the record
-unfoldable pub wrote : Option Refusal → ℕ → Wrote
-wrote none end = Ends end
-wrote (some r) end = Refused r
+unfoldable pub wrote : Option Refusal → ℕ → Result ℕ Refusal
+wrote none end = Ok end
+wrote (some r) end = Err r

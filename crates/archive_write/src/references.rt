@@ -1,6 +1,5 @@
 // Whether a record of references can be written. Its rules are those of rows; they are asked of the columns that the references stand in.
 ghost use Rattle.std.specs.Prelude.{◌≡◌, true, [], ◌∷◌, ◌+◌, ◌≤◌, ltb, length, drop};
-ghost use Rattle.std.proofs.Math.Seq.{slice};
 ghost use Rattle.lists.specs.Lists.{all, any};
 ghost use Rattle.lists.specs.Order.{climbs_to};
 ghost use Rattle.columns.specs.Answers.{ruling};
@@ -10,10 +9,10 @@ ghost use Rattle.archive_store.specs.records.Sizes.{references_size};
 ghost use Rattle.archive_write.specs.ByColumns.{up_to, times_in, once_at_most, columns_ok};
 ghost use Rattle.archive_write.specs.Writes.{citing_rows, whole_references, references_rules};
 
-use crate::rules::{low, same_three, three_many};
+use crate::rules::{NUMBERS, RECORDS, is_over, low, same_three};
 use archive_store::references::references_size;
 use arrays::index;
-use columns::refusal::{Refusal, Ruling};
+use columns::refusal::Refusal;
 
 // ── offsets ──
 
@@ -30,7 +29,7 @@ fn rows_of(offsets: usize) -> usize
 fn rows_over(offsets: usize) -> bool
     ensures { result ≡ any (ltb max_records) (citing_rows offsets ∷ []) }
 {
-    1025 < offsets
+    is_over(&[rows_of(offsets)], RECORDS)
 }
 
 // Whether the offsets after the first rise or stay level from 0, and end at `high`.
@@ -38,14 +37,12 @@ fn climbs(offsets: &[u64], high: u64) -> bool
     ensures { result ≡ climbs_to high 0 (drop 1 offsets.now) }
 {
     let mut low = 0;
-    let mut i = 1;
-    while i < offsets.len() {
+    for i in 1..offsets.len() {
         let next = offsets[i];
         if next < low {
             return false;
         }
         low = next;
-        i += 1;
     }
     low == high
 }
@@ -69,30 +66,14 @@ fn is_cut(offsets: &[u64], n: usize) -> bool
 fn is_up_to(column: &[u8], greatest: u8) -> bool
     ensures { result ≡ up_to greatest column.now }
 {
-    let mut i = 0;
-    while i < column.len() {
-        if greatest < column[i] {
-            return false;
-        }
-        i += 1;
-    }
-    true
+    column.iter().all(|&x| x <= greatest)
 }
 
-// How many of kinds[from..to] are of one kind.
-fn count_kind(kinds: &[u8], kind: u8, from: usize, to: usize) -> usize
-    requires { (from ≤ to) × (to ≤ length kinds.now) }
-    ensures { result ≡ times_in kind (slice from to kinds.now) }
+// How many of a row's references are of one kind.
+fn count_kind(row: &[u8], kind: u8) -> usize
+    ensures { result ≡ times_in kind row.now }
 {
-    let mut n: usize = 0;
-    let mut i = from;
-    while i < to {
-        if kinds[i] == kind {
-            n += 1;
-        }
-        i += 1;
-    }
-    n
+    row.iter().filter(|&&k| k == kind).count()
 }
 
 // Whether no row has two references of one kind.
@@ -100,14 +81,12 @@ fn is_once(offsets: &[u64], kinds: &[u8], kind: u8) -> bool
     requires { from_to 0 (length kinds.now) offsets.now ≡ true }
     ensures { result ≡ all (once_at_most kind) (cut offsets.now kinds.now) }
 {
-    let mut i = 0;
-    while i + 1 < offsets.len() {
+    for i in 0..rows_of(offsets.len()) {
         let from = index(offsets[i]);
         let to = index(offsets[i + 1]);
-        if 1 < count_kind(kinds, kind, from, to) {
+        if 1 < count_kind(&kinds[from..to], kind) {
             return false;
         }
-        i += 1;
     }
     true
 }
@@ -161,20 +140,20 @@ pub fn references_rules(
     targets: &[u64],
     len: usize,
     at: usize,
-) -> Ruling
+) -> Result<(), Refusal>
     ensures { result ≡ ruling (references_rules offsets.now kinds.now spaces.now targets.now len at) }
 {
     if rows_over(offsets.len()) {
-        return Ruling::Broken(Refusal::OverRecords);
+        return Err(Refusal::OverRecords);
     }
-    if three_many(kinds.len(), spaces.len(), targets.len()) {
-        return Ruling::Broken(Refusal::OverNumbers);
+    if is_over(&[kinds.len(), spaces.len(), targets.len()], NUMBERS) {
+        return Err(Refusal::OverNumbers);
     }
     if !whole_references(offsets, kinds, spaces, targets) {
-        return Ruling::Broken(Refusal::RecordBroken);
+        return Err(Refusal::RecordBroken);
     }
     if low_references(offsets.len(), kinds.len(), len, at) {
-        return Ruling::Broken(Refusal::SliceShort);
+        return Err(Refusal::SliceShort);
     }
-    Ruling::Kept
+    Ok(())
 }

@@ -8,8 +8,12 @@ ghost use Rattle.archive_write.specs.Writes.{even3, even_cover, subject_fits, wh
 
 use archive_store::order::{is_level, rises};
 use archive_store::records::{cover_body, sets_size};
-use columns::refusal::{Refusal, Ruling};
-use cover_rows::limits::{seven_over, three_over};
+use columns::refusal::Refusal;
+
+// The most records, and the most numbers, that one column may have.
+pub const RECORDS: usize = 1024;
+
+pub const NUMBERS: usize = 4096;
 
 // Whether fewer than n bytes are left from `at` on.
 pub fn low(len: usize, at: usize, n: usize) -> bool
@@ -21,69 +25,11 @@ pub fn low(len: usize, at: usize, n: usize) -> bool
     len - at < n
 }
 
-fn one_over(a: usize) -> bool
-    ensures { result ≡ any (ltb max_records) (a ∷ []) }
+// Whether one of the counts is above the greatest that there may be.
+pub fn is_over(counts: &[usize], most: usize) -> bool
+    ensures { result ≡ any (ltb most) counts.now }
 {
-    1024 < a
-}
-
-fn two_over(a: usize, b: usize) -> bool
-    ensures { result ≡ any (ltb max_records) (a ∷ b ∷ []) }
-{
-    if 1024 < a {
-        return true;
-    }
-    1024 < b
-}
-
-fn nine_over(
-    a: usize,
-    b: usize,
-    c: usize,
-    d: usize,
-    e: usize,
-    f: usize,
-    g: usize,
-    h: usize,
-    i: usize,
-) -> bool
-    ensures { result ≡ any (ltb max_records) (a ∷ b ∷ c ∷ d ∷ e ∷ f ∷ g ∷ h ∷ i ∷ []) }
-{
-    if 1024 < a {
-        return true;
-    }
-    if 1024 < b {
-        return true;
-    }
-    seven_over(c, d, e, f, g, h, i)
-}
-
-// Whether one of three columns has too many numbers.
-pub fn three_many(a: usize, b: usize, c: usize) -> bool
-    ensures { result ≡ any (ltb max_numbers) (a ∷ b ∷ c ∷ []) }
-{
-    if 4096 < a {
-        return true;
-    }
-    if 4096 < b {
-        return true;
-    }
-    4096 < c
-}
-
-fn six_many(a: usize, b: usize, c: usize, d: usize, e: usize, f: usize) -> bool
-    ensures { result ≡ any (ltb max_numbers) (a ∷ b ∷ c ∷ d ∷ e ∷ f ∷ []) }
-{
-    if 4096 < a {
-        return true;
-    }
-    if 4096 < b {
-        return true;
-    }
-    if 4096 < c {
-        return true;
-    }
-    three_many(d, e, f)
+    counts.iter().any(|&n| most < n)
 }
 
 fn subject_fits(n: usize) -> bool
@@ -229,19 +175,19 @@ fn low_cover(
     low(len, at, 6 + n)
 }
 
-pub fn head_rules(rows: u32, subject: usize, len: usize, at: usize) -> Ruling
+pub fn head_rules(rows: u32, subject: usize, len: usize, at: usize) -> Result<(), Refusal>
     ensures { result ≡ ruling (head_rules rows subject len at) }
 {
-    if one_over(rows as usize) {
-        return Ruling::Broken(Refusal::OverRecords);
+    if is_over(&[rows as usize], RECORDS) {
+        return Err(Refusal::OverRecords);
     }
     if !subject_fits(subject) {
-        return Ruling::Broken(Refusal::SubjectLength);
+        return Err(Refusal::SubjectLength);
     }
     if low_head(subject, len, at) {
-        return Ruling::Broken(Refusal::SliceShort);
+        return Err(Refusal::SliceShort);
     }
-    Ruling::Kept
+    Ok(())
 }
 
 pub fn edges_rules(
@@ -253,37 +199,37 @@ pub fn edges_rules(
     id: usize,
     len: usize,
     at: usize,
-) -> Ruling
+) -> Result<(), Refusal>
     ensures { result ≡ ruling (edges_rules fo fd ro rd io id len at) }
 {
-    if three_over(fo / 2, ro / 2, io / 2) {
-        return Ruling::Broken(Refusal::OverRecords);
+    if is_over(&[fo / 2, ro / 2, io / 2], RECORDS) {
+        return Err(Refusal::OverRecords);
     }
-    if six_many(fo, fd, ro, rd, io, id) {
-        return Ruling::Broken(Refusal::OverNumbers);
+    if is_over(&[fo, fd, ro, rd, io, id], NUMBERS) {
+        return Err(Refusal::OverNumbers);
     }
     if !whole_sets(fo, ro, io) {
-        return Ruling::Broken(Refusal::RecordBroken);
+        return Err(Refusal::RecordBroken);
     }
     if low_sets(fo, fd, ro, rd, io, id, len, at) {
-        return Ruling::Broken(Refusal::SliceShort);
+        return Err(Refusal::SliceShort);
     }
-    Ruling::Kept
+    Ok(())
 }
 
-pub fn rows_rules(flags: usize, tags: usize, len: usize, at: usize) -> Ruling
+pub fn rows_rules(flags: usize, tags: usize, len: usize, at: usize) -> Result<(), Refusal>
     ensures { result ≡ ruling (rows_rules flags tags len at) }
 {
-    if two_over(flags, tags) {
-        return Ruling::Broken(Refusal::OverRecords);
+    if is_over(&[flags, tags], RECORDS) {
+        return Err(Refusal::OverRecords);
     }
     if !same_two(flags, tags) {
-        return Ruling::Broken(Refusal::RecordBroken);
+        return Err(Refusal::RecordBroken);
     }
     if low_rows(tags, len, at) {
-        return Ruling::Broken(Refusal::SliceShort);
+        return Err(Refusal::SliceShort);
     }
-    Ruling::Kept
+    Ok(())
 }
 
 pub fn unresolved_rules(
@@ -292,34 +238,34 @@ pub fn unresolved_rules(
     handles: usize,
     len: usize,
     at: usize,
-) -> Ruling
+) -> Result<(), Refusal>
     ensures { result ≡ ruling (unresolved_rules children.now kinds handles len at) }
 {
-    if three_over(children.len(), kinds, handles) {
-        return Ruling::Broken(Refusal::OverRecords);
+    if is_over(&[children.len(), kinds, handles], RECORDS) {
+        return Err(Refusal::OverRecords);
     }
     if !whole_unresolved(children, kinds, handles) {
-        return Ruling::Broken(Refusal::RecordBroken);
+        return Err(Refusal::RecordBroken);
     }
     if low_unresolved(children.len(), len, at) {
-        return Ruling::Broken(Refusal::SliceShort);
+        return Err(Refusal::SliceShort);
     }
-    Ruling::Kept
+    Ok(())
 }
 
-pub fn roots_rules(rows: &[u64], handles: usize, len: usize, at: usize) -> Ruling
+pub fn roots_rules(rows: &[u64], handles: usize, len: usize, at: usize) -> Result<(), Refusal>
     ensures { result ≡ ruling (roots_rules rows.now handles len at) }
 {
-    if two_over(rows.len(), handles) {
-        return Ruling::Broken(Refusal::OverRecords);
+    if is_over(&[rows.len(), handles], RECORDS) {
+        return Err(Refusal::OverRecords);
     }
     if !whole_roots(rows, handles) {
-        return Ruling::Broken(Refusal::RecordBroken);
+        return Err(Refusal::RecordBroken);
     }
     if low_roots(rows.len(), len, at) {
-        return Ruling::Broken(Refusal::SliceShort);
+        return Err(Refusal::SliceShort);
     }
-    Ruling::Kept
+    Ok(())
 }
 
 pub fn cover_rules(
@@ -334,17 +280,17 @@ pub fn cover_rules(
     d: usize,
     len: usize,
     at: usize,
-) -> Ruling
+) -> Result<(), Refusal>
     ensures { result ≡ ruling (cover_rules chains seqs ids minima maxima a b c d len at) }
 {
-    if nine_over(chains, seqs, ids, minima, maxima, a, b, c, d) {
-        return Ruling::Broken(Refusal::OverRecords);
+    if is_over(&[chains, seqs, ids, minima, maxima, a, b, c, d], RECORDS) {
+        return Err(Refusal::OverRecords);
     }
     if !same_cover(chains, seqs, ids, minima, maxima, a, b, c, d) {
-        return Ruling::Broken(Refusal::CoverForm);
+        return Err(Refusal::CoverForm);
     }
     if low_cover(chains, seqs, ids, minima, maxima, a, b, c, d, len, at) {
-        return Ruling::Broken(Refusal::SliceShort);
+        return Err(Refusal::SliceShort);
     }
-    Ruling::Kept
+    Ok(())
 }

@@ -2,60 +2,44 @@
 use mathlib.Core.Path.{◌≡◌, refl, sym, ◌∙◌}
 use mathlib.Core.Bool.{Bool, true, false}
 use mathlib.Core.List.{List, map}
-use Prim.Native.Nat.{ℕ, ◌≤◌, ◌<◌, ◌+◌, ◌-◌, ◌*◌, ◌/◌}
-use native.Mathlib.Nat.{add-zero, add-suc, le-div_iff_mul-le}
+use Prim.Native.Nat.{ℕ, suc, ◌≤◌, ◌<◌, ◌+◌, ◌-◌, ◌*◌, ◌/◌}
+use native.Mathlib.Nat.{add-zero, add-suc, suc-mul, le-div_iff_mul-le}
 use native.Mathlib.Numerals.{add-one}
 use native.Mathlib.Omega.{arith}
 use lib.Dec.{leb}
-use lib.IntN.{ℤ, pos}
 use lib.ListN.{length, get_or, set, drop, drop_of_length-le}
 use lib.Seq.{sets, slice, slice-cons, drop-cons}
-use mir.Syntax.{w64}
-use mir.Val.{SFits, to_z, of_z}
-use mir.ValLaws.{to_z-of_z}
 use borrow.Author.Tests.{lt-leb, leb-true, leb-false}
 use Rattle.lists.specs.Lists.{flat}
 use Rattle.lists.proofs.Slices.{slice-none, sets-append}
-use Rattle.archive_bytes.specs.Bytes.{be, bytes_of, signed_of, unsigned_of, column}
+use Rattle.archive_bytes.specs.Bytes.{be, bytes_of, column}
 use Rattle.archive_bytes.proofs.Numbers.{length-bytes_of}
 use Rattle.archive_bytes.proofs.Several.{be-front, several-none, several-cons}
 
--- ── loading ──────────────────────────────────────────────────────────────────────────────────
+-- ── loading and storing ──────────────────────────────────────────────────────────────────────
 
-module _ (w n i : ℕ) (l : List ℕ) (p : ℕ) where
-  module _ {t : List ℕ} (out : List ℕ) (e : t ≡ sets out i (column w (n - i) l p)) where
-    pub all-loaded : n ≤ i → out ≡ t
-    all-loaded h = rw (e, several-none w (λ l. be w l 0) n i l p h)
+-- with one thing less to come, and w bytes taken, the others still fit
+pub still-fits : {v : ℕ} (w n i p len : ℕ) → i < n → p + (n - i) * w ≤ len → v ≡ w → p + v + (n - (i + 1)) * w ≤ len
+still-fits w n i p len h k e =
+    let z : n - i ≡ suc (n - (i + 1)) = omega arith in
+    let m : p + (suc (n - (i + 1))) * w ≤ len = rw (← z) k in
+    rw e (omega (arith, suc-mul (n - (i + 1)) w, m))
 
-    pub one-loaded : {v : ℕ} → i < n → v ≡ be w l p → t ≡ sets (set out i v) (i + 1) (column w (n - (i + 1)) l (p + w))
-    one-loaded h f = rw (e, several-cons w (λ l. be w l 0) n i l p h, be-front w l p, f, add-one)
+module _ {A : Type 0} (w n i : ℕ) (l : List ℕ) (p : ℕ) (number_of : ℕ → A) {t : List A} (out : List A) (e : t ≡ sets out i (map number_of (column w (n - i) l p))) where
+  pub all-loaded : n ≤ i → out ≡ t
+  all-loaded h = rw (e, several-none w (λ l. be w l 0) n i l p h)
 
-  module _ {t : List ℤ} (out : List ℤ) (e : t ≡ sets out i (map signed_of (column w (n - i) l p))) where
-    pub all-signed : n ≤ i → out ≡ t
-    all-signed h = rw (e, several-none w (λ l. be w l 0) n i l p h)
+  pub one-loaded : {v : ℕ} {x : A} → i < n → x ≡ number_of (be w l p) → v ≡ w → t ≡ sets (set out i x) (i + 1) (map number_of (column w (n - (i + 1)) l (p + v)))
+  one-loaded h f g = rw (e, several-cons w (λ l. be w l 0) n i l p h, be-front w l p, f, g, add-one)
 
-    pub one-signed : {v : ℕ} {z : ℤ} → i < n → v ≡ be w l p → z ≡ signed_of v → t ≡ sets (set out i z) (i + 1) (map signed_of (column w (n - (i + 1)) l (p + w)))
-    one-signed h f g = rw (e, several-cons w (λ l. be w l 0) n i l p h, be-front w l p, g, f, add-one)
-
--- ── storing ──────────────────────────────────────────────────────────────────────────────────
-
-module _ {t : List ℕ} (w : ℕ) (xs : List ℕ) (i to p : ℕ) (out : List ℕ) (e : t ≡ sets out p (flat (bytes_of w) (slice i to xs))) where
+module _ {A : Type 0} (w : ℕ) (bits_of : A → ℕ) {t : List ℕ} (xs : List A) (i to p : ℕ) (out : List ℕ)
+    (e : t ≡ sets out p (flat (bytes_of w) (map bits_of (slice i to xs)))) where
   pub all-stored : to ≤ i → out ≡ t
   all-stored h = rw (e, slice-none i to xs h)
 
-  pub one-stored : {k : List ℕ} → i < to → to ≤ length xs → k ≡ sets out p (bytes_of w (get_or xs i 0)) → t ≡ sets k (p + w) (flat (bytes_of w) (slice (i + 1) to xs))
-  one-stored h g f = rw (e, slice-cons i to xs 0, sets-append, length-bytes_of w (get_or xs i 0), f, add-one)
-
-  pub one-stored-as : {k : List ℕ} {v : ℕ} → i < to → to ≤ length xs → v ≡ get_or xs i 0 → k ≡ sets out p (bytes_of w v) → t ≡ sets k (p + w) (flat (bytes_of w) (slice (i + 1) to xs))
-  one-stored-as h g d f = one-stored h g (rw d at f)
-
-module _ {t : List ℕ} (xs : List ℤ) (i to p : ℕ) (out : List ℕ) (e : t ≡ sets out p (flat (bytes_of 8) (map unsigned_of (slice i to xs)))) where
-  pub all-stored-z : to ≤ i → out ≡ t
-  all-stored-z h = rw (e, slice-none i to xs h)
-
-  pub one-stored-z : {k : List ℕ} {v : ℕ} → i < to → to ≤ length xs → SFits w64 (get_or xs i (pos 0)) → v ≡ unsigned_of (to_z w64 (of_z w64 (get_or xs i (pos 0)))) → k ≡ sets out p (bytes_of 8 v)
-      → t ≡ sets k (p + 8) (flat (bytes_of 8) (map unsigned_of (slice (i + 1) to xs)))
-  one-stored-z {v = v} h g s d f = rw (e, slice-cons i to xs (pos 0), sets-append, ← to_z-of_z w64 (get_or xs i (pos 0)) s, ← d, length-bytes_of 8 v, f, add-one)
+  pub one-stored : {k : List ℕ} {v : ℕ} {x : A} → i < to → to ≤ length xs → x ≡ get_or xs i x → k ≡ sets out p (bytes_of w (bits_of x)) → v ≡ w
+      → t ≡ sets k (p + v) (flat (bytes_of w) (map bits_of (slice (i + 1) to xs)))
+  one-stored {x = x} h g d f y = rw (e, slice-cons i to xs x, sets-append, ← d, length-bytes_of w (bits_of x), f, y, add-one)
 
 module _ {t : List ℕ} (l s : List ℕ) (at i : ℕ) (e : t ≡ sets l (at + i) (drop i s)) where
   pub all-copied : length s ≤ i → l ≡ t

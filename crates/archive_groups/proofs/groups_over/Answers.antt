@@ -24,5 +24,5 @@ returns c = search (rules, none_over)
 pub returns-then-k-n-gt16 : goal.returns-then-k-n-gt16
 returns-then-k-n-gt16 c =
     let i = c.loop-p.invariant in
-    over-now _ _ _ _ _ _ i.2 i.3 i.4 _ _ c.loop-p-test.true i.1 c.file_at-x.ensures.result_value c.in-FileIs.is c.with_group-n.ensures.list_after c.group_of.ensures
+    over-now _ _ _ _ _ _ i.2 i.3 i.4 _ _ c.loop-p-test.true i.1 c.file_at.ensures.result_value c.in-Some.is c.with_group-n.ensures.list_after c.group_of.ensures
     c.with_group-n.ensures.upper_bound.0 c.with_group-n.ensures.upper_bound.1 c.if-k-n-gt16.true

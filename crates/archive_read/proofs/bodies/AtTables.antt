@@ -35,9 +35,9 @@ module _ {t : Bool} (n i : ℕ) (b : List ℕ) (p : ℕ) (e : t ≡ all (λ flag
   unfolding all
   flag-bad h f = rw (e, several-cons 9 (λ l. get_or l 0 0) n i b p h, front b p, lt-leb (get_or b p 0) 1 f)
 
-  pub flag-good : i < n → get_or b p 0 ≤ 1 → t ≡ all (λ flag. leb flag 1) (flags_of (n - (i + 1)) (drop (p + 9) b))
+  pub flag-good : {q : ℕ} → i < n → get_or b p 0 ≤ 1 → q ≡ p + 9 → t ≡ all (λ flag. leb flag 1) (flags_of (n - (i + 1)) (drop q b))
   unfolding all
-  flag-good h f = rw (e, several-cons 9 (λ l. get_or l 0 0) n i b p h, front b p, le-leb (get_or b p 0) 1 f)
+  flag-good h f y = rw (y, e, several-cons 9 (λ l. get_or l 0 0) n i b p h, front b p, le-leb (get_or b p 0) 1 f)
 
 module _ (b : List ℕ) (n : ℕ) where
   pub rows-length : (length b ≡ n * 9 → ⊥) → broken ≡ whole (Parse.rows n) b
@@ -116,9 +116,9 @@ module _ {t : Bool} (low n i : ℕ) (b : List ℕ) (p : ℕ) (e : t ≡ level_ab
   unfolding level_above unresolved_at
   falling {x} h d f = rw (e, several-cons 13 unresolved_at n i b p h, be-front 8 b p, ← d, lt-leb low x f)
 
-  pub level : {x : ℕ} → i < n → x ≡ be 8 b p → low ≤ x → t ≡ level_above x (children_of (n - (i + 1)) (drop (p + 13) b))
+  pub level : {x q : ℕ} → i < n → x ≡ be 8 b p → low ≤ x → q ≡ p + 13 → t ≡ level_above x (children_of (n - (i + 1)) (drop q b))
   unfolding level_above unresolved_at
-  level {x} h d f = rw (e, several-cons 13 unresolved_at n i b p h, be-front 8 b p, ← d, le-leb low x f)
+  level {x} h d f y = rw (y, e, several-cons 13 unresolved_at n i b p h, be-front 8 b p, ← d, le-leb low x f)
 
 module _ (b : List ℕ) where
   pub unresolved-short : length b < 4 → broken ≡ whole Parse.unresolved b
@@ -162,9 +162,9 @@ module _ {t : Bool} (low n i : ℕ) (b : List ℕ) (p : ℕ) (e : t ≡ rises_ab
   unfolding rises_above root_at
   not-above {x} h d f = rw (e, several-cons 16 root_at n i b p h, be-front 8 b p, ← d, le-ltb low x f)
 
-  pub is-above : {x : ℕ} → i < n → x ≡ be 8 b p → low < x → t ≡ rises_above x (rows_in (n - (i + 1)) (drop (p + 16) b))
+  pub is-above : {x q : ℕ} → i < n → x ≡ be 8 b p → low < x → q ≡ p + 16 → t ≡ rises_above x (rows_in (n - (i + 1)) (drop q b))
   unfolding rises_above root_at
-  is-above {x} h d f = rw (e, several-cons 16 root_at n i b p h, be-front 8 b p, ← d, lt-ltb low x f)
+  is-above {x} h d f y = rw (y, e, several-cons 16 root_at n i b p h, be-front 8 b p, ← d, lt-ltb low x f)
 
 module _ (b : List ℕ) where
   pub roots-short : length b < 4 → broken ≡ whole Parse.roots b

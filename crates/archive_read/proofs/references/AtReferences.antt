@@ -1,9 +1,10 @@
 -- Record 7: one turn of each loop over a row's references and over the rows, and each answer of the functions that read them.
+use Rattle.std.specs.Prelude.{None, Some, Option}
 use mathlib.Core.Path.{◌≡◌, refl, sym, ◌∙◌, ap}
 use mathlib.Core.Bool.{Bool, true, false, cond, not}
 use mathlib.Core.List.{List, [], ◌∷◌}
 use Prim.Native.Nat.{ℕ, zero, suc, ◌≤◌, ◌<◌, ◌+◌, ◌-◌, ◌*◌}
-use native.Mathlib.Nat.{sub-zero}
+use native.Mathlib.Nat.{add-zero, sub-zero}
 use native.Mathlib.Omega.{arith}
 use lib.Dec.{leb, eqb}
 use lib.ListN.{length, get_or, drop}
@@ -19,8 +20,6 @@ use Rattle.archive.specs.Reader.{Parsed, broken, got, and_then, ◌>>=◌, table
 use Rattle.archive.specs.Parse
 use Rattle.archive.specs.Parse.{reference_at, reference_ok, of_kind, references_ok, row_references, rows_references}
 use Rattle.archive_read.specs.bodies.View.{row_cited, RowInside, references_from}
-use Rattle.archive_read.specs.declared.bodies.Counted.{Counted}
-use Rattle.archive_read.specs.declared.bodies.Counted.TheVariants.{CountIs, NoCount}
 
 -- ── a row's references ───────────────────────────────────────────────────────────────────────
 
@@ -35,8 +34,8 @@ space-at : (b : List ℕ) (p : ℕ) → (reference_at (drop p b)).space ≡ get_
 unfolding reference_at
 space-at b p = get_or-drop p b 1 0
 
-pub kinds-start : (n : ℕ) (b : List ℕ) (p : ℕ) → all reference_ok (cited n (drop p b)) ≡ all reference_ok (cited (n - 0) (drop p b))
-kinds-start n b p = rw sub-zero
+pub kinds-start : (n : ℕ) (b : List ℕ) (p : ℕ) → all reference_ok (cited n (drop p b)) ≡ all reference_ok (cited (n - 0) (drop (p + 0) b))
+kinds-start n b p = rw (sub-zero, add-zero)
 
 module _ {t : Bool} (n i : ℕ) (b : List ℕ) (q : ℕ) (e : t ≡ all reference_ok (cited (n - i) (drop q b))) where
   pub kinds-done : n ≤ i → true ≡ t
@@ -52,21 +51,21 @@ module _ {t : Bool} (n i : ℕ) (b : List ℕ) (q : ℕ) (e : t ≡ all referenc
     unfolding all reference_ok
     space-bad g = rw (e, several-cons 10 reference_at n i b q h, kind_at b q, space-at b q, le-leb (get_or b q 0) 5 f, lt-leb (get_or b (q + 1) 0) 3 g)
 
-    pub kind-good : get_or b (q + 1) 0 ≤ 3 → t ≡ all reference_ok (cited (n - (i + 1)) (drop (q + 10) b))
+    pub kind-good : {r : ℕ} → get_or b (q + 1) 0 ≤ 3 → r ≡ q + 10 → t ≡ all reference_ok (cited (n - (i + 1)) (drop r b))
     unfolding all reference_ok
-    kind-good g = rw (e, several-cons 10 reference_at n i b q h, kind_at b q, space-at b q, le-leb (get_or b q 0) 5 f, le-leb (get_or b (q + 1) 0) 3 g)
+    kind-good g y = rw (y, e, several-cons 10 reference_at n i b q h, kind_at b q, space-at b q, le-leb (get_or b q 0) 5 f, le-leb (get_or b (q + 1) 0) 3 g)
 
-pub count-start : (kind n : ℕ) (b : List ℕ) (p : ℕ) → of_kind kind (cited n (drop p b)) ≡ 0 + of_kind kind (cited (n - 0) (drop p b))
-count-start kind n b p = rw sub-zero (omega arith)
+pub count-start : (kind n : ℕ) (b : List ℕ) (p : ℕ) → of_kind kind (cited n (drop p b)) ≡ 0 + of_kind kind (cited (n - 0) (drop (p + 0) b))
+count-start kind n b p = rw (sub-zero, add-zero) (omega arith)
 
 module _ {t : ℕ} (kind found n i : ℕ) (b : List ℕ) (q : ℕ) (e : t ≡ found + of_kind kind (cited (n - i) (drop q b))) where
   pub count_done : n ≤ i → found ≡ t
   unfolding of_kind
   count_done h = rw (e, several-none 10 reference_at n i b q h) (omega arith)
 
-  pub count_next : {o : ℕ} → i < n → o ≡ cond (eqb (get_or b q 0) kind) 1 0 → t ≡ found + o + of_kind kind (cited (n - (i + 1)) (drop (q + 10) b))
+  pub count_next : {o r : ℕ} → i < n → o ≡ cond (eqb (get_or b q 0) kind) 1 0 → r ≡ q + 10 → t ≡ found + o + of_kind kind (cited (n - (i + 1)) (drop r b))
   unfolding of_kind
-  count_next {o} h d = rw (e, several-cons 10 reference_at n i b q h, kind_at b q, ← d) (omega arith)
+  count_next {o} h d y = rw (y, e, several-cons 10 reference_at n i b q h, kind_at b q, ← d) (omega arith)
 
 pub one-is : (x kind : ℕ) → x ≡ kind → ◌≡◌ {A = ℕ} 1 (cond (eqb x kind) 1 0)
 one-is x kind h = rw (eq-eqb x kind h)
@@ -123,7 +122,7 @@ module _ (b : List ℕ) (p : ℕ) where
         pub is_row : not r ≡ false → got (cited n (drop (p + 4) b)) (p + 4 + n * 10) ≡ row_references b p
         is_row g = row-taken (sym f ∙ not-false r g)
 
-module _ (b : List ℕ) (p : ℕ) (x : Counted) {n : ℕ} (i : RowInside b p x) (d : x ≡ CountIs n) where
+module _ (b : List ℕ) (p : ℕ) (x : Option ℕ) {n : ℕ} (i : RowInside b p x) (d : x ≡ Some n) where
   pub row_fits : p + 4 + n * 10 ≤ length b
   row_fits = rw d at i
 
@@ -147,15 +146,15 @@ module _ {c : Parsed ℕ} (t n i : ℕ) (b : List ℕ) (p : ℕ) (e : c ≡ coun
   unfolding rows_references sum
   counts-done h = let z : n - i ≡ 0 = omega arith in let y : t + 0 ≡ t = omega arith in rw (e, z, y)
 
-  module _ (h : i < n) (x : Counted) (d : row_cited b p x ≡ row_references b p) where
+  module _ (h : i < n) (x : Option ℕ) (d : row_cited b p x ≡ row_references b p) where
     z : n - i ≡ suc (n - (i + 1))
     z = omega arith
 
-    pub counts-broken : x ≡ NoCount → c ≡ broken
+    pub counts-broken : x ≡ None → c ≡ broken
     unfolding rows_references ◌>>=◌
     counts-broken f = let u : row_references b p ≡ broken = sym d ∙ rw f in rw (e, z, u)
 
-    pub counts-next : {k : ℕ} → x ≡ CountIs k → c ≡ counts (t + k) (n - (i + 1)) b (p + 4 + k * 10)
+    pub counts-next : {k : ℕ} → x ≡ Some k → c ≡ counts (t + k) (n - (i + 1)) b (p + 4 + k * 10)
     unfolding rows_references ◌>>=◌
     counts-next {k} f =
         let u : row_references b p ≡ got (cited k (drop (p + 4) b)) (p + 4 + k * 10) = sym d ∙ rw f in
@@ -194,7 +193,7 @@ above zero k = absurd (k refl)
 above (suc t) k = omega arith
 
 module _ (n : ℕ) (b : List ℕ) where
-  module _ (t i p : ℕ) (x : counts 0 n b 0 ≡ counts t (n - i) b p) (y : i < n) (o : Counted) (d : row_cited b p o ≡ row_references b p) (z : o ≡ NoCount) where
+  module _ (t i p : ℕ) (x : counts 0 n b 0 ≡ counts t (n - i) b p) (y : i < n) (o : Option ℕ) (d : row_cited b p o ≡ row_references b p) (z : o ≡ None) where
     stopped : counts 0 n b 0 ≡ broken
     stopped = counts-broken t n i b p x y o d z
 

@@ -1,6 +1,6 @@
 -- What the reader's answers say of the bytes that they were read from: a body is the bytes between two places, and the numbers of an answer say which
 -- parts of it are a file's columns.
-use Rattle.std.specs.Prelude.{Bool, true, false, cond, List, [], ◌∷◌, map, ◌≡◌, ℕ, zero, suc, ◌+◌, ◌-◌, ◌*◌, ◌≤◌, length, take, drop}
+use Rattle.std.specs.Prelude.{Bool, true, false, cond, List, [], ◌∷◌, map, ◌≡◌, ℕ, zero, suc, ◌+◌, ◌-◌, ◌*◌, ◌≤◌, length, take, drop, None, Some, Option}
 use Rattle.lists.specs.Lists.{sum}
 use Rattle.columns.specs.Limits.{kinds}
 use Rattle.columns.specs.EdgeSet.{EdgeSet}
@@ -10,18 +10,9 @@ use Rattle.archive.specs.Reader.{Parsed, broken, got}
 use Rattle.archive.specs.File.{Row, Unresolved, Root, CoverColumns, Reference}
 use Rattle.archive.specs.Parse.{Head, depth_read, Sets, row_at, unresolved_at, root_at, range_at, reference_at}
 use Rattle.archive_read.specs.declared.bodies.HeadAt.{HeadAt}
-use Rattle.archive_read.specs.declared.bodies.HeadRead.{HeadRead}
-use Rattle.archive_read.specs.declared.bodies.HeadRead.TheVariants.{HeadIs, NoHead}
-use Rattle.archive_read.specs.declared.bodies.SetRead.{SetRead}
-use Rattle.archive_read.specs.declared.bodies.SetRead.TheVariants.{SetIs, NoSet}
+use Rattle.archive_read.specs.declared.bodies.SetAt.{SetAt}
 use Rattle.archive_read.specs.declared.bodies.EdgesAt.{EdgesAt}
-use Rattle.archive_read.specs.declared.bodies.EdgesRead.{EdgesRead}
-use Rattle.archive_read.specs.declared.bodies.EdgesRead.TheVariants.{EdgesIs, NoEdges}
-use Rattle.archive_read.specs.declared.bodies.Counted.{Counted}
-use Rattle.archive_read.specs.declared.bodies.Counted.TheVariants.{CountIs, NoCount}
 use Rattle.archive_read.specs.declared.bodies.CoverAt.{CoverAt}
-use Rattle.archive_read.specs.declared.bodies.CoverRead.{CoverRead}
-use Rattle.archive_read.specs.declared.bodies.CoverRead.TheVariants.{CoverIs, NoCover}
 
 -- ── bodies ───────────────────────────────────────────────────────────────────────────────────
 
@@ -36,14 +27,14 @@ unfoldable pub head_in : List ℕ → HeadAt → Head
 head_in b h =
     record { first = h.first; rows = h.rows; group = h.group; subject = take h.subject (drop 14 b); depth = depth_read h.flag h.least h.greatest }
 
-abbrev pub head_of : List ℕ → HeadRead → Parsed Head
-head_of b NoHead = broken
-head_of b (HeadIs h) = got (head_in b h) (length b)
+abbrev pub head_of : List ℕ → Option HeadAt → Parsed Head
+head_of b None = broken
+head_of b (Some h) = got (head_in b h) (length b)
 
 -- the subject is there
-abbrev pub HeadInside : List ℕ → HeadRead → Type 0
-HeadInside b NoHead = Unit {0}
-HeadInside b (HeadIs h) = 14 + h.subject ≤ length b
+abbrev pub HeadInside : List ℕ → Option HeadAt → Type 0
+HeadInside b None = Unit {0}
+HeadInside b (Some h) = 14 + h.subject ≤ length b
 
 -- 2: a set of n deltas that starts at place p
 abbrev pub set_end : ℕ → ℕ → ℕ → ℕ
@@ -52,25 +43,25 @@ set_end rows p n = p + 4 + (kinds * rows + 1) * 8 + n * 8
 unfoldable pub set_in : List ℕ → ℕ → ℕ → ℕ → EdgeSet
 set_in b rows p n = record { count = n; offsets = column 8 (kinds * rows + 1) b (p + 4); deltas = map signed_of (column 8 n b (p + 4 + (kinds * rows + 1) * 8)) }
 
-abbrev pub set_of : List ℕ → ℕ → ℕ → SetRead → Parsed EdgeSet
-set_of b rows p NoSet = broken
-set_of b rows p (SetIs n e) = got (set_in b rows p n) e
+abbrev pub set_of : List ℕ → ℕ → ℕ → Option SetAt → Parsed EdgeSet
+set_of b rows p None = broken
+set_of b rows p (Some s) = got (set_in b rows p s.count) s.end
 
-abbrev pub SetInside : List ℕ → ℕ → ℕ → SetRead → Type 0
-SetInside b rows p NoSet = Unit {0}
-SetInside b rows p (SetIs n e) = (set_end rows p n ≤ e) × (e ≤ length b)
+abbrev pub SetInside : List ℕ → ℕ → ℕ → Option SetAt → Type 0
+SetInside b rows p None = Unit {0}
+SetInside b rows p (Some s) = (set_end rows p s.count ≤ s.end) × (s.end ≤ length b)
 
 unfoldable pub sets_in : List ℕ → ℕ → EdgesAt → Sets
 sets_in b rows s = record { forward = set_in b rows 0 s.forwards; reverse = set_in b rows s.reverse s.reverses; inbound = set_in b rows s.inbound s.inbounds }
 
-abbrev pub edges_of : List ℕ → ℕ → EdgesRead → Parsed Sets
-edges_of b rows NoEdges = broken
-edges_of b rows (EdgesIs s) = got (sets_in b rows s) (length b)
+abbrev pub edges_of : List ℕ → ℕ → Option EdgesAt → Parsed Sets
+edges_of b rows None = broken
+edges_of b rows (Some s) = got (sets_in b rows s) (length b)
 
 -- every set ends inside the body
-abbrev pub EdgesInside : List ℕ → ℕ → EdgesRead → Type 0
-EdgesInside b rows NoEdges = Unit {0}
-EdgesInside b rows (EdgesIs s) =
+abbrev pub EdgesInside : List ℕ → ℕ → Option EdgesAt → Type 0
+EdgesInside b rows None = Unit {0}
+EdgesInside b rows (Some s) =
     (set_end rows 0 s.forwards ≤ length b) × (set_end rows s.reverse s.reverses ≤ length b) × (set_end rows s.inbound s.inbounds ≤ length b)
 
 -- 3
@@ -82,18 +73,18 @@ RowsInside b n false = Unit {0}
 RowsInside b n true = n * 9 ≤ length b
 
 -- 4, 5: a count and as many things
-abbrev pub unresolved_of : List ℕ → Counted → Parsed (List Unresolved)
-unresolved_of b NoCount = broken
-unresolved_of b (CountIs n) = got (several 13 unresolved_at n (drop 4 b)) (length b)
+abbrev pub unresolved_of : List ℕ → Option ℕ → Parsed (List Unresolved)
+unresolved_of b None = broken
+unresolved_of b (Some n) = got (several 13 unresolved_at n (drop 4 b)) (length b)
 
-abbrev pub roots_of : List ℕ → Counted → Parsed (List Root)
-roots_of b NoCount = broken
-roots_of b (CountIs n) = got (several 16 root_at n (drop 4 b)) (length b)
+abbrev pub roots_of : List ℕ → Option ℕ → Parsed (List Root)
+roots_of b None = broken
+roots_of b (Some n) = got (several 16 root_at n (drop 4 b)) (length b)
 
 -- so many things of w bytes each
-abbrev pub ListInside : ℕ → List ℕ → Counted → Type 0
-ListInside w b NoCount = Unit {0}
-ListInside w b (CountIs n) = (n ≤ length b) × (4 + n * w ≤ length b)
+abbrev pub ListInside : ℕ → List ℕ → Option ℕ → Type 0
+ListInside w b None = Unit {0}
+ListInside w b (Some n) = (n ≤ length b) × (4 + n * w ≤ length b)
 
 -- 6: the place of the number of links
 abbrev pub links_place : ℕ → ℕ → ℕ
@@ -115,33 +106,33 @@ cover_in b rows c = record {
   };
 }
 
-abbrev pub cover_of : List ℕ → ℕ → CoverRead → Parsed CoverColumns
-cover_of b rows NoCover = broken
-cover_of b rows (CoverIs c) = got (cover_in b rows c) (length b)
+abbrev pub cover_of : List ℕ → ℕ → Option CoverAt → Parsed CoverColumns
+cover_of b rows None = broken
+cover_of b rows (Some c) = got (cover_in b rows c) (length b)
 
-abbrev pub CoverInside : List ℕ → ℕ → CoverRead → Type 0
-CoverInside b rows NoCover = Unit {0}
-CoverInside b rows (CoverIs c) = cover_end rows c.ranges c.links ≤ length b
+abbrev pub CoverInside : List ℕ → ℕ → Option CoverAt → Type 0
+CoverInside b rows None = Unit {0}
+CoverInside b rows (Some c) = cover_end rows c.ranges c.links ≤ length b
 
 -- 7: the references of a row that stands at place p
-abbrev pub row_cited : List ℕ → ℕ → Counted → Parsed (List Reference)
-row_cited b p NoCount = broken
-row_cited b p (CountIs n) = got (several 10 reference_at n (drop (p + 4) b)) (p + 4 + n * 10)
+abbrev pub row_cited : List ℕ → ℕ → Option ℕ → Parsed (List Reference)
+row_cited b p None = broken
+row_cited b p (Some n) = got (several 10 reference_at n (drop (p + 4) b)) (p + 4 + n * 10)
 
-abbrev pub RowInside : List ℕ → ℕ → Counted → Type 0
-RowInside b p NoCount = Unit {0}
-RowInside b p (CountIs n) = p + 4 + n * 10 ≤ length b
+abbrev pub RowInside : List ℕ → ℕ → Option ℕ → Type 0
+RowInside b p None = Unit {0}
+RowInside b p (Some n) = p + 4 + n * 10 ≤ length b
 
 -- the references of n rows from the front of the bytes on
 unfoldable pub references_from : ℕ → List ℕ → List (List Reference)
 references_from zero b = []
 references_from (suc n) b = several 10 reference_at (be 4 b 0) (drop 4 b) ∷ references_from n (drop (4 + be 4 b 0 * 10) b)
 
-abbrev pub cited_of : List ℕ → ℕ → Counted → Parsed (List (List Reference))
-cited_of b rows NoCount = broken
-cited_of b rows (CountIs n) = got (references_from rows b) (length b)
+abbrev pub cited_of : List ℕ → ℕ → Option ℕ → Parsed (List (List Reference))
+cited_of b rows None = broken
+cited_of b rows (Some n) = got (references_from rows b) (length b)
 
 -- so many references in all, which are there
-abbrev pub CitedInside : List ℕ → ℕ → Counted → Type 0
-CitedInside b rows NoCount = Unit {0}
-CitedInside b rows (CountIs n) = (n ≤ length b) × (n ≡ sum length (references_from rows b))
+abbrev pub CitedInside : List ℕ → ℕ → Option ℕ → Type 0
+CitedInside b rows None = Unit {0}
+CitedInside b rows (Some n) = (n ≤ length b) × (n ≡ sum length (references_from rows b))

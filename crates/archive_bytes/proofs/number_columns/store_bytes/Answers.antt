@@ -1,4 +1,3 @@
-use Prim.Native.Nat.{◌-◌}
 use Rattle.archive_bytes.proofs.number_columns.Turns.{all-copied, one-copied, copy-starts}
 use borrow.Author.Rules.{rules}
 use Rattle.archive_bytes.proofs.number_columns.store_bytes.Goals as goal

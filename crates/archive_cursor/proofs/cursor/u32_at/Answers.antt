@@ -1,12 +1,9 @@
-use native.Mathlib.Omega.{arith}
-use Rattle.archive_cursor.proofs.Answers.{short, long}
+use Rattle.columns.proofs.Handed.{handed-on}
+use Rattle.archive_cursor.proofs.Answers.{as-number}
 use Rattle.archive_cursor.proofs.cursor.u32_at.Goals as goal
 
-pub returns-then-bytes-lt4 : goal.returns-then-bytes-lt4
-returns-then-bytes-lt4 c = short _ _ 4 (omega arith)
-
-pub returns-then-bytes-at : goal.returns-then-bytes-at
-returns-then-bytes-at c = short _ _ 4 (omega arith)
+pub returns-in_err-n : goal.returns-in_err-n
+returns-in_err-n c = handed-on _ c.from_residual.ensures (search (as-number, c.in_err-n.was))
 
 pub returns : goal.returns
-returns c = long _ _ 4 (omega arith) c.load_u32.ensures.0
+returns c = rw c.from.ensures (search (as-number, c.in_ok-n.was))

@@ -8,4 +8,4 @@ pub returns-then-bytes-at : goal.returns-then-bytes-at
 returns-then-bytes-at c = short _ _ 1 (omega arith)
 
 pub returns : goal.returns
-returns c = long _ _ 1 (omega arith) (c.wide.ensures.0 ∙ sym (be-one _ _))
+returns c = long _ _ 1 (omega arith) (c.from.ensures ∙ sym (be-one _ _))

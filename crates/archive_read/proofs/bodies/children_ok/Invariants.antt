@@ -9,8 +9,5 @@ use Rattle.archive_read.proofs.bodies.children_ok.Given as goal
 
 abbrev pub invariant-loop-i : goal.invariant-loop-i
 invariant-loop-i l =
-    (l.i ≤ l.n) × (l.p ≡ 4 + l.i * 13) ×
-    (not_falling (map (λ u. u.child) (several 13 unresolved_at l.n (drop 4 l.b))) ≡ level_above l.low (map (λ u. u.child) (several 13 unresolved_at (l.n - l.i) (drop l.p l.b))))
-
-abbrev pub decreases-loop-i : goal.decreases-loop-i
-decreases-loop-i l = l.n - l.i
+    (l.i ≤ l.n) ×
+    (not_falling (map (λ u. u.child) (several 13 unresolved_at l.n (drop 4 l.b))) ≡ level_above l.low (map (λ u. u.child) (several 13 unresolved_at (l.n - l.i) (drop (4 + l.i * 13) l.b))))

@@ -8,7 +8,4 @@ use Rattle.archive_read.proofs.bodies.flags_ok.Given as goal
 
 abbrev pub invariant-loop-i : goal.invariant-loop-i
 invariant-loop-i l =
-    (l.i ≤ l.n) × (l.p ≡ l.i * 9) × (all (λ flag. leb flag 1) (several 9 (λ l. get_or l 0 0) l.n l.b) ≡ all (λ flag. leb flag 1) (several 9 (λ l. get_or l 0 0) (l.n - l.i) (drop l.p l.b)))
-
-abbrev pub decreases-loop-i : goal.decreases-loop-i
-decreases-loop-i l = l.n - l.i
+    (l.i ≤ l.n) × (all (λ flag. leb flag 1) (several 9 (λ l. get_or l 0 0) l.n l.b) ≡ all (λ flag. leb flag 1) (several 9 (λ l. get_or l 0 0) (l.n - l.i) (drop (l.i * 9) l.b)))

@@ -9,8 +9,4 @@ use Rattle.archive_read.proofs.bodies.rows_above.Given as goal
 
 abbrev pub invariant-loop-i : goal.invariant-loop-i
 invariant-loop-i l =
-    (l.i ≤ l.n) × (l.p ≡ 4 + l.i * 16)
-    × (rising (map (λ t. t.row) (several 16 root_at l.n (drop 4 l.b))) ≡ rises_above l.last (map (λ t. t.row) (several 16 root_at (l.n - l.i) (drop l.p l.b))))
-
-abbrev pub decreases-loop-i : goal.decreases-loop-i
-decreases-loop-i l = l.n - l.i
+    (l.i ≤ l.n) × (rising (map (λ t. t.row) (several 16 root_at l.n (drop 4 l.b))) ≡ rises_above l.last (map (λ t. t.row) (several 16 root_at (l.n - l.i) (drop (4 + l.i * 16) l.b))))

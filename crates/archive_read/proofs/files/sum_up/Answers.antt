@@ -9,12 +9,12 @@ pub returns-in_default : goal.returns-in_default
 returns-in_default c = search sums-broken
 
 pub with_file-t-requires : goal.with_file-t-requires
-with_file-t-requires c = let h = file-fits _ _ _ c.file_at-x.ensures.after_file c.in-FileIs.is in
+with_file-t-requires c = let h = file-fits _ _ _ c.file_at.ensures.after_file c.in-Some.is in
     (search rules, (search file-counts, (search file-past, search rules)))
 
 pub loop-p-smaller : goal.loop-p-smaller
-loop-p-smaller c = let h = file-fits _ _ _ c.file_at-x.ensures.after_file c.in-FileIs.is in
-    let g = file-past _ _ _ c.file_at-x.ensures.after_file c.in-FileIs.is in
+loop-p-smaller c = let h = file-fits _ _ _ c.file_at.ensures.after_file c.in-Some.is in
+    let g = file-past _ _ _ c.file_at.ensures.after_file c.in-Some.is in
     search rules
 
 pub loop-p-preserved : goal.loop-p-preserved

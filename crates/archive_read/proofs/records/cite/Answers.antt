@@ -1,5 +1,6 @@
-use Rattle.archive_read.proofs.AtRecords.{cited_with_lem}
+use Rattle.archive_read.specs.Layout.{cited_tail}
 use Rattle.archive_read.proofs.records.cite.Goals as goal
 
-pub returns-in-Cited : goal.returns-in-Cited
-returns-in-Cited c = search cited_with_lem
+pub returns-in-Some : goal.returns-in-Some
+unfolding cited_tail
+returns-in-Some c = cc

@@ -1,20 +1,14 @@
 use Rattle.archive_read.proofs.AtRecords.{no-rest1, no-rest2, is-rest, rest-after}
 use Rattle.archive_read.proofs.records.read_rest.Goals as goal
 
-pub returns-in_default-clause-result_value : goal.returns-in_default-clause-result_value
-returns-in_default-clause-result_value c = search no-rest1
+pub returns-in_err-middle-clause-result_value : goal.returns-in_err-middle-clause-result_value
+returns-in_err-middle-clause-result_value c = rw c.from_residual.ensures (search (no-rest1, c.in_err-middle.was))
 
-pub returns-in_default-clause-after_rest : goal.returns-in_default-clause-after_rest
-returns-in_default-clause-after_rest c = tt
-
-pub returns-in_default-y-clause-result_value : goal.returns-in_default-y-clause-result_value
-returns-in_default-y-clause-result_value c = search no-rest2
-
-pub returns-in_default-y-clause-after_rest : goal.returns-in_default-y-clause-after_rest
-returns-in_default-y-clause-after_rest c = tt
+pub returns-in_err-tail-clause-result_value : goal.returns-in_err-tail-clause-result_value
+returns-in_err-tail-clause-result_value c = rw c.from_residual-in_err-tail.ensures (search (no-rest2, c.in_ok-middle.was, c.in_err-tail.was))
 
 pub returns-clause-result_value : goal.returns-clause-result_value
-returns-clause-result_value c = search is-rest
+returns-clause-result_value c = search (is-rest, c.in_ok-middle.was, c.in_ok-tail.was)
 
 pub returns-clause-after_rest : goal.returns-clause-after_rest
-returns-clause-after_rest c = search rest-after
+returns-clause-after_rest c = search (rest-after, c.in_ok-middle.was, c.in_ok-tail.was)

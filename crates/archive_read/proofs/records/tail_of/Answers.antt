@@ -1,14 +1,10 @@
 use Rattle.archive_read.specs.Layout.{covered_with}
 use Rattle.archive_read.proofs.records.tail_of.Goals as goal
 
-pub returns-in-BadCover : goal.returns-in-BadCover
+pub returns-in-None : goal.returns-in-None
 unfolding covered_with
-returns-in-BadCover c = cc
+returns-in-None c = cc
 
-pub returns-in-Uncovered : goal.returns-in-Uncovered
+pub returns-in-Some : goal.returns-in-Some
 unfolding covered_with
-returns-in-Uncovered c = cc
-
-pub returns-in-Covered : goal.returns-in-Covered
-unfolding covered_with
-returns-in-Covered c = cc
+returns-in-Some c = cc

@@ -7,8 +7,5 @@ use Rattle.archive_read.proofs.references.count_kind.Given as goal
 
 abbrev pub invariant-loop-i : goal.invariant-loop-i
 invariant-loop-i l =
-    (l.i ≤ l.n) × (l.q ≡ l.p + l.i * 10) × (l.found ≤ l.i) ×
-    (of_kind l.kind (several 10 reference_at l.n (drop l.p l.b)) ≡ l.found + of_kind l.kind (several 10 reference_at (l.n - l.i) (drop l.q l.b)))
-
-abbrev pub decreases-loop-i : goal.decreases-loop-i
-decreases-loop-i l = l.n - l.i
+    (l.i ≤ l.n) × (l.found ≤ l.i) ×
+    (of_kind l.kind (several 10 reference_at l.n (drop l.p l.b)) ≡ l.found + of_kind l.kind (several 10 reference_at (l.n - l.i) (drop (l.p + l.i * 10) l.b)))

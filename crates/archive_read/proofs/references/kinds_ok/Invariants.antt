@@ -8,7 +8,4 @@ use Rattle.archive_read.proofs.references.kinds_ok.Given as goal
 
 abbrev pub invariant-loop-i : goal.invariant-loop-i
 invariant-loop-i l =
-    (l.i ≤ l.n) × (l.q ≡ l.p + l.i * 10) × (all reference_ok (several 10 reference_at l.n (drop l.p l.b)) ≡ all reference_ok (several 10 reference_at (l.n - l.i) (drop l.q l.b)))
-
-abbrev pub decreases-loop-i : goal.decreases-loop-i
-decreases-loop-i l = l.n - l.i
+    (l.i ≤ l.n) × (all reference_ok (several 10 reference_at l.n (drop l.p l.b)) ≡ all reference_ok (several 10 reference_at (l.n - l.i) (drop (l.p + l.i * 10) l.b)))

@@ -6,26 +6,23 @@ use Rattle.archive_read.proofs.references.references_body.Goals as goal
 pub loop-i-init : goal.loop-i-init
 loop-i-init c = (search rules, search rules, search rules, search rules, search counts_start)
 
-pub returns-in_default-clause-result_value : goal.returns-in_default-clause-result_value
-returns-in_default-clause-result_value c = search (rules, body-broken)
-
-pub returns-in_default-clause-cited_inside : goal.returns-in_default-clause-cited_inside
-returns-in_default-clause-cited_inside c = tt
+pub returns-in_err-k-clause-result_value : goal.returns-in_err-k-clause-result_value
+returns-in_err-k-clause-result_value c = rw c.from_residual.ensures (search (rules, body-broken, c.in_err-k.was))
 
 pub overflow_add-total : goal.overflow_add-total
-overflow_add-total c = let h = row_fits _ _ _ c.row_at-x.ensures.row_inside c.in-CountIs.is in search rules
+overflow_add-total c = let h = row_fits _ _ _ c.row_at.ensures.row_inside c.in_ok-k.was in search rules
 
 pub overflow_add-p : goal.overflow_add-p
-overflow_add-p c = let h = row_fits _ _ _ c.row_at-x.ensures.row_inside c.in-CountIs.is in search rules
+overflow_add-p c = let h = row_fits _ _ _ c.row_at.ensures.row_inside c.in_ok-k.was in search rules
 
 pub overflow_mul-p : goal.overflow_mul-p
-overflow_mul-p c = let h = row_fits _ _ _ c.row_at-x.ensures.row_inside c.in-CountIs.is in search rules
+overflow_mul-p c = let h = row_fits _ _ _ c.row_at.ensures.row_inside c.in_ok-k.was in search rules
 
 pub overflow_add-p-in-loop-i : goal.overflow_add-p-in-loop-i
-overflow_add-p-in-loop-i c = let h = row_fits _ _ _ c.row_at-x.ensures.row_inside c.in-CountIs.is in search rules
+overflow_add-p-in-loop-i c = let h = row_fits _ _ _ c.row_at.ensures.row_inside c.in_ok-k.was in search rules
 
 pub loop-i-preserved : goal.loop-i-preserved
-loop-i-preserved c = (search rules, search rules, search row_fits, search rules, search (rules, counts-next))
+loop-i-preserved c = (search rules, search rules, search (row_fits, c.in_ok-k.was), search rules, search (rules, counts-next, c.in_ok-k.was))
 
 pub returns-then-b-p-clause-result_value : goal.returns-then-b-p-clause-result_value
 returns-then-b-p-clause-result_value c = search (rules, body-inexact)

@@ -7,6 +7,3 @@ use Rattle.archive_read.proofs.references.references_body.Given as goal
 abbrev pub invariant-loop-i : goal.invariant-loop-i
 invariant-loop-i l =
     (l.n ≡ l.rows) × (l.i ≤ l.rows) × (l.p ≤ length l.b) × (l.total * 10 + l.i * 4 ≡ l.p) × (counts 0 l.rows l.b 0 ≡ counts l.total (l.rows - l.i) l.b l.p)
-
-abbrev pub decreases-loop-i : goal.decreases-loop-i
-decreases-loop-i l = l.rows - l.i

@@ -10,6 +10,3 @@ invariant-loop-i l =
     (l.from ≤ l.i) × (l.i ≤ l.to) × (l.p ≡ l.at + (l.i - l.from) * 10) × (length l.out ≡ length l.initial.out)
     × (sets l.initial.out l.at (flat reference_bytes (slice l.from l.to (zip3 reference_from l.kinds l.spaces l.targets)))
     ≡ sets l.out l.p (flat reference_bytes (slice l.i l.to (zip3 reference_from l.kinds l.spaces l.targets))))
-
-abbrev pub decreases-loop-i : goal.decreases-loop-i
-decreases-loop-i l = l.to - l.i

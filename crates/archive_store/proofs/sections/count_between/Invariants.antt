@@ -7,6 +7,3 @@ use Rattle.archive_store.proofs.sections.count_between.Given as goal
 abbrev pub invariant-loop-j : goal.invariant-loop-j
 invariant-loop-j l =
     (l.from ≤ l.j) × (l.j ≤ l.to) × (l.k ≤ l.j - l.from) × (length (filter (in_file l.low l.high) (slice l.from l.to l.list)) ≡ l.k + length (filter (in_file l.low l.high) (slice l.j l.to l.list)))
-
-abbrev pub decreases-loop-j : goal.decreases-loop-j
-decreases-loop-j l = l.to - l.j

@@ -1,4 +1,4 @@
-use Rattle.std.proofs.Common.{◌-◌, ◌*◌, ◌≤◌, drop}
+use Rattle.std.proofs.Common.{◌*◌, ◌≤◌, drop}
 use Rattle.columns.specs.Limits.{kinds}
 use Rattle.lists.specs.Lists.{joined}
 use Rattle.lists.proofs.Storing.{Storing}
@@ -12,6 +12,3 @@ invariant-loop-q l =
     (l.q ≤ 2 * l.n)
     × Storing l.initial.out l.at (delta_bytes (joined (deltas_from kinds l.first 0 (rows_within kinds l.low l.high l.from l.n l.offsets l.targets)))) l.out l.p
     (delta_bytes (joined (deltas_from kinds l.first l.q (drop l.q (rows_within kinds l.low l.high l.from l.n l.offsets l.targets)))))
-
-abbrev pub decreases-loop-q : goal.decreases-loop-q
-decreases-loop-q l = 2 * l.n - l.q

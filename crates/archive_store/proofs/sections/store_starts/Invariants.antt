@@ -1,4 +1,4 @@
-use Rattle.std.proofs.Common.{◌≡◌, ◌+◌, ◌-◌, ◌*◌, ◌≤◌, length, drop}
+use Rattle.std.proofs.Common.{◌≡◌, ◌+◌, ◌*◌, ◌≤◌, length, drop}
 use Rattle.columns.specs.Limits.{kinds}
 use Rattle.lists.specs.Lists.{joined, starts}
 use Rattle.lists.proofs.Storing.{Storing}
@@ -12,6 +12,3 @@ invariant-loop-q l =
     × (length (joined (rows_within kinds l.low l.high l.from l.n l.offsets l.targets)) ≡ l.sum + length (joined (drop l.q (rows_within kinds l.low l.high l.from l.n l.offsets l.targets))))
     × Storing l.initial.out l.at (column_bytes 8 (starts 0 (rows_within kinds l.low l.high l.from l.n l.offsets l.targets))) l.out l.p
     (column_bytes 8 (starts l.sum (drop l.q (rows_within kinds l.low l.high l.from l.n l.offsets l.targets))))
-
-abbrev pub decreases-loop-q : goal.decreases-loop-q
-decreases-loop-q l = 2 * l.n - l.q

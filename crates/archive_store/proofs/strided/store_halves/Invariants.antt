@@ -9,6 +9,3 @@ invariant-loop-i l =
     (l.i ≤ l.n) × Each (λ x. x < 2 ^ 32) (several l.width (λ l. get_or l 0 0) (l.n - l.i) (drop (l.p + l.i * l.width) l.table))
     × Storing l.initial.out l.at (flat (bytes_of 4) (several l.width (λ l. get_or l 0 0) l.n (drop l.p l.table))) l.out (l.at + 4 * l.i)
     (flat (bytes_of 4) (several l.width (λ l. get_or l 0 0) (l.n - l.i) (drop (l.p + l.i * l.width) l.table)))
-
-abbrev pub decreases-loop-i : goal.decreases-loop-i
-decreases-loop-i l = l.n - l.i

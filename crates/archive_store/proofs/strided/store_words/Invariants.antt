@@ -8,6 +8,3 @@ abbrev pub invariant-loop-i : goal.invariant-loop-i
 invariant-loop-i l =
     (l.i ≤ l.n) × Storing l.initial.out l.at (flat (bytes_of 8) (several l.width (λ l. get_or l 0 0) l.n (drop l.p l.table))) l.out (l.at + 8 * l.i)
     (flat (bytes_of 8) (several l.width (λ l. get_or l 0 0) (l.n - l.i) (drop (l.p + l.i * l.width) l.table)))
-
-abbrev pub decreases-loop-i : goal.decreases-loop-i
-decreases-loop-i l = l.n - l.i

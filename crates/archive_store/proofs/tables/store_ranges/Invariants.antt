@@ -1,4 +1,4 @@
-use Rattle.std.proofs.Common.{◌≡◌, ◌+◌, ◌-◌, ◌*◌, ◌≤◌, length, drop}
+use Rattle.std.proofs.Common.{◌≡◌, ◌+◌, ◌*◌, ◌≤◌, length, drop}
 use lib.Seq.{sets}
 use Rattle.lists.specs.Lists.{flat}
 use Rattle.archive.specs.Encode.{range_bytes}
@@ -10,6 +10,3 @@ invariant-loop-i l =
     (l.i ≤ length l.ids) × (l.p ≡ l.at + l.i * 12) × (length l.out ≡ length l.initial.out)
     × (sets l.initial.out l.at (flat range_bytes (zip3 range_from l.ids l.minima l.maxima))
     ≡ sets l.out l.p (flat range_bytes (zip3 range_from (drop l.i l.ids) (drop l.i l.minima) (drop l.i l.maxima))))
-
-abbrev pub decreases-loop-i : goal.decreases-loop-i
-decreases-loop-i l = length l.ids - l.i

@@ -1,19 +1,24 @@
-use Rattle.columns.proofs.Offsets.{some-offset, ordered, inside}
+use Rattle.columns.proofs.Offsets.{ordered, inside}
 use Rattle.archive_write.proofs.references.Turns.{rows-done, row-twice, row-once}
 use borrow.Author.Rules.{rules}
 use Rattle.archive_write.proofs.references.is_once.Goals as goal
 
-pub loop-i-init : goal.loop-i-init
-loop-i-init c = (search some-offset, search rules)
+pub slice_bounds-count_kind-count : goal.slice_bounds-count_kind-count
+slice_bounds-count_kind-count c = search (rules, ordered)
 
-pub count_kind-requires : goal.count_kind-requires
-count_kind-requires c = (search ordered, search inside)
+pub slice_bounds-count_kind-start : goal.slice_bounds-count_kind-start
+slice_bounds-count_kind-start c = search (rules, ordered)
+
+pub slice_bounds-count_kind-end : goal.slice_bounds-count_kind-end
+slice_bounds-count_kind-end c = search (rules, inside)
 
 pub returns-then-count_kind-gt1 : goal.returns-then-count_kind-gt1
-returns-then-count_kind-gt1 c = search row-twice
+returns-then-count_kind-gt1 c =
+    row-twice _ _ _ _ c.loop-i.invariant (search rules) _ _ c.index-from.ensures c.index-to.ensures (search (rules, ordered)) _ c.count_kind.ensures c.if-count_kind-gt1.true
 
 pub loop-i-preserved : goal.loop-i-preserved
-loop-i-preserved c = (search rules, row-once _ _ _ _ c.loop-i.invariant.1 c.loop-i-test.true _ _ c.index-from.ensures c.index-to.ensures _ c.count_kind.ensures c.if-count_kind-gt1.false)
+loop-i-preserved c =
+    row-once _ _ _ _ c.loop-i.invariant (search rules) _ _ c.index-from.ensures c.index-to.ensures (search (rules, ordered)) _ c.count_kind.ensures c.if-count_kind-gt1.false
 
 pub returns : goal.returns
-returns c = search rows-done
+returns c = search (rules, rows-done)

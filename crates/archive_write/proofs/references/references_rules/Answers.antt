@@ -6,8 +6,8 @@ use Rattle.archive_write.proofs.references.references_rules.Goals as goal
 pub returns-then-rows_over : goal.returns-then-rows_over
 returns-then-rows_over c = search (rules, many-rows)
 
-pub returns-then-three_many : goal.returns-then-three_many
-returns-then-three_many c = search (rules, many)
+pub returns-then-is_over : goal.returns-then-is_over
+returns-then-is_over c = search (rules, many)
 
 pub returns-then-not-whole_references : goal.returns-then-not-whole_references
 returns-then-not-whole_references c = search (rules, broken)

@@ -2,8 +2,8 @@ use Rattle.archive_write.proofs.Judged.{over, unfit, too-low, fit, records-few}
 use borrow.Author.Rules.{rules}
 use Rattle.archive_write.proofs.rules.cover_rules.Goals as goal
 
-pub returns-then-nine_over : goal.returns-then-nine_over
-returns-then-nine_over c = search (rules, over)
+pub returns-then-is_over : goal.returns-then-is_over
+returns-then-is_over c = search (rules, over)
 
 pub returns-then-not-same_cover : goal.returns-then-not-same_cover
 returns-then-not-same_cover c = search (rules, unfit)

@@ -2,8 +2,8 @@ use Rattle.archive_write.proofs.Judged.{over, unfit, too-low, fit, subject-few}
 use borrow.Author.Rules.{rules}
 use Rattle.archive_write.proofs.rules.head_rules.Goals as goal
 
-pub returns-then-one_over : goal.returns-then-one_over
-returns-then-one_over c = search (rules, over)
+pub returns-then-is_over : goal.returns-then-is_over
+returns-then-is_over c = search (rules, over)
 
 pub returns-then-not-subject_fits : goal.returns-then-not-subject_fits
 returns-then-not-subject_fits c = search (rules, unfit)

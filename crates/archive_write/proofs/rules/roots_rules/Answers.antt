@@ -2,8 +2,8 @@ use Rattle.archive_write.proofs.Judged.{over, unfit, too-low, fit, first-of-two}
 use borrow.Author.Rules.{rules}
 use Rattle.archive_write.proofs.rules.roots_rules.Goals as goal
 
-pub returns-then-two_over : goal.returns-then-two_over
-returns-then-two_over c = search (rules, over)
+pub returns-then-is_over : goal.returns-then-is_over
+returns-then-is_over c = search (rules, over)
 
 pub returns-then-not-whole_roots : goal.returns-then-not-whole_roots
 returns-then-not-whole_roots c = search (rules, unfit)

@@ -2,8 +2,8 @@ use Rattle.archive_write.proofs.Judged.{over, unfit, too-low, fit, second-of-two
 use borrow.Author.Rules.{rules}
 use Rattle.archive_write.proofs.rules.rows_rules.Goals as goal
 
-pub returns-then-two_over : goal.returns-then-two_over
-returns-then-two_over c = search (rules, over)
+pub returns-then-is_over : goal.returns-then-is_over
+returns-then-is_over c = search (rules, over)
 
 pub returns-then-not-same_two : goal.returns-then-not-same_two
 returns-then-not-same_two c = search (rules, unfit)

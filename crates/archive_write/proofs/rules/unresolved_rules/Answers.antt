@@ -2,8 +2,8 @@ use Rattle.archive_write.proofs.Judged.{over, unfit, too-low, fit, first-of-thre
 use borrow.Author.Rules.{rules}
 use Rattle.archive_write.proofs.rules.unresolved_rules.Goals as goal
 
-pub returns-then-three_over : goal.returns-then-three_over
-returns-then-three_over c = search (rules, over)
+pub returns-then-is_over : goal.returns-then-is_over
+returns-then-is_over c = search (rules, over)
 
 pub returns-then-not-whole_unresolved : goal.returns-then-not-whole_unresolved
 returns-then-not-whole_unresolved c = search (rules, unfit)
