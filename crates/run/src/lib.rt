@@ -10,9 +10,8 @@ ghost use Rattle.cleaning.specs.Runs.{fresh_run};
 ghost use Rattle.run.specs.View.{view};
 ghost use Rattle.run.specs.Promises.{Steps, Writes, Maps, Counts};
 
-use columns::refusal::{Refusal, Ruling};
-use run_resolve::asked::Mapped;
-use run_state::{Held, Sheet, Writing};
+use columns::refusal::Refusal;
+use run_state::{Held, Sheet};
 
 // The sources taken, and once resolved the survivors.
 #[repr(C)]
@@ -23,33 +22,11 @@ pub struct Run {
     sheet: Sheet,
 }
 
-// That a taking or a resolving is done, or why not.
-#[derive(Clone, Copy)]
-pub enum Reply {
-    Done,
-    Refused(Refusal),
-}
-
 // The run after a call, and the answer. A refused call gives back the run that it was given.
 #[derive(Clone, Copy)]
 pub struct Stepped {
     pub run: Run,
-    pub reply: Reply,
-}
-
-// The new number of an event; nothing where it is erased or no event has the number.
-#[derive(Clone, Copy)]
-pub enum Number {
-    To(u64),
-    Nothing,
-    Refused(Refusal),
-}
-
-// How many survivors are reparented.
-#[derive(Clone, Copy)]
-pub enum Count {
-    Of(usize),
-    Refused(Refusal),
+    pub reply: Result<(), Refusal>,
 }
 
 // A run that has taken nothing.
@@ -73,19 +50,13 @@ pub fn take(run: Run, bytes: &[u8]) -> Stepped
     let holds = turns::is_holdable(run.held);
     if !turns::is_taking(run.phase, holds) {
         return Stepped {
-            run: run,
-            reply: Reply::Refused(Refusal::OutOfTurn),
+            run,
+            reply: Err(Refusal::OutOfTurn),
         };
     }
-    let t = run_take::take(run.held, bytes);
-    let v = t.ruling;
-    match v {
-        Ruling::Broken(x) => Stepped {
-            run: run,
-            reply: Reply::Refused(x),
-        },
-        Ruling::Kept => {
-            let h = t.held;
+    match run_take::take(run.held, bytes) {
+        Err(x) => Stepped { run, reply: Err(x) },
+        Ok(h) => {
             let s = run.sheet;
             Stepped {
                 run: Run {
@@ -93,7 +64,7 @@ pub fn take(run: Run, bytes: &[u8]) -> Stepped
                     held: h,
                     sheet: s,
                 },
-                reply: Reply::Done,
+                reply: Ok(()),
             }
         }
     }
@@ -106,65 +77,56 @@ pub fn resolve(run: Run) -> Stepped
     let holds = turns::is_holdable(run.held);
     if !turns::is_taking(run.phase, holds) {
         return Stepped {
-            run: run,
-            reply: Reply::Refused(Refusal::OutOfTurn),
+            run,
+            reply: Err(Refusal::OutOfTurn),
         };
     }
     let q = run_resolve::resolve(run.held);
-    let v = q.ruling;
-    match v {
-        Ruling::Broken(x) => Stepped {
-            run: run,
-            reply: Reply::Refused(x),
-        },
-        Ruling::Kept => {
+    match q {
+        Err(x) => Stepped { run, reply: Err(x) },
+        Ok(s) => {
             let h = run.held;
-            let s = q.sheet;
             Stepped {
                 run: Run {
                     phase: 1,
                     held: h,
                     sheet: s,
                 },
-                reply: Reply::Done,
+                reply: Ok(()),
             }
         }
     }
 }
 
 // Writes the cleaned archive of a resolved run, as often as wanted.
-pub fn write(run: Run, out: &mut [u8]) -> Writing
+pub fn write(run: Run, out: &mut [u8]) -> Result<usize, Refusal>
     ensures { Writes run out.old out.new result }
 {
     let holds = turns::is_holdable(run.held);
     if !turns::is_resolved(run.phase, holds, turns::is_writable(run.sheet)) {
-        return Writing::Refused(Refusal::OutOfTurn);
+        return Err(Refusal::OutOfTurn);
     }
     run_write::write_sheet(run.sheet, out)
 }
 
 // The new number of an old one, in a resolved run.
-pub fn new_number(run: Run, old: u64) -> Number
+pub fn new_number(run: Run, old: u64) -> Result<Option<u64>, Refusal>
     ensures { Maps run old result }
 {
     let holds = turns::is_holdable(run.held);
     if !turns::is_resolved(run.phase, holds, turns::is_writable(run.sheet)) {
-        return Number::Refused(Refusal::OutOfTurn);
+        return Err(Refusal::OutOfTurn);
     }
-    let m = run_resolve::asked::new_number(run.held, old);
-    match m {
-        Mapped::To(n) => Number::To(n),
-        Mapped::Nothing => Number::Nothing,
-    }
+    Ok(run_resolve::asked::new_number(run.held, old))
 }
 
 // How many survivors name an erased parent, in a resolved run.
-pub fn reparented(run: Run) -> Count
+pub fn reparented(run: Run) -> Result<usize, Refusal>
     ensures { Counts run result }
 {
     let holds = turns::is_holdable(run.held);
     if !turns::is_resolved(run.phase, holds, turns::is_writable(run.sheet)) {
-        return Count::Refused(Refusal::OutOfTurn);
+        return Err(Refusal::OutOfTurn);
     }
-    Count::Of(run_resolve::sheet::asked::reparented(run.held))
+    Ok(run_resolve::sheet::asked::reparented(run.held))
 }

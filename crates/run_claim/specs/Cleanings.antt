@@ -1,17 +1,16 @@
 -- Demand 3 over the cleaner of one call: it takes an archive's bytes, resolves and writes, so that the claim is over two archives' bytes.
-use Rattle.std.specs.Prelude.{◌≡◌, List, ℕ, ◌≤◌, ◌<◌, length, take}
+use Rattle.std.specs.Prelude.{◌≡◌, List, ℕ, ◌≤◌, ◌<◌, length, take, Ok}
 use Rattle.columns.specs.Limits.{kinds}
 use Rattle.cleaning.specs.Step.{Bytes, all_of, wrote}
 use Rattle.cleaning.specs.History.{archive_of_bytes, cleaned}
 use Rattle.cleaning.specs.Alike.{Alike}
 use Rattle.cleaning.specs.Listing.{cleaned_bytes}
-use Rattle.run_state.specs.declared.Writing.TheVariants.{Length}
 use Rattle.run_write.specs.Answers.{Gives}
 use Rattle.run_clean.specs.Cleans.{cleaned_from}
 
 -- an accepted cleaning of bytes has written w: literally what the contract of `run_clean::clean` says of an answer that is a length
 pub data CleanedTo (bytes : List ℕ) : Bytes → Type 0 where
-  gave : (was is : List ℕ) (n : ℕ) → Gives wrote (cleaned_from bytes) was is (Length n) → CleanedTo bytes (record { length = n; bytes = take n is })
+  gave : (was is : List ℕ) (n : ℕ) → Gives wrote (cleaned_from bytes) was is (Ok n) → CleanedTo bytes (record { length = n; bytes = take n is })
 
 -- what is claimed of two archives' bytes, by what an accepted cleaning of bytes has written: each by itself, and both where they are alike
 pub record CleaningsClaimed (To : List ℕ → Bytes → Type 0) (a b : List ℕ) : Type 0 where

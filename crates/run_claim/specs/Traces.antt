@@ -1,6 +1,6 @@
 -- Demand 3 over a run's functions: a trace is a list of their calls from a run on, each link literally what the function's contract says of the
 -- run before and after, the bytes taken, and the bytes lent and written.
-use Rattle.std.specs.Prelude.{◌≡◌, List, [], ◌∷◌, map, ℕ, ◌≤◌, length}
+use Rattle.std.specs.Prelude.{◌≡◌, List, [], ◌∷◌, map, ℕ, ◌≤◌, length, Result, Option}
 use Rattle.columns.specs.Limits.{kinds}
 use Rattle.lists.specs.Lists.{Each}
 use Rattle.archive.specs.File.{File}
@@ -13,22 +13,20 @@ use Rattle.cleaning.specs.Claim.{Claimed}
 use Rattle.cleaning.specs.NewParents.{OfBytes, Renewed}
 use Rattle.cleaning.specs.Accepted.{Cleanable}
 use Rattle.run_write.specs.Answers.{answer_of}
-use Rattle.run_state.specs.declared.Writing.{Writing}
 use Rattle.run.specs.View.{view}
 use Rattle.run.specs.Promises.{replied, numbered, counted_as, Steps, Writes, Lists, Maps, Counts}
 use Rattle.run.specs.declared.Run.{Run}
+use Rattle.columns.specs.declared.refusal.Refusal.{Refusal}
 use Rattle.run.specs.declared.Stepped.{Stepped}
-use Rattle.run.specs.declared.Number.{Number}
-use Rattle.run.specs.declared.Count.{Count}
 
 -- one call: the run before it, the run after it, the call with its answer
 pub data Link : Run → Run → Did → Type 0 where
   took : {run : Run} (bytes : List ℕ) (r : Stepped) → Steps (takes bytes) run r.run r.reply → Link run r.run (did (takes bytes) (replied r.reply))
   resolved : {run : Run} (r : Stepped) → Steps resolves run r.run r.reply → Link run r.run (did resolves (replied r.reply))
-  wrote : {run : Run} (was is : List ℕ) (r : Writing) → Writes run was is r → Link run run (did (writes (length was)) (answer_of step.wrote r is))
-  mapped : {run : Run} (old : ℕ) (r : Number) → Maps run old r → Link run run (did (maps old) (numbered r))
-  counted : {run : Run} (r : Count) → Counts run r → Link run run (did counts (counted_as r))
-  listed : {run : Run} (was is : List ℕ) (r : Writing) → Lists run was is r → Link run run (did (lists (length was)) (answer_of step.printed r is))
+  wrote : {run : Run} (was is : List ℕ) (r : Result ℕ Refusal) → Writes run was is r → Link run run (did (writes (length was)) (answer_of step.wrote r is))
+  mapped : {run : Run} (old : ℕ) (r : Result (Option ℕ) Refusal) → Maps run old r → Link run run (did (maps old) (numbered r))
+  counted : {run : Run} (r : Result ℕ Refusal) → Counts run r → Link run run (did counts (counted_as r))
+  listed : {run : Run} (was is : List ℕ) (r : Result ℕ Refusal) → Lists run was is r → Link run run (did (lists (length was)) (answer_of step.printed r is))
 
 pub data Trace : Run → List Did → Type 0 where
   ended : {run : Run} → Trace run []

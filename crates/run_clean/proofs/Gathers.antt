@@ -1,4 +1,5 @@
 -- What is filled and renewed column by column is what is held after the files of an archive, resolved.
+use Rattle.std.specs.Prelude.{Err, None, Ok, Some, Option, Result}
 use mathlib.Core.Path.{◌≡◌, refl, sym, ap, subst, ◌∙◌}
 use mathlib.Core.Bool.{Bool, true, false, not}
 use mathlib.Core.List.{List}
@@ -9,11 +10,9 @@ use Rattle.columns.specs.Limits.{kinds}
 use Rattle.lists.specs.Lists.{all}
 use Rattle.lists.specs.Order.{not_falling}
 use Rattle.columns.specs.Building.{in_file}
+use Rattle.columns.specs.declared.refusal.Refusal.{Refusal}
 use Rattle.columns.specs.declared.refusal.Refusal.TheVariants.{GroupOrder, OverNumbers, NoSurvivor}
-use Rattle.columns.specs.declared.refusal.Ruling.TheVariants.{Kept, Broken}
 use Rattle.run_renumber.specs.NewLists.{new_lists}
-use Rattle.run_renumber.specs.declared.Grown.{Grown}
-use Rattle.run_renumber.specs.declared.Grown.TheVariants.{Upto, Full}
 use Rattle.cleaning.specs.Survivors.{keep_unresolved, keep_roots, sort_groups}
 use Rattle.run_state.specs.declared.Unresolved.{Unresolved}
 use Rattle.run_state.specs.declared.Roots.{Roots}
@@ -33,7 +32,6 @@ use Rattle.run_resolve.specs.parents.Renewal.{Renewal, renewed_of}
 use Rattle.run_resolve.specs.survivor_sheet.Survive.{SheetKept}
 use Rattle.run_resolve.proofs.survivor_sheet.SheetParts.{part-unresolved, part-roots, part-links, part-groups, flags-few, flags-end, children-here, roots-here, links-level}
 use Rattle.run_resolve.specs.Outcome.{flags_in, ListsRenewed, SurvivorsIn, ResolvedBy}
-use Rattle.run_resolve.specs.declared.Resolution.{Resolution}
 use Rattle.run_resolve.proofs.SurvivorColumns.{sheet-ok, flags-count, numbers-end, lists-renewed, survivors_in}
 use Rattle.run_resolve.proofs.Answered.{no_source, lists-over, lists-within, survivors-counted, group-lost, all-kept}
 use Rattle.run_store.specs.turns.Parts.{Parts, parts_of, stored}
@@ -61,12 +59,12 @@ module _ (h : Held) (l : List ℕ) (n : Names) (d : Named h l n) where
   groups-is : n.groups ≡ after.sheet.groups
   groups-is = ap (λ m. m.groups) d.names
 
-  resolved-by : (r : Resolution) → ResolvedBy after r → Gathered h l r
+  resolved-by : (r : Result Sheet Refusal) → ResolvedBy after r → Gathered h l r
   resolved-by r k = record { held = after; whole = d.whole; ok = d.ok; order = d.order; resolved = k }
 
   -- 24
-  pub no-file : (r : Resolution) → n.groups.count ≡ 0 → r.ruling ≡ Broken GroupOrder → Gathered h l r
-  no-file r z e = resolved-by r (no_source after r (ap (λ g. g.count) (sym groups-is) ∙ z) e)
+  pub no-file : n.groups.count ≡ 0 → Gathered h l (Err GroupOrder)
+  no-file z = resolved-by _ (no_source after (ap (λ g. g.count) (sym groups-is) ∙ z))
 
   pub few-groups : n.groups.count ≤ 16
   few-groups = rw groups-is (part-groups after.sheet fine)
@@ -132,7 +130,7 @@ module _ (h : Held) (l : List ℕ) (n : Names) (d : Named h l n) where
     pub roots-fit : all (below (length (take i fs))) (take parts.roots.count parts.roots.rows) ≡ true
     roots-fit = rw is (roots-here after.sheet fine (take i fs) front-counted)
 
-    module _ (some : n.groups.count ≡ 0 → ⊥) (g : Grown) (os os' : List ℕ)
+    module _ (some : n.groups.count ≡ 0 → ⊥) (g : Option ℕ) (os os' : List ℕ)
         (k : Renewal (take i fs) (new_lists kinds n.start (take i fs) (slots_in i parts.edges)) (renewed_of g os os')) where
       renewed : ListsRenewed after (renewed_of g os os')
       renewed =
@@ -144,10 +142,10 @@ module _ (h : Held) (l : List ℕ) (n : Names) (d : Named h l n) where
       sourced z = some (ap (λ v. v.count) groups-is ∙ z)
 
       -- 43
-      pub too_many : (r : Resolution) → g ≡ Full → r.ruling ≡ Broken OverNumbers → Gathered h l r
-      too_many r f e = resolved-by r (lists-over after sourced (renewed_of g os os') renewed r (rw f) e)
+      pub too_many : g ≡ None → Gathered h l (Err OverNumbers)
+      too_many f = resolved-by _ (lists-over after sourced (renewed_of g os os') renewed (rw f))
 
-      module _ (m : ℕ) (f : g ≡ Upto m) (u : Unresolved) (r : Roots) (w : Links) (q : Rows)
+      module _ (m : ℕ) (f : g ≡ Some m) (u : Unresolved) (r : Roots) (w : Links) (q : Rows)
           (us : listed (unresolved_at u) u.count ≡ keep_unresolved n.start (gone (take i fs)) (listed (unresolved_at parts.unresolved) parts.unresolved.count))
           (uf : u.count ≤ parts.unresolved.count)
           (rs : listed (root_at r) r.count ≡ keep_roots (gone (take i fs)) (listed (root_at parts.roots) parts.roots.count))
@@ -157,7 +155,7 @@ module _ (h : Held) (l : List ℕ) (n : Names) (d : Named h l n) where
         abbrev sheet : Sheet
         sheet = record { start = n.start; subject = n.subject; groups = n.groups; rows = q; edges = edges_of m os os'; unresolved = u; roots = r; links = w }
 
-        upto : ListsRenewed after (renewed_of (Upto m) os os')
+        upto : ListsRenewed after (renewed_of (Some m) os os')
         upto = rw f at renewed
 
         rows-kept : RowsKept (flags_in after) after.sheet.rows q
@@ -180,15 +178,15 @@ module _ (h : Held) (l : List ℕ) (n : Names) (d : Named h l n) where
 
         module _ (long : LongSheet sheet) where
           within : SurvivorsIn after sheet
-          within = survivors_in after d.ok d.order d.long (edges_of m os os') (lists-within after (renewed_of (Upto m) os os') upto refl) sheet kept long
+          within = survivors_in after d.ok d.order d.long (edges_of m os os') (lists-within after (renewed_of (Some m) os os') upto (edges_of m os os') refl) sheet kept long
 
           pub sheet-counted : counts_ok sheet ≡ true
           sheet-counted = survivors-counted after sheet within
 
           module _ {a : Bool} (b : a ≡ filled sheet) where
             -- 27
-            pub one-empty : (z : Resolution) → not a ≡ true → z.ruling ≡ Broken NoSurvivor → Gathered h l z
-            one-empty z v e = resolved-by z (group-lost after sourced (renewed_of (Upto m) os os') upto refl sheet within b z v e)
+            pub one-empty : not a ≡ true → Gathered h l (Err NoSurvivor)
+            one-empty v = resolved-by _ (group-lost after sourced (renewed_of (Some m) os os') upto (edges_of m os os') refl sheet within b v)
 
-            pub all-full : not a ≡ false → Gathered h l (record { sheet = sheet; ruling = Kept })
-            all-full v = resolved-by _ (all-kept after sourced (renewed_of (Upto m) os os') upto refl sheet within b v)
+            pub all-full : not a ≡ false → Gathered h l (Ok sheet)
+            all-full v = resolved-by _ (all-kept after sourced (renewed_of (Some m) os os') upto (edges_of m os os') refl sheet within b v)

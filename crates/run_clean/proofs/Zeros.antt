@@ -22,7 +22,7 @@ use Rattle.run_state.specs.View.{listed, unresolved_at, root_at, link_at, slots_
 use Rattle.run_state.specs.Valid.{edges_ok}
 use Rattle.run_state.specs.order.Long.{LongLinks}
 use Rattle.run_state.specs.ByColumns.{rows_of, edges_of, unresolved_of, roots_of, links_of}
-use Rattle.run_resolve.specs.declared.parents.Renewed.{Renewed}
+use Rattle.std.specs.declared.option.Option as rust
 use Rattle.run_resolve.specs.parents.Renewal.{Renewal}
 use Rattle.run_store.specs.turns.Parts.{Accepted}
 use Rattle.run_clean.specs.Survived.{Alone}
@@ -65,7 +65,7 @@ module _ {e : Edges} (m : ℕ) (os ts : List ℕ) (is : edges_of m os ts ≡ e) 
   pub filled-form : (n : ℕ) → edges_ok n e ≡ true → edges_ok n (edges_of m os ts) ≡ true
   filled-form n k = rw is k
 
-  pub filled-lists : (start n : ℕ) (flags : List ℕ) (q : Renewed) → Renewal flags (new_lists kinds start flags (slots_in n (edges_of m os ts))) q
+  pub filled-lists : (start n : ℕ) (flags : List ℕ) (q : rust.Option Edges) → Renewal flags (new_lists kinds start flags (slots_in n (edges_of m os ts))) q
       → Renewal flags (new_lists kinds start flags (slots_in n e)) q
   filled-lists start n flags q k = subst (λ v. Renewal flags (new_lists kinds start flags (slots_in n v)) q) is k
 

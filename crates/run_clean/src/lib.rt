@@ -10,34 +10,20 @@ ghost use Rattle.run_write.specs.Answers.{Gives};
 ghost use Rattle.run_clean.specs.Cleans.{cleaned_from};
 ghost use Rattle.run_clean.specs.Survived.{Alone, Gathered, Survived};
 
-use columns::refusal::{Refusal, Ruling};
+use columns::refusal::Refusal;
 use parts::{fill_links, fill_lists, fill_roots, fill_rows, fill_unresolved};
-use run_renumber::Grown;
-use run_resolve::Resolution;
 use run_resolve::sheet::kept::keep_rows;
 use run_state::empty::fresh;
 use run_state::order::is_filled;
 use run_state::order::long::{held_long, sheet_long};
-use run_state::{Edges, Ends, Held, Links, Roots, Rows, Sheet, Unresolved, Writing};
+use run_state::{Edges, Ends, Held, Links, Roots, Rows, Sheet, Unresolved};
 use run_store::names::{grow_names, names_of};
 use run_take::{known_of, rules_by};
 use run_write::write_sheet;
 
-// A refusal, with a sheet of no rows.
-fn refused(x: Refusal) -> Resolution
-    ensures { result.ruling ≡ Ruling.Broken x }
-{
-    let h = fresh();
-    let s = h.sheet;
-    Resolution {
-        sheet: s,
-        ruling: Ruling::Broken(x),
-    }
-}
-
 // The survivors of an archive that is accepted: 24 where it has no file, 43 where all new lists are over the limit, 27 where a group has no
 // survivor. `h` holds nothing and is what the contract speaks of: no column of it is read.
-fn gathered(h: Held, bytes: &[u8]) -> Resolution
+fn gathered(h: Held, bytes: &[u8]) -> Result<Sheet, Refusal>
     requires { Alone h bytes.now }
     ensures { Gathered h bytes.now result }
 {
@@ -45,7 +31,7 @@ fn gathered(h: Held, bytes: &[u8]) -> Resolution
     let subject = names.subject;
     let groups = names.groups;
     if groups.count == 0 {
-        return refused(Refusal::GroupOrder);
+        return Err(Refusal::GroupOrder);
     }
     let mut of = [0u8; 1024];
     let mut tags = [0u64; 1024];
@@ -78,8 +64,8 @@ fn gathered(h: Held, bytes: &[u8]) -> Resolution
         &mut all,
         &mut deltas,
     );
-    let Grown::Upto(m) = g else {
-        return refused(Refusal::OverNumbers);
+    let Some(m) = g else {
+        return Err(Refusal::OverNumbers);
     };
     let mut children = [0u64; 1024];
     let mut kinds = [0u8; 1024];
@@ -121,30 +107,30 @@ fn gathered(h: Held, bytes: &[u8]) -> Resolution
     let k = keep_rows(&mut of, &mut tags, &mut chains, &mut seqs, &flags[..n]);
     let s = Sheet {
         start: names.start,
-        subject: subject,
-        groups: groups,
+        subject,
+        groups,
         rows: Rows {
             count: k,
             groups: of,
-            tags: tags,
-            chains: chains,
-            seqs: seqs,
+            tags,
+            chains,
+            seqs,
         },
         edges: Edges {
             count: m,
-            offsets: offsets,
-            targets: targets,
+            offsets,
+            targets,
         },
         unresolved: Unresolved {
             count: u,
-            children: children,
-            kinds: kinds,
+            children,
+            kinds,
             handles: parents,
         },
         roots: Roots {
             count: r,
             rows: rooted,
-            handles: handles,
+            handles,
         },
         links: Links {
             count: l,
@@ -155,38 +141,28 @@ fn gathered(h: Held, bytes: &[u8]) -> Resolution
     };
     sheet_long(s);
     if !is_filled(s) {
-        return refused(Refusal::NoSurvivor);
+        return Err(Refusal::NoSurvivor);
     }
-    Resolution {
-        sheet: s,
-        ruling: Ruling::Kept,
-    }
+    Ok(s)
 }
 
 // The survivors of an archive that a fresh run takes, or why there are none.
 // Not inlined, so that its columns and those of the steps beside it do not stand on the stack at once.
 #[inline(never)]
-fn survivors(bytes: &[u8]) -> Resolution
+fn survivors(bytes: &[u8]) -> Result<Sheet, Refusal>
     ensures { Survived bytes.now result }
 {
     let h = fresh();
     held_long(h);
     let k = known_of(h);
-    let a = rules_by(h, k, bytes);
-    match a {
-        Ruling::Broken(x) => refused(x),
-        Ruling::Kept => gathered(h, bytes),
-    }
+    rules_by(h, k, bytes)?;
+    gathered(h, bytes)
 }
 
 // Cleans an archive into lent bytes: how long the cleaned archive is, or why there is none.
-pub fn clean(bytes: &[u8], out: &mut [u8]) -> Writing
+pub fn clean(bytes: &[u8], out: &mut [u8]) -> Result<usize, Refusal>
     ensures { Gives wrote (cleaned_from bytes.now) out.old out.new result }
 {
-    let q = survivors(bytes);
-    let b = q.ruling;
-    match b {
-        Ruling::Broken(y) => Writing::Refused(y),
-        Ruling::Kept => write_sheet(q.sheet, out),
-    }
+    let s = survivors(bytes)?;
+    write_sheet(s, out)
 }

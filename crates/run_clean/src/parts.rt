@@ -17,7 +17,6 @@ ghost use Rattle.run_resolve.specs.parents.Renewal.{Renewal, renewed_of};
 ghost use Rattle.run_store.specs.turns.Parts.{stored};
 ghost use Rattle.run_clean.specs.Survived.{Alone};
 
-use run_renumber::Grown;
 use run_resolve::links::sort_into;
 use run_resolve::parents::renew;
 use run_resolve::records::{renew_roots, renew_unresolved};
@@ -59,7 +58,7 @@ pub fn fill_lists(
     offs: &mut [u64; 2049],
     all: &mut [u64; 4096],
     deltas: &mut [i64; 4096],
-) -> Grown
+) -> Option<usize>
     requires alone { Alone h bytes.now }
     requires offsets_value { (offsets.old ≡ zeros 2049) × (targets.old ≡ zeros 4096) }
     requires n_bound { (n ≤ 1024) × ((length flags.now ≡ 1024) × (start + n ≤ 2 ^ 64 - 1)) }

@@ -12,7 +12,7 @@ unfoldable pub survive : List ℕ → ℕ
 survive flags = length (filter not (gone flags))
 
 -- a column's elements of the rows that survive
-abbrev pub kept_in : List ℕ → List ℕ → List ℕ
+abbrev pub kept_in : {A : Type 0} → List ℕ → List A → List A
 kept_in flags xs = keep (gone flags) xs
 
 -- the flags of the rows that records name; rows count from `base`

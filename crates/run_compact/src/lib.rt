@@ -2,8 +2,5 @@
 #![tactic(auto)]
 
 pub mod following;
-pub mod long;
-pub mod middle;
-pub mod narrow;
+pub mod keep;
 pub mod slots;
-pub mod wide;

@@ -16,13 +16,8 @@ fn append(all: &mut [u64], end: usize, targets: &[u64], a: usize, b: usize) -> u
     requires { (a ≤ b) × ((b ≤ length targets.now) × (end + (b - a) ≤ length all.old)) }
     ensures { (result ≡ end + (b - a)) × (take result all.new ≡ take end all.old ++ slice a b targets.now) }
 {
-    let mut n = end;
-    let mut i = a;
-    while i < b {
-        all[n] = targets[i];
-        n += 1;
-        i += 1;
-    }
+    let n = end + (b - a);
+    all[end..n].copy_from_slice(&targets[a..b]);
     n
 }
 
@@ -67,14 +62,10 @@ fn add_slots(
     let slots = KINDS * flags.len();
     let mut end: usize = 0;
     let mut k: usize = 0;
-    let mut s: usize = 0;
-    while s < slots {
+    for s in 0..slots {
         if flags[s / KINDS] == 0 {
             end = add_slot(offsets, targets, s, offs, all, k, end);
             k += 1;
-            s += 1;
-        } else {
-            s += 1;
         }
     }
     end

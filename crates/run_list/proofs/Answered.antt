@@ -1,4 +1,5 @@
 -- What a listing answers: the files of a sheet are the outputs of its summary, and each way out is the verdict.
+use Rattle.std.specs.Prelude.{Err, Ok, Result}
 use mathlib.Core.Path.{◌≡◌, refl, sym, ap, ap₂, ◌∙◌}
 use mathlib.Core.Bool.{true}
 use mathlib.Core.List.{List, [], ◌∷◌, ◌++◌}
@@ -20,7 +21,6 @@ use Rattle.columns.specs.Refusal as verdict
 use Rattle.columns.specs.Refusal.{unless, refuse, first_of}
 use Rattle.columns.specs.declared.refusal.Refusal.{Refusal}
 use Rattle.columns.specs.declared.refusal.Refusal.TheVariants.{SliceShort}
-use Rattle.columns.specs.declared.refusal.Ruling.TheVariants.{Kept, Broken}
 use Rattle.columns.proofs.Told.{told, told-kept}
 use Rattle.cleaning.specs.Sections.{Tidy, Filled, section_file, section_rules}
 use Rattle.cleaning.specs.Writing.{output_of, outputs, group_numbers}
@@ -32,14 +32,13 @@ use Rattle.cleaning.specs.Sheet.{groups_of_sheet, summary_of}
 use Rattle.cleaning.proofs.SheetFiles.{file-section, filled-section, groups-length, rules-sections}
 use Rattle.run_state.specs.declared.Held.{Held}
 use Rattle.run_state.specs.declared.Sheet.{Sheet}
-use Rattle.run_state.specs.declared.Writing.{Writing}
 use Rattle.run_state.specs.declared.Groups.{Groups}
 use Rattle.run_state.specs.Valid.{held_ok}
 use Rattle.run_state.specs.View.{held_in, sheet_in}
 use Rattle.run_state.specs.order.Ordered.{ordered}
 use Rattle.run_state.specs.order.Long.{LongHeld}
 use Rattle.run_section.specs.declared.Counts.{Counts}
-use Rattle.run_section.specs.declared.measures.Measured.{Measured}
+use Rattle.run_section.specs.Measures.{ruled}
 use Rattle.run_section.specs.declared.prepare.Prepared.{Prepared}
 use Rattle.run_section.specs.Tables.{sheet_of}
 use Rattle.run_section.specs.Laid.{counts_of}
@@ -50,7 +49,6 @@ use Rattle.run_section.specs.Ready.{Ready, Children}
 use Rattle.run_records.specs.Lengths.{MeasuredBy}
 use Rattle.run_resolve.proofs.sheet.Asking.{few-held}
 use Rattle.run_resolve.specs.Outcome.{archive_in}
-use Rattle.run_state.specs.declared.Writing.TheVariants.{Length, Refused}
 use Rattle.run_text.specs.numbers.Wrote.{Wrote}
 use Rattle.run_list.specs.Rows.{maps_text}
 use Rattle.run_list.specs.Groups.{section_files, lines_of, need_of, Spanned}
@@ -75,7 +73,7 @@ module _ (h : Held) (ok : held_ok h ≡ true) (o : ordered h.sheet ≡ true) (hl
 
   module _ (z : Counts) (subject : List ℕ) (groups : Groups) (rows unresolved roots links offsets targets : List ℕ)
       (ready : Ready z subject groups rows unresolved roots links offsets targets) (whole : Filled (sheet_of z subject groups rows unresolved roots links offsets targets))
-      {m : Measured} (d : MeasuredBy (sheet_of z subject groups rows unresolved roots links offsets targets) m) where
+      {m : Result ℕ Refusal} (d : MeasuredBy (sheet_of z subject groups rows unresolved roots links offsets targets) m) where
     abbrev S : plain.Sheet
     S = sheet_of z subject groups rows unresolved roots links offsets targets
 
@@ -84,17 +82,17 @@ module _ (h : Held) (ok : held_ok h ≡ true) (o : ordered h.sheet ≡ true) (hl
     unfolding listed
     by-sections room = rw (rules-sections kinds kinds-served S ready.tidy whole, files-sections S ready.tidy whole)
 
-    pub list-refused : (was : List ℕ) (x : Refusal) → m.ruling ≡ Broken x → Lists (held_in h) S was was (Refused x)
+    pub list-refused : (was : List ℕ) (x : Refusal) → m ≡ Err x → {r : Result ℕ Refusal} → r ≡ Err x → Lists (held_in h) S was was r
     unfolding unless first_of
-    list-refused was x e = record {
-      answers = sym (ap list_into {y = verdict.refused x} (by-sections (length was) ∙ rw (told (section_rules kinds S) d.rules e)));
+    list-refused was x e i = rw i (record {
+      answers = sym (ap list_into {y = verdict.refused x} (by-sections (length was) ∙ rw (told (section_rules kinds S) d.rules (ap ruled e))));
       rest = refl;
       within = omega arith;
-    }
+    })
 
-    module _ (e : m.ruling ≡ Kept) {starts kids : List ℕ} (children : Children z offsets targets starts kids) where
+    module _ {k : ℕ} (e : m ≡ Ok k) {starts kids : List ℕ} (children : Children z offsets targets starts kids) where
       rules-kept : section_rules kinds S ≡ none
-      rules-kept = told-kept (section_rules kinds S) d.rules e
+      rules-kept = told-kept (section_rules kinds S) d.rules (ap ruled e)
 
       pub in_reach : Spanned z groups.count rows offsets targets starts kids
       in_reach = spanned z subject groups rows unresolved roots links offsets targets ready children rules-kept
@@ -104,7 +102,7 @@ module _ (h : Held) (ok : held_ok h ≡ true) (o : ordered h.sheet ≡ true) (hl
         unfolding listing_need
         need-told = omega (arith, event-count h ok o hl, files-need z subject groups rows unresolved roots links offsets targets ready children)
 
-        pub list-short : (was : List ℕ) → length was < 46 * h.sheet.rows.count + (bytes + 32) → Lists (held_in h) S was was (Refused SliceShort)
+        pub list-short : (was : List ℕ) → length was < 46 * h.sheet.rows.count + (bytes + 32) → Lists (held_in h) S was was (Err SliceShort)
         unfolding unless first_of
         list-short was g = record {
           answers = sym (ap list_into {y = verdict.refused SliceShort} (by-sections (length was)
@@ -120,7 +118,7 @@ module _ (h : Held) (ok : held_ok h ≡ true) (o : ordered h.sheet ≡ true) (hl
         pub list_all : {was is : List ℕ} {r : ℕ} → 46 * h.sheet.rows.count + (bytes + 32) ≤ length was
             → Wrote (text_with (archive_in h) (lines_of z groups.count rows offsets targets starts kids))
             (46 * h.sheet.rows.count + (need_of z groups.count rows offsets targets starts kids + 32)) was 0 is r
-            → Lists (held_in h) S was is (Length r)
+            → Lists (held_in h) S was is (Ok r)
         unfolding unless first_of
         list_all {was} {is} {r} g w =
             let t = listing_text (archive_in h) (section_files S) in
@@ -142,6 +140,6 @@ module _ (s : Sheet) (p : Prepared) (rows unresolved roots links starts kids : L
   pub counted : CoversCounted (counts_of s) s.groups rows p.covers → CoversCounted p.counts s.groups rows p.covers
   counted k = rw d.counts_are k
 
-  pub listed-laid : (h : Held) {was is : List ℕ} {r : Writing}
+  pub listed-laid : (h : Held) {was is : List ℕ} {r : Result ℕ Refusal}
       → Lists (held_in h) (sheet_of p.counts (subject_in s) s.groups rows unresolved roots links (offsets_in s) (targets_in s)) was is r → Lists (held_in h) (sheet_in s) was is r
   listed-laid h w = rw (sheet_is s p rows unresolved roots links starts kids d) at w

@@ -1,5 +1,5 @@
 -- Document 01, the worked run: the listing of a resolved run, out of its columns.
-use Rattle.std.specs.Prelude.{◌≡◌, true, List, [], ◌∷◌, ◌++◌, ℕ}
+use Rattle.std.specs.Prelude.{◌≡◌, true, List, [], ◌∷◌, ◌++◌, ℕ, Result}
 use Rattle.columns.specs.Limits.{kinds}
 use Rattle.lists.specs.Text.{text}
 use Rattle.cleaning.specs.Archive.{Archive}
@@ -13,8 +13,8 @@ use Rattle.run_state.specs.declared.Sheet as sheets
 use Rattle.run_state.specs.declared.Held as holds
 use Rattle.run_state.specs.Valid.{sheet_ok, held_ok, once_ok}
 use Rattle.run_state.specs.order.Ordered.{ordered, filled}
-use Rattle.run_state.specs.declared.Writing.{Writing}
 use Rattle.run_write.specs.Answers.{Gives}
+use Rattle.columns.specs.declared.refusal.Refusal.{Refusal}
 use Rattle.run_list.specs.Rows.{maps_text}
 
 -- columns of a resolved run: what it holds, and the sheet of its survivors
@@ -27,7 +27,7 @@ pub record Ready (h : holds.Held) (s : sheets.Sheet) : Type 0 where
   pub once : once_ok s ≡ true
 
 -- the listing of what a run holds, and of the sheet of its survivors
-abbrev pub Lists : Held → Sheet → List ℕ → List ℕ → Writing → Type 0
+abbrev pub Lists : Held → Sheet → List ℕ → List ℕ → Result ℕ Refusal → Type 0
 Lists h s = Gives printed (λ room. list_into (listed kinds room (archive_held kinds h) (summary_of kinds s)))
 
 -- its text, with these lines for the output files

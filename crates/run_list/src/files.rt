@@ -114,11 +114,9 @@ pub(crate) fn need_files(
     ensures { (result ≡ need_of z n rows.now offsets.now targets.now starts.now kids.now) × (result ≤ 6196736) }
 {
     let mut total = 0;
-    let mut g = 0;
-    while g < n {
+    for g in 0..n {
         let r = rows_of(z, g, rows);
         total += need_group(z, r.from, r.to, offsets, targets, starts, kids);
-        g += 1;
     }
     total
 }
@@ -141,11 +139,9 @@ pub(crate) fn put_files(
         (need_of z n rows.now offsets.now targets.now starts.now kids.now) out.old at out.new result }
 {
     let mut p = at;
-    let mut g = 0;
-    while g < n {
+    for g in 0..n {
         let r = rows_of(z, g, rows);
         p = put_group(out, p, z, g, r.from, r.to, offsets, targets, starts, kids);
-        g += 1;
     }
     p
 }

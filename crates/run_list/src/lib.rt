@@ -22,12 +22,12 @@ ghost use Rattle.run_section.specs.Prepared.{LaidBy};
 ghost use Rattle.run_list.specs.Groups.{lines_of, need_of, Tabled, Spanned};
 ghost use Rattle.run_list.specs.Listed.{Ready, Lists, text_with};
 
-use columns::refusal::{Refusal, Ruling};
+use columns::refusal::Refusal;
 use run_records::lengths::measure;
 use run_section::Counts;
 use run_section::prepare::{Prepared, prepare};
 use run_state::order::long::{held_long, sheet_long};
-use run_state::{Groups, Held, Sheet, Writing};
+use run_state::{Groups, Held, Sheet};
 use run_text::lines::put_reparented;
 
 // The text, which has room, of the first n groups' files.
@@ -70,7 +70,7 @@ fn list_tables(
     starts: &[u64],
     kids: &[u64],
     out: &mut [u8],
-) -> Writing
+) -> Result<usize, Refusal>
     requires h_value { (held_ok h ≡ true) × (ordered h.sheet ≡ true) }
     requires ready { tables.Ready p.counts subject.now groups rows.now unresolved.now roots.now links.now offsets.now targets.now }
     requires children { (Children p.counts offsets.now targets.now starts.now kids.now) × (CoversCounted p.counts groups rows.now p.covers) }
@@ -80,22 +80,16 @@ fn list_tables(
 {
     held_long(h);
     let z = p.counts;
-    let m = measure(
+    measure(
         z, subject, groups, p.covers, rows, unresolved, roots, links, offsets, targets, starts,
         kids,
-    );
-    let v = m.ruling;
-    match v {
-        Ruling::Broken(x) => Writing::Refused(x),
-        Ruling::Kept => {
-            let n = groups.count;
-            let bytes = files::need_files(z, n, rows, offsets, targets, starts, kids);
-            if out.len() < 46 * h.sheet.rows.count + (bytes + 32) {
-                return Writing::Refused(Refusal::SliceShort);
-            }
-            Writing::Length(put_listing(h, z, n, rows, offsets, targets, starts, kids, out))
-        }
+    )?;
+    let n = groups.count;
+    let bytes = files::need_files(z, n, rows, offsets, targets, starts, kids);
+    if out.len() < 46 * h.sheet.rows.count + (bytes + 32) {
+        return Err(Refusal::SliceShort);
     }
+    Ok(put_listing(h, z, n, rows, offsets, targets, starts, kids, out))
 }
 
 // The same of a sheet whose tables and children stand in lent arrays.
@@ -110,7 +104,7 @@ fn list_laid(
     starts: &[u64],
     kids: &[u64],
     out: &mut [u8],
-) -> Writing
+) -> Result<usize, Refusal>
     requires ready { Ready h s }
     requires laid_by { (LaidBy s rows.now unresolved.now roots.now links.now starts.now kids.now p) × (CoversCounted (counts_of s) s.groups rows.now p.covers) }
     ensures { Lists (held_in h) (sheet_in s) out.old out.new result }
@@ -141,7 +135,7 @@ fn list_laid(
 }
 
 // Writes the listing, unless a rule refuses the writing or the listing has no room.
-pub fn list(h: Held, s: Sheet, out: &mut [u8]) -> Writing
+pub fn list(h: Held, s: Sheet, out: &mut [u8]) -> Result<usize, Refusal>
     requires { Ready h s }
     ensures { Lists (held_in h) (sheet_in s) out.old out.new result }
 {

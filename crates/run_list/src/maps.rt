@@ -19,10 +19,8 @@ fn put_rows(out: &mut [u8], start: u64, flags: &[u8], numbers: &[u64]) -> usize
     ensures { Wrote (rows_text start flags.now numbers.now) (46 * length flags.now) out.old 0 out.new result }
 {
     let mut p: usize = 0;
-    let mut i: usize = 0;
-    while i < flags.len() {
+    for i in 0..flags.len() {
         p = put_map(out, p, start + (i as u64), flags[i] != 0, numbers[i]);
-        i += 1;
     }
     p
 }

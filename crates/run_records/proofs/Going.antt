@@ -1,4 +1,5 @@
 -- The groups from one on: their rules and the bytes of their files. All are those from group 0 on; one turn of each loop goes from g to g + 1.
+use Rattle.std.specs.Prelude.{Err, Ok, Result}
 use mathlib.Core.Path.{◌≡◌, refl, sym, ap, ◌∙◌}
 use mathlib.Core.List.{List, [], ◌∷◌, ◌++◌, map}
 use mathlib.Core.Option.{Option, none, some}
@@ -17,10 +18,8 @@ use Rattle.archive.specs.Encode.{file_bytes, encode}
 use Rattle.cleaning.specs.Sheet.{Sheet}
 use Rattle.cleaning.specs.Sections.{section_graph, section_file, section_rules, section_bytes}
 use Rattle.columns.specs.Answers.{ruling}
-use Rattle.columns.specs.declared.refusal.Ruling.TheVariants.{Kept, Broken}
 use Rattle.columns.proofs.Told.{last-rule, told, told-kept}
-use Rattle.run_section.specs.declared.measures.Measured.{Measured}
-use Rattle.run_section.specs.Measures.{MeasuredGroup}
+use Rattle.run_section.specs.Measures.{ruled, MeasuredGroup}
 use Rattle.run_records.specs.Lengths.{MeasuredBy}
 
 -- ── the rest ─────────────────────────────────────────────────────────────────────────────────
@@ -78,31 +77,32 @@ pub record Going (s : Sheet) (n g total : ℕ) : Type 0 where
 
 -- ── one turn ─────────────────────────────────────────────────────────────────────────────────
 
-module _ (s : Sheet) (g n total : ℕ) {m : Measured} (measured : MeasuredGroup s g m) (h : g < n) where
-  module _ (k : m.ruling ≡ Kept) where
+module _ (s : Sheet) (g n total : ℕ) {m : Result ℕ Refusal} (measured : MeasuredGroup s g m) (h : g < n) where
+  module _ {k : ℕ} (e : m ≡ Ok k) where
     kept : build_rules kinds (section_graph kinds s g) ≡ none
-    kept = told-kept (build_rules kinds (section_graph kinds s g)) measured.rules k
+    kept = told-kept (build_rules kinds (section_graph kinds s g)) measured.rules (ap ruled e)
 
-    two-lengths : length (bytes_from s g n) ≡ m.length + length (bytes_from s (g + 1) n)
+    two-lengths : length (bytes_from s g n) ≡ k + length (bytes_from s (g + 1) n)
     two-lengths =
         ap length (bytes_next s g n h ∙ ap (λ k. file_bytes (section_file kinds s g) ++ bytes_from s k n) (sym (add-one g)))
-        ∙ length-append (file_bytes (section_file kinds s g)) (bytes_from s (g + 1) n) ∙ ap (λ l. l + length (bytes_from s (g + 1) n)) (sym (measured.length_is kept))
+        ∙ length-append (file_bytes (section_file kinds s g)) (bytes_from s (g + 1) n) ∙ ap (λ l. l + length (bytes_from s (g + 1) n)) (sym (measured.length_is e))
 
-    pub going_on : Going s n g total → Going s n (g + 1) (total + m.length)
+    pub going_on : Going s n g total → Going s n (g + 1) (total + k)
     going_on w = record {
       rules_left = w.rules_left ∙ rules-next s g n h kept ∙ ap (λ k. rules_from s k n) (sym (add-one g));
       bytes_left = omega (arith, w.bytes_left, two-lengths);
-      so_far = omega (arith, w.so_far, measured.few);
+      so_far = omega (arith, w.so_far, measured.few e);
       few = w.few;
     }
 
-  pub total-fits : Going s n g total → Fits w64 (total + m.length)
-  total-fits w = record { fits = omega (arith, w.so_far, w.few, measured.few) }
+    pub total-fits : Going s n g total → Fits w64 (total + k)
+    total-fits w = record { fits = omega (arith, w.so_far, w.few, measured.few e) }
 
-  pub all-broken : (x : Refusal) → m.ruling ≡ Broken x → Going s n g total → MeasuredBy s (record { ruling = Broken x; length = 0 })
-  all-broken x b w =
-      let f : Broken x ≡ ruling (section_rules kinds s) = rw (w.rules_left, rules-broken s g n h x (told (build_rules kinds (section_graph kinds s g)) measured.rules b)) in
-      record { rules = f; length_is = λ k. absurd (let d : Broken x ≡ Kept = f ∙ ap ruling k in let z : ◌≡◌ {A = ℕ} 0 1 = cc in omega arith) }
+  pub all-broken : (x : Refusal) → m ≡ Err x → Going s n g total → {r : Result ℕ Refusal} → r ≡ Err x → MeasuredBy s r
+  all-broken x b w {r} i = record {
+    rules = ap ruled i ∙ rw (w.rules_left, rules-broken s g n h x (told (build_rules kinds (section_graph kinds s g)) measured.rules (ap ruled b)));
+    length_is = λ {n} e. absurd (let z : ◌≡◌ {A = ℕ} 0 1 = cc in omega arith);
+  }
 
 -- ── where the loop starts and ends ───────────────────────────────────────────────────────────
 
@@ -118,5 +118,8 @@ module _ (s : Sheet) (n : ℕ) (e : n ≡ length s.groups) (few : n ≤ 16) wher
         few = few;
       }
 
-pub going-ends : (s : Sheet) (g n total : ℕ) → n ≤ g → Going s n g total → MeasuredBy s (record { ruling = Kept; length = total })
-going-ends s g n total h w = record { rules = rw (w.rules_left, rules-end s g n h); length_is = λ k. omega (arith, w.bytes_left, ap length (bytes-end s g n h)) }
+pub going-ends : (s : Sheet) (g n total : ℕ) → n ≤ g → Going s n g total → MeasuredBy s (Ok total)
+going-ends s g n total h w = record {
+  rules = rw (w.rules_left, rules-end s g n h);
+  length_is = λ {n = k} e. let i : k ≡ total = cc in omega (arith, w.bytes_left, ap length (bytes-end s g n h));
+}

@@ -161,14 +161,12 @@ pub fn put_groups(
         offsets.now targets.now)) }
 {
     let mut at = 0;
-    let mut g = 0;
-    while g < groups.count {
+    for g in 0..groups.count {
         let f = facts_of(groups, covers, g);
         let s = section_of(z, g, rows, unresolved, roots, links);
         let p = put_front(
             out, at, z, g, s, f.known, subject, offsets, targets, starts, kids,
         );
         at = put_back(out, p, s, f, rows, unresolved, roots, links, ranges);
-        g += 1;
     }
 }

@@ -6,15 +6,15 @@ ghost use Rattle.run_section.specs.Covers.{CoversCounted};
 ghost use Rattle.run_section.specs.Measures.{MeasuredGroup};
 ghost use Rattle.run_records.specs.Lengths.{MeasuredBy};
 
-use columns::refusal::Ruling;
+use columns::refusal::Refusal;
 use run_section::Counts;
 use run_section::covers::Covers;
 use run_section::facts::facts_of;
-use run_section::measures::{Measured, measure_section};
+use run_section::measures::measure_section;
 use run_section::places::section_of;
 use run_state::Groups;
 
-// The first rule that group g breaks, or how long its file is.
+// How long group g's file is, or the first rule that the group breaks.
 fn measure_group(
     z: Counts,
     subject: &[u8],
@@ -29,7 +29,7 @@ fn measure_group(
     targets: &[u64],
     starts: &[u64],
     kids: &[u64],
-) -> Measured
+) -> Result<usize, Refusal>
     requires ready { Ready z subject.now groups rows.now unresolved.now roots.now links.now offsets.now targets.now }
     requires children { (Children z offsets.now targets.now starts.now kids.now) × (CoversCounted z groups rows.now covers) }
     requires g_lt_count { g < groups.count }
@@ -67,36 +67,18 @@ pub fn measure(
     targets: &[u64],
     starts: &[u64],
     kids: &[u64],
-) -> Measured
+) -> Result<usize, Refusal>
     requires ready { Ready z subject.now groups rows.now unresolved.now roots.now links.now offsets.now targets.now }
     requires children { (Children z offsets.now targets.now starts.now kids.now) × (CoversCounted z groups rows.now covers) }
     ensures { MeasuredBy (sheet_of z subject.now groups rows.now unresolved.now roots.now links.now
         offsets.now targets.now) result }
 {
-    let n = groups.count;
-    let mut total: usize = 0;
-    let mut g: usize = 0;
-    while g < n {
-        let m = measure_group(
+    let mut total = 0;
+    for g in 0..groups.count {
+        total += measure_group(
             z, subject, groups, covers, g, rows, unresolved, roots, links, offsets, targets,
             starts, kids,
-        );
-        let v = m.ruling;
-        match v {
-            Ruling::Broken(x) => {
-                return Measured {
-                    ruling: Ruling::Broken(x),
-                    length: 0,
-                };
-            }
-            Ruling::Kept => {
-                total += m.length;
-                g += 1;
-            }
-        }
+        )?;
     }
-    Measured {
-        ruling: Ruling::Kept,
-        length: total,
-    }
+    Ok(total)
 }

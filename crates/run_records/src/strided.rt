@@ -21,12 +21,10 @@ pub fn store_halves(
     requires { (at + n * 4 ≤ length out.old) × HalfColumn width j n q table.now }
     ensures { out.new ≡ sets out.old at (column_bytes 4 (several width (field j) n (drop q table.now))) }
 {
-    let mut i = 0;
     let mut p = at;
     let mut k = q;
-    while i < n {
+    for i in 0..n {
         store_u32(out, p, table[k + j]);
-        i += 1;
         p += 4;
         k += width;
     }
@@ -72,14 +70,12 @@ pub fn store_differences(
     ensures { out.new ≡ sets out.old at (column_bytes 4 (differences 0 (several width (field j) n (drop q table.now)))) }
 {
     let mut before: u64 = 0;
-    let mut i = 0;
     let mut p = at;
     let mut k = q;
-    while i < n {
+    for i in 0..n {
         let x = table[k + j];
         store_u32(out, p, wrapping_less(x, before));
         before = x;
-        i += 1;
         p += 4;
         k += width;
     }

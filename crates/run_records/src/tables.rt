@@ -21,12 +21,10 @@ fn store_rows(out: &mut [u8], at: usize, rows: &[u64], q: usize, n: usize)
     requires { (at + n * 9 ≤ length out.old) × (q + n * 4 ≤ length rows.now) }
     ensures { out.new ≡ sets out.old at (flat row_bytes (several 4 row_in n (drop q rows.now))) }
 {
-    let mut i = 0;
     let mut p = at;
     let mut j = q;
-    while i < n {
+    for i in 0..n {
         store_row(out, p, 0, rows[j + 1]);
-        i += 1;
         p += 9;
         j += 4;
     }
@@ -49,14 +47,12 @@ fn store_unresolved(out: &mut [u8], at: usize, unresolved: &[u64], q: usize, n: 
     requires { (at + n * 13 ≤ length out.old) × (q + n * 3 ≤ length unresolved.now) × NarrowUnresolved n (drop q unresolved.now) }
     ensures { out.new ≡ sets out.old at (flat unresolved_bytes (several 3 unresolved_in n (drop q unresolved.now))) }
 {
-    let mut i = 0;
     let mut p = at;
     let mut j = q;
-    while i < n {
+    for i in 0..n {
         let kind = unresolved[j + 1] as u8;
         let handle = unresolved[j + 2] as u32;
         store_one(out, p, unresolved[j], kind, handle);
-        i += 1;
         p += 13;
         j += 3;
     }
@@ -91,13 +87,11 @@ fn store_roots(out: &mut [u8], at: usize, roots: &[u64], q: usize, n: usize, low
     requires { (at + n * 16 ≤ length out.old) × (q + n * 2 ≤ length roots.now) }
     ensures { out.new ≡ sets out.old at (flat root_bytes (several 2 (root_above_in low) n (drop q roots.now))) }
 {
-    let mut i = 0;
     let mut p = at;
     let mut j = q;
-    while i < n {
+    for i in 0..n {
         let row = row_from(roots[j], low);
         store_root(out, p, row, roots[j + 1]);
-        i += 1;
         p += 16;
         j += 2;
     }

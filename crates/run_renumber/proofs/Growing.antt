@@ -1,4 +1,5 @@
 -- A list that grows in place at the end of a column: one number more, each of a part more.
+use Rattle.std.specs.Prelude.{None, Some, Option}
 use mathlib.Core.Path.{◌≡◌, refl, sym, ◌∙◌, ap}
 use mathlib.Core.Bool.{Bool, true, false}
 use mathlib.Core.List.{List, [], ◌∷◌, foldl}
@@ -11,8 +12,6 @@ use lib.Seq.{slice, slice-cons, length-slice, take-suc-set, drop-append-le, take
 use Rattle.lists.specs.Lists.{mem, add}
 use Rattle.lists.proofs.Slices.{slice-none}
 use Rattle.lists.proofs.Once.{fold-grows}
-use Rattle.run_renumber.specs.declared.Grown.{Grown}
-use Rattle.run_renumber.specs.declared.Grown.TheVariants.{Upto, Full}
 use Rattle.run_renumber.specs.Answers.{Grew, Exact}
 
 -- ── one number more ──────────────────────────────────────────────────────────────────────────
@@ -37,7 +36,7 @@ module _ {b : Bool} (x base end : ℕ) (l : List ℕ) (o : base ≤ end) (h : en
 
 -- ── what a call left ─────────────────────────────────────────────────────────────────────────
 
-module _ (r : Grown) (m base : ℕ) (was is list : List ℕ) (k : Exact r base was is list) (e : r ≡ Upto m) where
+module _ (r : Option ℕ) (m base : ℕ) (was is list : List ℕ) (k : Exact r base was is list) (e : r ≡ Some m) where
   pub grew : Grew base was is m list
   grew = rw e at k
 
@@ -50,7 +49,7 @@ module _ (r : Grown) (m base : ℕ) (was is list : List ℕ) (k : Exact r base w
   pub kept-now : (first : List ℕ) → take base was ≡ take base first → take base is ≡ take base first
   kept-now first q = grew.kept ∙ q
 
-pub too_long : (r : Grown) (base : ℕ) (was is list : List ℕ) → Exact r base was is list → r ≡ Full → length is < base + length list
+pub too_long : (r : Option ℕ) (base : ℕ) (was is list : List ℕ) → Exact r base was is list → r ≡ None → length is < base + length list
 too_long r base was is list k e = rw e at k
 
 -- ── each of a part more ──────────────────────────────────────────────────────────────────────
@@ -64,14 +63,14 @@ module _ {t : List ℕ} (base n i b : ℕ) (was l : List ℕ) (k : take base l �
   pub merge-done : b ≤ i → Grew base was l n t
   merge-done h = record { room = room; above = above; kept = k; holds = rw (e, slice-none i b was h) }
 
-  module _ (h : i < b) (o : b ≤ base) (r : Grown) (is : List ℕ) (x : Exact r base l is (add (slice base n l) (get_or l i 0))) where
+  module _ (h : i < b) (o : b ≤ base) (r : Option ℕ) (is : List ℕ) (x : Exact r base l is (add (slice base n l) (get_or l i 0))) where
     turned : t ≡ foldl add (add (slice base n l) (get_or l i 0)) (slice (suc i) b was)
     turned = rw (e, slice-cons i b was 0 h (omega arith), same-below base i l was k (omega arith))
 
-    pub merge-more : (m : ℕ) → r ≡ Upto m → t ≡ foldl add (slice base m is) (slice (i + 1) b was)
+    pub merge-more : (m : ℕ) → r ≡ Some m → t ≡ foldl add (slice base m is) (slice (i + 1) b was)
     merge-more m f = rw ((grew r m base l is (add (slice base n l) (get_or l i 0)) x f).holds, add-one) turned
 
-    pub merge-full : r ≡ Full → length is < base + length t
+    pub merge-full : r ≡ None → length is < base + length t
     merge-full f =
         rw turned
         (le_trans (too_long r base l is (add (slice base n l) (get_or l i 0)) x f)

@@ -1,4 +1,5 @@
 -- What one parent does to the list that grows, by its case, and one turn of the loop over the parents.
+use Rattle.std.specs.Prelude.{None, Some, Option}
 use mathlib.Core.Path.{◌≡◌, refl, sym, ◌∙◌}
 use mathlib.Core.Bool.{Bool, true, false, cond}
 use mathlib.Core.Logic.{inl, inr}
@@ -20,8 +21,6 @@ use Rattle.lists.proofs.Slots.{slot-under}
 use Rattle.lists.proofs.Once.{fold-grows, add-grows}
 use Rattle.columns.specs.EdgeSet.{from_to, cut}
 use Rattle.columns.proofs.Offsets.{cut-length, cut_at}
-use Rattle.run_renumber.specs.declared.Grown.{Grown}
-use Rattle.run_renumber.specs.declared.Grown.TheVariants.{Upto, Full}
 use Rattle.run_renumber.specs.NewLists.{add_parent, new_list}
 use Rattle.run_renumber.specs.Answers.{Grew, Exact}
 use Rattle.run_renumber.proofs.Growing.{grew, too_long}
@@ -72,7 +71,7 @@ module _ (offs : List ℕ) (t b : ℕ) (l : b ≡ get_or offs (t + 1) 0) (s base
 
 -- ── by cases ─────────────────────────────────────────────────────────────────────────────────
 
-module _ (K start kind : ℕ) (flags numbers offs : List ℕ) (s base end p : ℕ) (was is : List ℕ) (r : Grown) where
+module _ (K start kind : ℕ) (flags numbers offs : List ℕ) (s base end p : ℕ) (was is : List ℕ) (r : Option ℕ) where
   pub exact-before : Exact r base was is (add (slice base end was) p) → p < start
       → Exact r base was is (add_parent K start flags numbers kind (cut (take (s + 1) offs) (take base was)) (slice base end was) p)
   unfolding add_parent
@@ -137,16 +136,16 @@ module _ (K start : ℕ) (flags numbers : List ℕ) (kind : ℕ) (offs : List �
   pub list_done : b ≤ i → base ≤ n → n ≤ length l → Grew base was l n t
   list_done h a o = record { room = o; above = a; kept = k; holds = rw (e, slice-none i b ps h) }
 
-  module _ (h : i < b) (o : b ≤ length ps) (r : Grown) (is : List ℕ)
+  module _ (h : i < b) (o : b ≤ length ps) (r : Option ℕ) (is : List ℕ)
       (x : Exact r base l is (add_parent K start flags numbers kind (cut (take (s + 1) offs) (take base l)) (slice base n l) (get_or ps i 0))) where
     turned : t ≡ foldl (add_parent K start flags numbers kind (cut (take (s + 1) offs) (take base was))) (after K start flags numbers kind offs s base n l (get_or ps i 0)) (slice (suc i) b ps)
     turned = rw (e, slice-cons i b ps 0, k)
 
-    pub list-more : (m : ℕ) → r ≡ Upto m
+    pub list-more : (m : ℕ) → r ≡ Some m
         → t ≡ foldl (add_parent K start flags numbers kind (cut (take (s + 1) offs) (take base was))) (slice base m is) (slice (i + 1) b ps)
     list-more m f = rw ((grew r m base l is (after K start flags numbers kind offs s base n l (get_or ps i 0)) x f).holds, add-one i) turned
 
-    pub list_full : r ≡ Full → length is < base + length t
+    pub list_full : r ≡ None → length is < base + length t
     list_full f =
         rw turned
         (le_trans (too_long r base l is (after K start flags numbers kind offs s base n l (get_or ps i 0)) x f)

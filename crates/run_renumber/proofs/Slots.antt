@@ -1,4 +1,5 @@
 -- One slot more: the table after it, and one turn of the loop over the slots.
+use Rattle.std.specs.Prelude.{None, Some, Option}
 use mathlib.Core.Path.{◌≡◌, refl, sym, ◌∙◌, ap}
 use mathlib.Core.Bool.{true}
 use mathlib.Core.List.{List, [], ◌∷◌, ◌++◌, append-nil}
@@ -17,8 +18,6 @@ use Rattle.lists.proofs.Slots.{kind-some, kind-under}
 use Rattle.columns.specs.EdgeSet.{from_to, offsets_form, cut}
 use Rattle.columns.proofs.ReadBack.{cut-joined}
 use Rattle.columns.proofs.Offsets.{cut-length, cut_at}
-use Rattle.run_renumber.specs.declared.Grown.{Grown}
-use Rattle.run_renumber.specs.declared.Grown.TheVariants.{Upto, Full}
 use Rattle.run_renumber.specs.Numbers.{numbers_from}
 use Rattle.run_renumber.specs.NewLists.{new_list, new_lists_from, new_lists}
 use Rattle.run_renumber.specs.Answers.{Grew, Exact, Built, Result}
@@ -86,11 +85,11 @@ module _ (offs all : List ℕ) (s end : ℕ) (lists : List (List ℕ)) (b : Buil
   pub built-cut : cut (take (s + 1) offs) (take end all) ≡ lists
   built-cut = rw (b.begins, b.entries) (cut-joined lists)
 
-  module _ (r : Grown) (all' list : List ℕ) (x : Exact r end all all' list) where
-    pub slot-full : r ≡ Full → length all' < length (joined (lists ++ (list ∷ [])))
+  module _ (r : Option ℕ) (all' list : List ℕ) (x : Exact r end all all' list) where
+    pub slot-full : r ≡ None → length all' < length (joined (lists ++ (list ∷ [])))
     slot-full f = rw (joined_snoc lists list, length-append (joined lists) list, ← ends) (too_long r end all all' list x f)
 
-    module _ (m : ℕ) (f : r ≡ Upto m) (h : s + 1 < length offs) where
+    module _ (m : ℕ) (f : r ≡ Some m) (h : s + 1 < length offs) where
       g : Grew end all all' m list
       g = grew r m end all all' list x f
 
@@ -119,13 +118,13 @@ built-form K offs all s end lists b rows e =
 -- what the call for slot s left, under the slot's name
 module _ (K rows : ℕ) (offsets targets : List ℕ) (s : ℕ) (ok : offsets_form K rows (length targets) offsets ≡ true) (h : s < K * rows)
     (a b : ℕ) (e : a ≡ get_or offsets s 0) (f : b ≡ get_or offsets (s + 1) 0) (start : ℕ) (flags numbers offs all : List ℕ) (end : ℕ) (lists : List (List ℕ))
-    (table : Built offs all s end lists) (r : Grown) (all' : List ℕ) (x : Exact r end all all' (new_list K start flags numbers (s % K) lists (slice a b targets))) where
-  pub slot-put : (m : ℕ) → r ≡ Upto m → K * rows < length offs
+    (table : Built offs all s end lists) (r : Option ℕ) (all' : List ℕ) (x : Exact r end all all' (new_list K start flags numbers (s % K) lists (slice a b targets))) where
+  pub slot-put : (m : ℕ) → r ≡ Some m → K * rows < length offs
       → Built (set offs (s + 1) m) all' (s + 1) m (lists ++ (new_list K start flags numbers (s % K) lists (get_or (cut offsets targets) s []) ∷ []))
   slot-put m w k =
       rw (← read-slot K rows offsets targets s ok h a b e f) (slot_added offs all s end lists table r all' (new_list K start flags numbers (s % K) lists (slice a b targets)) x m w (omega arith))
 
-  pub slot-none : r ≡ Full → length all' < length (joined (lists ++ (new_list K start flags numbers (s % K) lists (get_or (cut offsets targets) s []) ∷ [])))
+  pub slot-none : r ≡ None → length all' < length (joined (lists ++ (new_list K start flags numbers (s % K) lists (get_or (cut offsets targets) s []) ∷ [])))
   slot-none w =
       rw (← read-slot K rows offsets targets s ok h a b e f) (slot-full offs all s end lists table r all' (new_list K start flags numbers (s % K) lists (slice a b targets)) x w)
 
@@ -171,7 +170,7 @@ module _ (K start : ℕ) (flags numbers : List ℕ) where
         let o : length (cut offsets targets) ≤ s = omega (arith, rows-length K rows offsets targets ok) in
         rw (← q, e, drop_of_length-le (cut offsets targets) o) b
 
-    module _ (h : s < K * rows) (r : Grown) (offs' all' : List ℕ)
+    module _ (h : s < K * rows) (r : Option ℕ) (offs' all' : List ℕ)
         (x : Result r offs' all' (s + 1) (cut (take (s + 1) offs) (take end all)
         ++ (new_list K start flags numbers (s % K) (cut (take (s + 1) offs) (take end all)) (get_or (cut offsets targets) s []) ∷ []))) where
       turned : t ≡ new_lists_from K start flags numbers (more K start flags numbers (cut (take (s + 1) offs) (take end all)) s (cut offsets targets)) (drop (suc s) (cut offsets targets))
@@ -179,12 +178,12 @@ module _ (K start : ℕ) (flags numbers : List ℕ) where
           e ∙ ap (new_lists_from K start flags numbers (cut (take (s + 1) offs) (take end all))) (drop-cons (cut offsets targets) s [] (rw (rows-length K rows offsets targets ok) h))
           ∙ one-slot (cut (take (s + 1) offs) (take end all)) s (get_or (cut offsets targets) s []) (drop (suc s) (cut offsets targets)) b.count
 
-      pub slots-full : r ≡ Full → length all' < length (joined t)
+      pub slots-full : r ≡ None → length all' < length (joined t)
       slots-full f =
           let w : length all' < length (joined (more K start flags numbers (cut (take (s + 1) offs) (take end all)) s (cut offsets targets))) = rw f at x in
           rw turned (le_trans w (lists-grow (more K start flags numbers (cut (take (s + 1) offs) (take end all)) s (cut offsets targets)) (drop (suc s) (cut offsets targets))))
 
-      module _ (m : ℕ) (f : r ≡ Upto m) where
+      module _ (m : ℕ) (f : r ≡ Some m) where
         built : Built offs' all' (s + 1) m (more K start flags numbers (cut (take (s + 1) offs) (take end all)) s (cut offsets targets))
         built = rw f at x
 
@@ -210,7 +209,7 @@ begins (x ∷ xs) all n h = record { count = refl; room = omega arith; filled = 
 pub same_after : (x y : List ℕ) (i v : ℕ) → length x ≡ length (set y i v) → length x ≡ length y
 same_after x y i v e = e ∙ simp length-set
 
-pub lists_named : (K : ℕ) (r : Grown) (offs all : List ℕ) (s start : ℕ) (flags numbers : List ℕ) (slots : List (List ℕ))
+pub lists_named : (K : ℕ) (r : Option ℕ) (offs all : List ℕ) (s start : ℕ) (flags numbers : List ℕ) (slots : List (List ℕ))
     → Result r offs all s (new_lists_from K start flags numbers [] slots) → numbers ≡ numbers_from start flags → Result r offs all s (new_lists K start flags slots)
 unfolding new_lists
 lists_named K r offs all s start flags numbers slots k e = rw e at k

@@ -17,25 +17,18 @@ use arrays::index;
 use arrays::searching::among;
 use columns::kind::KINDS;
 
-// How far a column is filled, or that it has no room for what belongs there.
-#[derive(Clone, Copy)]
-pub enum Grown {
-    Upto(usize),
-    Full,
-}
-
 // The flag at a place, 0 past the end.
 fn flag_at(flags: &[u8], i: usize) -> u8
     ensures { result ≡ get_or flags.now i 0 }
 {
-    if i < flags.len() { flags[i] } else { 0 }
+    flags.get(i).copied().unwrap_or(0)
 }
 
 // The number at a place, 0 past the end.
 fn number_at(numbers: &[u64], i: usize) -> u64
     ensures { result ≡ get_or numbers.now i 0 }
 {
-    if i < numbers.len() { numbers[i] } else { 0 }
+    numbers.get(i).copied().unwrap_or(0)
 }
 
 fn takes_one(flag: u8) -> usize
@@ -50,51 +43,39 @@ pub fn put_numbers(numbers: &mut [u64], flags: &[u8], start: u64) -> usize
     ensures { (numbers.new ≡ sets numbers.old 0 (numbers_from start flags.now)) × (result ≡ survivors flags.now) }
 {
     let mut n: usize = 0;
-    let mut i: usize = 0;
-    while i < flags.len() {
+    for i in 0..flags.len() {
         numbers[i] = start + n as u64;
         n += takes_one(flags[i]);
-        i += 1;
     }
     n
 }
 
 // x after all[base..end], unless it stands there. It is looked for before room is, so that a full column still takes a repeat.
-fn push(all: &mut [u64], base: usize, end: usize, x: u64) -> Grown
+fn push(all: &mut [u64], base: usize, end: usize, x: u64) -> Option<usize>
     requires { (base ≤ end) × (end ≤ length all.old) }
     ensures { Exact result base all.old all.new (add (slice base end all.old) x) }
 {
     if among(all, base, end, x) {
-        return Grown::Upto(end);
+        return Some(end);
     }
     if end < all.len() {
         all[end] = x;
-        return Grown::Upto(end + 1);
+        return Some(end + 1);
     }
-    Grown::Full
+    None
 }
 
 // Each of all[a..b], which lies below base, after all[base..end].
-fn merge(all: &mut [u64], base: usize, end: usize, a: usize, b: usize) -> Grown
+fn merge(all: &mut [u64], base: usize, end: usize, a: usize, b: usize) -> Option<usize>
     requires { (a ≤ b) × ((b ≤ base) × ((base ≤ end) × (end ≤ length all.old))) }
     ensures { Exact result base all.old all.new (foldl add (slice base end all.old) (slice a b all.old)) }
 {
     let mut n = end;
-    let mut i = a;
-    while i < b {
+    for i in a..b {
         let x = all[i];
-        let g = push(all, base, n, x);
-        match g {
-            Grown::Upto(m) => {
-                n = m;
-                i += 1;
-            }
-            Grown::Full => {
-                return Grown::Full;
-            }
-        }
+        n = push(all, base, n, x)?;
     }
-    Grown::Upto(n)
+    Some(n)
 }
 
 // A parent of a kind more. The first s lists, which offs starts, fill all[..base], and the list that grows is all[base..end].
@@ -109,7 +90,7 @@ fn add_parent(
     base: usize,
     end: usize,
     p: u64,
-) -> Grown
+) -> Option<usize>
     requires base_le_end { (base ≤ end) × (end ≤ length all.old) }
     requires kind_lt_kinds { (kind < kinds) × ((s < length offs.now) × (kinds * length flags.now < length offs.now)) }
     requires offs_value { from_to 0 base (take (s + 1) offs.now) ≡ true }
@@ -125,7 +106,7 @@ fn add_parent(
     }
     let t = KINDS * q + kind;
     if s <= t {
-        return Grown::Upto(end);
+        return Some(end);
     }
     let a = index(offs[t]);
     let b = index(offs[t + 1]);
@@ -145,7 +126,7 @@ fn new_list(
     parents: &[u64],
     a: usize,
     b: usize,
-) -> Grown
+) -> Option<usize>
     requires base_in_bounds { (base ≤ length all.old) × ((a ≤ b) × (b ≤ length parents.now)) }
     requires kind_lt_kinds { (kind < kinds) × ((s < length offs.now) × (kinds * length flags.now < length offs.now)) }
     requires offs_value { from_to 0 base (take (s + 1) offs.now) ≡ true }
@@ -153,22 +134,12 @@ fn new_list(
         (new_list kinds start flags.now numbers.now kind (cut (take (s + 1) offs.now) (take base all.old)) (slice a b parents.now)) }
 {
     let mut n = base;
-    let mut i = a;
-    while i < b {
-        let g = add_parent(
+    for i in a..b {
+        n = add_parent(
             start, flags, numbers, kind, offs, s, all, base, n, parents[i],
-        );
-        match g {
-            Grown::Upto(m) => {
-                n = m;
-                i += 1;
-            }
-            Grown::Full => {
-                return Grown::Full;
-            }
-        }
+        )?;
     }
-    Grown::Upto(n)
+    Some(n)
 }
 
 // The new list of slot s, behind those before it.
@@ -182,7 +153,7 @@ fn add_slot(
     all: &mut [u64],
     s: usize,
     end: usize,
-) -> Grown
+) -> Option<usize>
     requires offsets_value { offsets_form kinds (length flags.now) (length targets.now) offsets.now ≡ true }
     requires s_bound { (s < kinds * length flags.now) × ((kinds * length flags.now < length offs.old) × (length offsets.now ≡ kinds * length flags.now + 1)) }
     requires built { Built offs.old all.old s end (cut (take (s + 1) offs.old) (take end all.old)) }
@@ -193,7 +164,7 @@ fn add_slot(
 {
     let a = index(offsets[s]);
     let b = index(offsets[s + 1]);
-    let g = new_list(
+    let m = new_list(
         start,
         flags,
         numbers,
@@ -205,14 +176,9 @@ fn add_slot(
         targets,
         a,
         b,
-    );
-    match g {
-        Grown::Upto(m) => {
-            offs[s + 1] = m as u64;
-            Grown::Upto(m)
-        }
-        Grown::Full => Grown::Full,
-    }
+    )?;
+    offs[s + 1] = m as u64;
+    Some(m)
 }
 
 // The new lists of all slots, behind none.
@@ -224,7 +190,7 @@ fn add_slots(
     targets: &[u64],
     offs: &mut [u64],
     all: &mut [u64],
-) -> Grown
+) -> Option<usize>
     requires offsets_value { offsets_form kinds (length flags.now) (length targets.now) offsets.now ≡ true }
     requires flags_in_bounds { kinds * length flags.now < length offs.old }
     requires built { Built offs.old all.old 0 0 [] }
@@ -233,20 +199,10 @@ fn add_slots(
 {
     let slots = KINDS * flags.len();
     let mut end: usize = 0;
-    let mut s: usize = 0;
-    while s < slots {
-        let g = add_slot(start, flags, numbers, offsets, targets, offs, all, s, end);
-        match g {
-            Grown::Upto(m) => {
-                end = m;
-                s += 1;
-            }
-            Grown::Full => {
-                return Grown::Full;
-            }
-        }
+    for s in 0..slots {
+        end = add_slot(start, flags, numbers, offsets, targets, offs, all, s, end)?;
     }
-    Grown::Upto(end)
+    Some(end)
 }
 
 // The new lists of all slots: where each starts into offs, their entries into all.
@@ -258,7 +214,7 @@ pub fn put_lists(
     targets: &[u64],
     offs: &mut [u64],
     all: &mut [u64],
-) -> Grown
+) -> Option<usize>
     requires offsets_value { offsets_form kinds (length flags.now) (length targets.now) offsets.now ≡ true }
     requires flags_in_bounds { (kinds * length flags.now < length offs.old) × (length flags.now ≤ length numbers.now) }
     requires numbers_value { take (length flags.now) numbers.now ≡ numbers_from start flags.now }
@@ -286,12 +242,10 @@ fn names_erased(start: u64, flags: &[u8], targets: &[u64], a: usize, b: usize) -
     requires { (a ≤ b) × (b ≤ length targets.now) }
     ensures { result ≡ any (is_erased start flags.now) (slice a b targets.now) }
 {
-    let mut i = a;
-    while i < b {
+    for i in a..b {
         if is_erased(start, flags, targets[i]) {
             return true;
         }
-        i += 1;
     }
     false
 }
@@ -317,12 +271,10 @@ pub fn count_reparented(start: u64, flags: &[u8], offsets: &[u64], targets: &[u6
     ensures { result ≡ reparented kinds start flags.now (cut offsets.now targets.now) }
 {
     let mut n: usize = 0;
-    let mut i: usize = 0;
-    while i < flags.len() {
+    for i in 0..flags.len() {
         if is_reparented(start, flags, offsets, targets, i) {
             n += 1;
         }
-        i += 1;
     }
     n
 }

@@ -1,4 +1,5 @@
 -- What an old number is mapped to, by the flags of a run's rows and their new numbers.
+use Rattle.std.specs.Prelude.{None, Some, Option}
 use mathlib.Core.Path.{◌≡◌, refl, sym, ap, ◌∙◌}
 use mathlib.Core.Bool.{Bool, true, false, cond, not}
 use mathlib.Core.List.{List}
@@ -25,8 +26,6 @@ use Rattle.run_state.specs.order.Ordered.{ordered}
 use Rattle.run_state.specs.order.Long.{LongHeld}
 use Rattle.run_state.proofs.order.TidySheets.{neat-held}
 use Rattle.run_resolve.proofs.sheet.Asking.{few-held}
-use Rattle.run_resolve.specs.declared.asked.Mapped.{Mapped}
-use Rattle.run_resolve.specs.declared.asked.Mapped.TheVariants.{To, Nothing}
 use Rattle.run_resolve.specs.Outcome.{archive_in, flags_in}
 use Rattle.run_resolve.specs.Map.{row_number, mapped_of}
 use Rattle.run_resolve.proofs.SurvivorColumns.{flags-count, numbers-end}
@@ -34,14 +33,14 @@ use Rattle.run_resolve.proofs.SurvivorColumns.{flags-count, numbers-end}
 -- ── a row ────────────────────────────────────────────────────────────────────────────────────
 
 module _ (start : ℕ) (flags : List ℕ) (i : ℕ) where
-  pub row-erased : (get_or flags i 0 ≡ 0 → ⊥) → Nothing ≡ mapped_of (row_number start flags i)
+  pub row-erased : (get_or flags i 0 ≡ 0 → ⊥) → None ≡ mapped_of (row_number start flags i)
   unfolding mapped_of row_number
   row-erased f = rw (ne_eqb (get_or flags i 0) 0 f)
 
   pub row_kept : get_or flags i 0 ≡ 0 → i < length flags → (numbers : List ℕ) → take (length flags) numbers ≡ numbers_from start flags
-      → To (get_or numbers i 0) ≡ mapped_of (row_number start flags i)
+      → Some (get_or numbers i 0) ≡ mapped_of (row_number start flags i)
   unfolding mapped_of row_number
-  row_kept f l numbers e = rw (eq-eqb (get_or flags i 0) 0 f) (ap To (sym (get_or-take (length flags) numbers i 0 l) ∙ ap (λ ns. get_or ns i 0) e))
+  row_kept f l numbers e = rw (eq-eqb (get_or flags i 0) 0 f) (ap Some (sym (get_or-take (length flags) numbers i 0 l) ∙ ap (λ ns. get_or ns i 0) e))
 
 -- ── an archive with given columns ────────────────────────────────────────────────────────────
 
@@ -85,16 +84,16 @@ module _ (h : Held) (ok : held_ok h ≡ true) (o : ordered h.sheet ≡ true) (lo
   columns = held-columns kinds kinds-served (held_in h) (neat-held h long ok o).rows (flags_in h) refl
 
   module _ (old : ℕ) where
-    pub mapped-before : old < h.sheet.start → Nothing ≡ mapped_of (mapped (archive_in h) old)
+    pub mapped-before : old < h.sheet.start → None ≡ mapped_of (mapped (archive_in h) old)
     unfolding mapped_of archive_held held_in sheet_in
     mapped-before k = sym (ap mapped_of (maps-before (archive_in h) (flags_in h) slots columns old k))
 
     module _ (k : h.sheet.start ≤ old) (i : ℕ) (e : i ≡ old - h.sheet.start) where
-      pub mapped-past : h.sheet.rows.count ≤ i → Nothing ≡ mapped_of (mapped (archive_in h) old)
+      pub mapped-past : h.sheet.rows.count ≤ i → None ≡ mapped_of (mapped (archive_in h) old)
       unfolding mapped_of archive_held held_in sheet_in
       mapped-past p = sym (ap mapped_of (maps-past (archive_in h) (flags_in h) slots columns old k (omega (arith, e, flags-count h ok o long))))
 
-      pub mapped-row : i < h.sheet.rows.count → {r : Mapped} → r ≡ mapped_of (row_number h.sheet.start (flags_in h) i)
+      pub mapped-row : i < h.sheet.rows.count → {r : Option ℕ} → r ≡ mapped_of (row_number h.sheet.start (flags_in h) i)
           → r ≡ mapped_of (mapped (archive_in h) old)
       unfolding archive_held held_in sheet_in
       mapped-row p f =

@@ -1,11 +1,12 @@
 -- The columns of the survivors stand for the survivors' sheet and are valid and in order, with lists that name each parent once.
+use Rattle.std.specs.Prelude.{None, Some}
 use mathlib.Core.Path.{◌≡◌, refl, sym, ap, subst, ◌∙◌}
 use mathlib.Core.Bool.{Bool, true, not}
 use mathlib.Core.List.{List, [], ◌∷◌, map}
 use mathlib.Core.Option.{none}
-use Prim.Native.Nat.{ℕ, ◌+◌, ◌-◌, ◌^◌, ◌≤◌}
+use Prim.Native.Nat.{ℕ, ◌+◌, ◌-◌, ◌^◌, ◌≤◌, ◌<◌}
 use native.Mathlib.Omega.{arith}
-use lib.Dec.{eqb, leb, ltb}
+use lib.Dec.{eqb, leb}
 use lib.ListN.{length, get_or, take, length-map}
 use lib.Seq.{length-take-le}
 use borrow.Author.Tests.{le-leb, lt-ltb}
@@ -30,12 +31,12 @@ use Rattle.run_state.specs.order.Ordered.{ordered}
 use Rattle.run_state.specs.order.Long.{LongSheet, LongHeld}
 use Rattle.run_state.proofs.order.Turns.{rows_few}
 use Rattle.run_state.proofs.order.TidySheets.{column-listed, counts, ordered_sheet, filled_sheet, neat-held}
-use Rattle.run_resolve.specs.declared.parents.Renewed.{Renewed}
 use Rattle.run_resolve.specs.parents.Renewal.{EdgesKept, Renewal}
 use Rattle.run_resolve.specs.survivor_sheet.Survive.{SheetKept}
 use Rattle.run_resolve.proofs.survivor_sheet.SheetParts.{part-rows, part-unresolved, part-roots, part-groups, flags-end}
 use Rattle.run_resolve.proofs.survivor_sheet.SurvivorLaw.{sheet-survives}
 use Rattle.run_resolve.proofs.records.NewRecords.{filter-few}
+use Rattle.std.specs.declared.option.Option as rust
 use Rattle.run_resolve.specs.Outcome.{flags_in, new_in, ListsRenewed, SurvivorsIn}
 use Rattle.run_resolve.proofs.SlotOrder.{survivors-earlier}
 
@@ -72,15 +73,17 @@ module _ (h : Held) (ok : held_ok h ≡ true) (o : ordered h.sheet ≡ true) (lo
   numbers-end = rw flags-count at (flags-end h.sheet sheet-ok (flags_in h) flags-count)
 
   -- the new lists of the columns are those of the archive
-  pub lists-renewed : (q : Renewed)
+  pub lists-renewed : (q : rust.Option Edges)
       → Renewal (flags_in h) (new_lists kinds h.sheet.start (flags_in h) (slots_in h.sheet.rows.count h.sheet.edges)) q → ListsRenewed h q
   unfolding held_in sheet_in new_in
-  lists-renewed q k =
+  lists-renewed (Some q) k =
       let v = neat-valid kinds kinds-served (held_in h) neat in
       record {
-        over = k.over ∙ ap (ltb max_numbers) (held-entries kinds kinds-served (held_in h) neat.rows (flags_in h) refl v);
-        kept = λ f. subst (λ ls. EdgesKept (flags_in h) ls q.edges) (held-lists kinds kinds-served (held_in h) neat.rows (flags_in h) refl v) (k.kept f);
+        within = subst (λ n. n ≤ max_numbers) (held-entries kinds kinds-served (held_in h) neat.rows (flags_in h) refl v) k.within;
+        kept = subst (λ ls. EdgesKept (flags_in h) ls q) (held-lists kinds kinds-served (held_in h) neat.rows (flags_in h) refl v) k.kept;
       }
+  lists-renewed None k =
+      subst (λ n. max_numbers < n) (held-entries kinds kinds-served (held_in h) neat.rows (flags_in h) refl (neat-valid kinds kinds-served (held_in h) neat)) k
 
   -- ── the columns of the survivors ───────────────────────────────────────────────────────────
 

@@ -14,19 +14,11 @@ ghost use Rattle.run_state.specs.order.Ordered.{ordered};
 ghost use Rattle.run_resolve.specs.parents.Renewal.{EdgesKept};
 ghost use Rattle.run_resolve.specs.Outcome.{flags_in, new_in, ListsRenewed, SurvivorsIn, ResolvedBy};
 
-use crate::parents::Renewed;
-use columns::refusal::{Refusal, Ruling};
+use columns::refusal::Refusal;
 use run_state::{Edges, Held, Sheet};
 
-// The sheet of the survivors where no rule is broken; otherwise the sheet as it was.
-#[derive(Clone, Copy)]
-pub struct Resolution {
-    pub sheet: Sheet,
-    pub ruling: Ruling,
-}
-
 // The new lists of the survivors, unless those of all rows are over the limit.
-fn new_lists(h: Held) -> Renewed
+fn new_lists(h: Held) -> Option<Edges>
     requires { (held_ok h ≡ true) × (ordered h.sheet ≡ true) }
     ensures { ListsRenewed h result }
 {
@@ -51,35 +43,20 @@ fn survivors(h: Held, e: Edges) -> Sheet
     s
 }
 
-// A resolving that is refused.
-fn refused(h: Held, x: Refusal) -> Resolution
-    ensures { result.ruling ≡ Ruling.Broken x }
-{
-    let s = h.sheet;
-    Resolution {
-        sheet: s,
-        ruling: Ruling::Broken(x),
-    }
-}
-
-// The survivors of a run: 24 where it has no source, 43 where all new lists are over the limit, 27 where a group has no survivor.
-pub fn resolve(h: Held) -> Resolution
+// The sheet of the survivors of a run: 24 where it has no source, 43 where all new lists are over the limit, 27 where a group has no survivor.
+pub fn resolve(h: Held) -> Result<Sheet, Refusal>
     requires { (held_ok h ≡ true) × (ordered h.sheet ≡ true) }
     ensures { ResolvedBy h result }
 {
     if h.sheet.groups.count == 0 {
-        return refused(h, Refusal::GroupOrder);
+        return Err(Refusal::GroupOrder);
     }
-    let q = new_lists(h);
-    if q.over {
-        return refused(h, Refusal::OverNumbers);
-    }
-    let s = survivors(h, q.edges);
+    let Some(e) = new_lists(h) else {
+        return Err(Refusal::OverNumbers);
+    };
+    let s = survivors(h, e);
     if !run_state::order::is_filled(s) {
-        return refused(h, Refusal::NoSurvivor);
+        return Err(Refusal::NoSurvivor);
     }
-    Resolution {
-        sheet: s,
-        ruling: Ruling::Kept,
-    }
+    Ok(s)
 }

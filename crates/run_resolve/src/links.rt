@@ -27,14 +27,12 @@ fn end_of(groups: &[u8], i: usize, n: usize, g: u8) -> usize
     requires groups_value { level_above g (slice i n groups.now) ≡ true }
     ensures { (i ≤ result) × ((result ≤ n) × ((all (eqb g) (slice i result groups.now) ≡ true) × (level_above (g + 1) (slice result n groups.now) ≡ true))) }
 {
-    let mut p = i;
-    while p < n {
+    for p in i..n {
         if groups[p] != g {
             return p;
         }
-        p += 1;
     }
-    p
+    n
 }
 
 // The number of a group m times behind the first `end` of a column.
@@ -42,13 +40,7 @@ fn fill(all: &mut [u8], end: usize, g: u8, m: usize)
     requires { (end + m ≤ 1024) × (length all.old ≡ 1024) }
     ensures { Appended end m all.old all.new (replicate m g) }
 {
-    let mut n = end;
-    let mut i: usize = 0;
-    while i < m {
-        all[n] = g;
-        n += 1;
-        i += 1;
-    }
+    all[end..end + m].fill(g);
 }
 
 // Links sorted, repeats dropped, behind the first k links of four columns; answers how many they are.
@@ -155,13 +147,11 @@ pub fn sort_into(
 {
     let mut k: usize = 0;
     let mut i: usize = 0;
-    let mut g: usize = 0;
-    while g < count {
+    for g in 0..count {
         let t = byte(g);
         let j = end_of(groups, i, n, t);
         k = add_group(a, b, c, d, i, j, t, k, out, x, y, z, w);
         i = j;
-        g += 1;
     }
     k
 }
@@ -189,7 +179,7 @@ pub fn sort_groups(l: Links, count: usize) -> Links
     Links {
         count: n,
         groups: out,
-        from: from,
-        to: to,
+        from,
+        to,
     }
 }

@@ -9,15 +9,7 @@ ghost use Rattle.run_state.specs.Valid.{edges_ok};
 ghost use Rattle.run_state.specs.ByColumns.{edges_of};
 ghost use Rattle.run_resolve.specs.parents.Renewal.{EdgesKept, Renewal, renewed_of};
 
-use run_renumber::Grown;
 use run_state::Edges;
-
-// Lists, or that they hold more numbers than there is room for: then there are none.
-#[derive(Clone, Copy)]
-pub struct Renewed {
-    pub edges: Edges,
-    pub over: bool,
-}
 
 // The new lists of n rows, by their flags and the m numbers of their lists.
 fn put_all(
@@ -29,7 +21,7 @@ fn put_all(
     targets: &[u64],
     offs: &mut [u64; 2049],
     all: &mut [u64; 4096],
-) -> Grown
+) -> Option<usize>
     requires n_bound { (n ≤ 1024) × ((length flags.now ≡ 1024) × (start + n ≤ 2 ^ 64 - 1)) }
     requires m_bound { (m ≤ 4096) × ((length offsets.now ≡ 2049) × (length targets.now ≡ 4096)) }
     requires offsets_value { offsets_form kinds n m (take (2 * n + 1) offsets.now) ≡ true }
@@ -79,24 +71,19 @@ pub fn renew(
     targets: &mut [u64; 4096],
     offs: &mut [u64; 2049],
     all: &mut [u64; 4096],
-) -> Grown
+) -> Option<usize>
     requires n_bound { (n ≤ 1024) × ((length flags.now ≡ 1024) × (start + n ≤ 2 ^ 64 - 1)) }
     requires targets_value { edges_ok n (edges_of count offsets.old targets.old) ≡ true }
     ensures { Renewal (take n flags.now) (new_lists kinds start (take n flags.now)
         (slots_in n (edges_of count offsets.old targets.old))) (renewed_of result offsets.new targets.new) }
 {
-    let g = put_all(start, n, count, flags, offsets, targets, offs, all);
-    match g {
-        Grown::Upto(m) => {
-            let k = keep_all(n, m, flags, offs, all, offsets, targets);
-            Grown::Upto(k)
-        }
-        Grown::Full => Grown::Full,
-    }
+    let m = put_all(start, n, count, flags, offsets, targets, offs, all)?;
+    let k = keep_all(n, m, flags, offs, all, offsets, targets);
+    Some(k)
 }
 
-// The new lists of the rows that survive, of n rows.
-pub fn new_edges(start: u64, n: usize, flags: &[u8], e: Edges) -> Renewed
+// The new lists of the rows that survive, of n rows, unless those of all rows hold more numbers than there is room for.
+pub fn new_edges(start: u64, n: usize, flags: &[u8], e: Edges) -> Option<Edges>
     requires n_bound { (n ≤ 1024) × ((length flags.now ≡ 1024) × (start + n ≤ 2 ^ 64 - 1)) }
     requires e_value { edges_ok n e ≡ true }
     ensures { Renewal (take n flags.now) (new_lists kinds start (take n flags.now) (slots_in n e)) result }
@@ -105,7 +92,7 @@ pub fn new_edges(start: u64, n: usize, flags: &[u8], e: Edges) -> Renewed
     let mut targets = e.targets;
     let mut offs = [0u64; 2049];
     let mut all = [0u64; 4096];
-    let g = renew(
+    let m = renew(
         start,
         n,
         e.count,
@@ -114,23 +101,10 @@ pub fn new_edges(start: u64, n: usize, flags: &[u8], e: Edges) -> Renewed
         &mut targets,
         &mut offs,
         &mut all,
-    );
-    match g {
-        Grown::Upto(m) => Renewed {
-            edges: Edges {
-                count: m,
-                offsets: offsets,
-                targets: targets,
-            },
-            over: false,
-        },
-        Grown::Full => Renewed {
-            edges: Edges {
-                count: 0,
-                offsets: offsets,
-                targets: targets,
-            },
-            over: true,
-        },
-    }
+    )?;
+    Some(Edges {
+        count: m,
+        offsets,
+        targets,
+    })
 }

@@ -28,7 +28,6 @@ pub fn renew_unresolved(
     if count == 0 {
         return 0;
     }
-    run_compact::long::long64(children);
     let numbers = crate::sheet::renewed::new_numbers(flags, start);
     let n = crate::sheet::kept::keep_unresolved(children, kinds, handles, count, flags, start);
     run_compact::following::move_rows(children, n, &numbers, start, 0);
@@ -55,9 +54,9 @@ pub fn new_unresolved(u: Unresolved, flags: &[u8], start: u64) -> Unresolved
     );
     Unresolved {
         count: n,
-        children: children,
-        kinds: kinds,
-        handles: handles,
+        children,
+        kinds,
+        handles,
     }
 }
 
@@ -78,7 +77,6 @@ pub fn renew_roots(
     if count == 0 {
         return 0;
     }
-    run_compact::long::long64(rows);
     let numbers = crate::sheet::renewed::new_numbers(flags, start);
     let n = crate::sheet::kept::keep_roots(rows, handles, count, flags);
     run_compact::following::move_rows(rows, n, &numbers, 0, start);
@@ -97,7 +95,7 @@ pub fn new_roots(r: Roots, flags: &[u8], start: u64) -> Roots
     let n = renew_roots(&mut rows, &mut handles, r.count, flags, start);
     Roots {
         count: n,
-        rows: rows,
-        handles: handles,
+        rows,
+        handles,
     }
 }

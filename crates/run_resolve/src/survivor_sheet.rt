@@ -20,12 +20,12 @@ pub fn kept_sheet(s: Sheet, flags: &[u8], e: Edges) -> Sheet
     let groups = s.groups;
     Sheet {
         start: s.start,
-        subject: subject,
-        groups: groups,
-        rows: rows,
+        subject,
+        groups,
+        rows,
         edges: e,
-        unresolved: unresolved,
-        roots: roots,
-        links: links,
+        unresolved,
+        roots,
+        links,
     }
 }

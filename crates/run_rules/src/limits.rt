@@ -4,7 +4,7 @@ ghost use Rattle.columns.specs.Answers.{ruling};
 ghost use Rattle.run_rules.specs.limits.Figures.{figures, many_records, many_numbers, limit_rules};
 
 use archive_read::files::Totals;
-use columns::refusal::{Refusal, Ruling};
+use columns::refusal::Refusal;
 use run_state::Held;
 
 // Whether so many, and so many more, are over a limit.
@@ -71,18 +71,18 @@ fn many_numbers(a: Totals, b: Totals) -> bool
 }
 
 // 23 of references, which a run does not carry, then 42, then 43, by the figures of what is held, which itself is not read.
-pub fn limit_rules(h: Held, a: Totals, t: Totals, groups: bool) -> Ruling
+pub fn limit_rules(h: Held, a: Totals, t: Totals, groups: bool) -> Result<(), Refusal>
     requires { a ≡ figures h }
     ensures { result ≡ ruling (limit_rules h t groups) }
 {
     if 0 < t.references {
-        return Ruling::Broken(Refusal::RecordBroken);
+        return Err(Refusal::RecordBroken);
     }
     if many_records(a, t, groups) {
-        return Ruling::Broken(Refusal::OverRecords);
+        return Err(Refusal::OverRecords);
     }
     if many_numbers(a, t) {
-        return Ruling::Broken(Refusal::OverNumbers);
+        return Err(Refusal::OverNumbers);
     }
-    Ruling::Kept
+    Ok(())
 }

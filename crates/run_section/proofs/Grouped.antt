@@ -1,4 +1,5 @@
 -- One group measured: its rules are building's, the length is that of its file.
+use Rattle.std.specs.Prelude.{Ok, Result}
 use mathlib.Core.Path.{◌≡◌, sym, ap, ◌∙◌}
 use mathlib.Core.Bool.{true, cond}
 use mathlib.Core.List.{List, []}
@@ -8,7 +9,7 @@ use lib.ListN.{length, drop}
 use Rattle.columns.specs.Limits.{kinds, max_subject}
 use Rattle.columns.specs.Building.{build_rules}
 use Rattle.columns.specs.Answers.{ruling}
-use Rattle.columns.specs.declared.refusal.Ruling.TheVariants.{Kept}
+use Rattle.columns.specs.declared.refusal.Refusal.{Refusal}
 use Rattle.archive.specs.Encode.{file_bytes}
 use Rattle.archive.proofs.Back.{length-several}
 use Rattle.cleaning.specs.Sheet.{Sheet}
@@ -19,7 +20,6 @@ use Rattle.run_section.specs.declared.Counts.{Counts}
 use Rattle.run_section.specs.declared.Section.{Section}
 use Rattle.run_section.specs.declared.facts.Facts.{Facts}
 use Rattle.run_section.specs.declared.covers.Covers.{Covers}
-use Rattle.run_section.specs.declared.measures.Measured.{Measured}
 use Rattle.run_section.specs.Tables.{sheet_of}
 use Rattle.run_section.specs.Sections.{SectionAt}
 use Rattle.run_section.specs.Facts.{FactsAt}
@@ -27,7 +27,7 @@ use Rattle.run_section.specs.Rules.{Lists}
 use Rattle.run_section.specs.Ready.{Ready, Children}
 use Rattle.run_section.specs.Covers.{CoversCounted, ranges_at, labels_at, labels_from, label_here, start_at, rows_at}
 use Rattle.run_section.specs.Files.{many}
-use Rattle.run_section.specs.Measures.{Inside, faults_at, size_by, SectionMeasured, MeasuredGroup}
+use Rattle.run_section.specs.Measures.{Inside, faults_at, size_by, ruled, SectionMeasured, MeasuredGroup}
 use Rattle.run_section.proofs.Sectioned.{rules-are}
 use Rattle.run_section.proofs.Filed.{file-is}
 use Rattle.run_section.proofs.Measured.{file-length}
@@ -86,14 +86,14 @@ module _ (z : Counts) (subject : List ℕ) (groups : Groups) (rows unresolved ro
               labels-section z subject groups rows unresolved roots links offsets targets ready.sorted.by_group g ∙ ap (λ b. cond b (labels_at z rows g) []) h in
               ap length labels ∙ length-several 4 label_here (rows_at z rows g) (drop (start_at z rows g * 4) rows) ∙ rw (e, ← at.rows_span.from_is, ← at.rows_span.to_is)
 
-          module _ (m : Measured) (measured : SectionMeasured z (length subject) f.known f.rises (f.to - f.from) s unresolved offsets targets starts kids m) where
-            rules-told : m.ruling ≡ ruling (build_rules kinds (section_graph kinds S g))
+          module _ (m : Result ℕ Refusal) (measured : SectionMeasured z (length subject) f.known f.rises (f.to - f.from) s unresolved offsets targets starts kids m) where
+            rules-told : ruled m ≡ ruling (build_rules kinds (section_graph kinds S g))
             unfolding faults_at
             rules-told =
                 measured.rules ∙ ap ruling (sym (rules-are z subject groups rows unresolved roots links offsets targets g s at ready there children facts.known_is
                 (facts.rises_is ∙ counted.rises_where g there ∙ sym (rises-section z subject groups rows unresolved roots links offsets targets ready.sorted.by_group g))))
 
-            size-told : m.ruling ≡ Kept → m.length ≡ length (file_bytes (section_file kinds S g))
+            size-told : {n : ℕ} → m ≡ Ok n → n ≡ length (file_bytes (section_file kinds S g))
             unfolding size_by facts_at
             size-told k =
                 let lists = both-lists children in
@@ -104,4 +104,4 @@ module _ (z : Counts) (subject : List ℕ) (groups : Groups) (rows unresolved ro
                 (λ h. ap length (ranges-section z subject groups rows unresolved roots links offsets targets ready.sorted.by_group g) ∙ sym ranges-are)))
 
             pub group-measured : MeasuredGroup S g m
-            group-measured = record { rules = rules-told; length_is = λ n. size-told (rules-told ∙ ap ruling n); few = measured.few }
+            group-measured = record { rules = rules-told; length_is = size-told; few = measured.few }

@@ -1,4 +1,5 @@
 -- The tests of one group, and the first rule that they break.
+use Rattle.std.specs.Prelude.{Err, Ok, Result}
 use mathlib.Core.Path.{◌≡◌}
 use mathlib.Core.Bool.{Bool, true, false, ◌&&◌, not}
 use mathlib.Core.List.{List}
@@ -14,9 +15,8 @@ use Rattle.columns.specs.EdgeSet.{cut}
 use Rattle.columns.specs.Refusal.{first_of}
 use Rattle.columns.specs.Building.{depth_ok, deltas_fit}
 use Rattle.columns.specs.Answers.{ruling}
+use Rattle.columns.specs.declared.refusal.Refusal.{Refusal}
 use Rattle.columns.specs.declared.refusal.Refusal.TheVariants.{SubjectLength, UnresolvedKind, DepthOrder, SeqNotRising, DeltaRange}
-use Rattle.columns.specs.declared.refusal.Ruling.{Ruling}
-use Rattle.columns.specs.declared.refusal.Ruling.TheVariants.{Kept, Broken}
 use Rattle.archive_bytes.specs.Bytes.{several}
 use Rattle.archive_bytes.proofs.Several.{several-none, several-cons}
 use Rattle.run_section.specs.declared.rules.Known.{Known}
@@ -67,35 +67,35 @@ module _ (start rows a n : ℕ) (offsets targets starts kids : List ℕ) {x : Bo
 -- ── the first rule ───────────────────────────────────────────────────────────────────────────
 
 module _ (named kinds depth seqs spans : Bool) where
-  pub no-subject : not named ≡ true → Broken SubjectLength ≡ ruling (faults named kinds depth seqs spans)
+  pub no-subject : not named ≡ true → Err SubjectLength ≡ ruling (faults named kinds depth seqs spans)
   unfolding faults first_of
   no-subject a = rw (not-true named a)
 
   module _ (a : not named ≡ false) where
-    pub no_kind : not kinds ≡ true → Broken UnresolvedKind ≡ ruling (faults named kinds depth seqs spans)
+    pub no_kind : not kinds ≡ true → Err UnresolvedKind ≡ ruling (faults named kinds depth seqs spans)
     unfolding faults first_of
     no_kind b = rw (not-false named a, not-true kinds b)
 
     module _ (b : not kinds ≡ false) where
-      pub no-depth : not depth ≡ true → Broken DepthOrder ≡ ruling (faults named kinds depth seqs spans)
+      pub no-depth : not depth ≡ true → Err DepthOrder ≡ ruling (faults named kinds depth seqs spans)
       unfolding faults first_of
       no-depth c = rw (not-false named a, not-false kinds b, not-true depth c)
 
       module _ (c : not depth ≡ false) where
-        pub no-rise : not seqs ≡ true → Broken SeqNotRising ≡ ruling (faults named kinds depth seqs spans)
+        pub no-rise : not seqs ≡ true → Err SeqNotRising ≡ ruling (faults named kinds depth seqs spans)
         unfolding faults first_of
         no-rise d = rw (not-false named a, not-false kinds b, not-false depth c, not-true seqs d)
 
         module _ (d : not seqs ≡ false) where
-          pub no_span : not spans ≡ true → Broken DeltaRange ≡ ruling (faults named kinds depth seqs spans)
+          pub no_span : not spans ≡ true → Err DeltaRange ≡ ruling (faults named kinds depth seqs spans)
           unfolding faults first_of
           no_span f = rw (not-false named a, not-false kinds b, not-false depth c, not-false seqs d, not-true spans f)
 
-          pub no-fault : not spans ≡ false → Kept ≡ ruling (faults named kinds depth seqs spans)
+          pub no-fault : not spans ≡ false → (Ok tt) ≡ ruling (faults named kinds depth seqs spans)
           unfolding faults first_of
           no-fault f = rw (not-false named a, not-false kinds b, not-false depth c, not-false seqs d, not-false spans f)
 
 -- the same by what the tests say
-pub faults-told : {named kinds depth seqs spans named' kinds' depth' seqs' spans' : Bool} {r : Ruling} → r ≡ ruling (faults named kinds depth seqs spans)
+pub faults-told : {named kinds depth seqs spans named' kinds' depth' seqs' spans' : Bool} {r : Result (Unit {0}) Refusal} → r ≡ ruling (faults named kinds depth seqs spans)
     → named ≡ named' → kinds ≡ kinds' → depth ≡ depth' → seqs ≡ seqs' → spans ≡ spans' → r ≡ ruling (faults named' kinds' depth' seqs' spans')
 faults-told e a b c d f = rw (← a, ← b, ← c, ← d, ← f) e

@@ -52,10 +52,8 @@ fn column_of(rows: &[u64], a: usize, n: usize, k: usize) -> [u32; 1024]
     ensures { take n result ≡ several 4 (field k) n (drop (a * 4) rows.now) }
 {
     let mut out = [0u32; 1024];
-    let mut i = 0;
-    while i < n {
+    for i in 0..n {
         out[i] = rows[(a + i) * 4 + k] as u32;
-        i += 1;
     }
     out
 }
@@ -68,10 +66,7 @@ fn labels_of(rows: &[u64], a: usize, n: usize) -> Labels
 {
     let chains = column_of(rows, a, n, 2);
     let seqs = column_of(rows, a, n, 3);
-    Labels {
-        chains: chains,
-        seqs: seqs,
-    }
+    Labels { chains, seqs }
 }
 
 // Whether the seqs of n labels rise along each chain.
@@ -96,10 +91,10 @@ fn label_ranges(l: Labels, n: usize) -> Ranges
     let mut maxima = [0u32; 1024];
     let count = ranges_of(&chains[..n], &seqs[..n], &mut ids, &mut minima, &mut maxima);
     Ranges {
-        count: count,
-        ids: ids,
-        minima: minima,
-        maxima: maxima,
+        count,
+        ids,
+        minima,
+        maxima,
     }
 }
 
@@ -108,13 +103,11 @@ fn lay_ranges(r: Ranges, table: &mut [u64; 3072], at: usize)
     requires { at + r.count ≤ 1024 }
     ensures { table.new ≡ laid at (ranges_in r) table.old }
 {
-    let mut i = 0;
-    while i < r.count {
+    for i in 0..r.count {
         let p = 3 * (at + i);
         table[p] = r.ids[i] as u64;
         table[p + 1] = r.minima[i] as u64;
         table[p + 2] = r.maxima[i] as u64;
-        i += 1;
     }
 }
 
@@ -130,7 +123,7 @@ fn add_ranges(rows: &[u64], a: usize, n: usize, table: &mut [u64; 3072], at: usi
     lay_ranges(ranges, table, at);
     Added {
         count: ranges.count,
-        rises: rises,
+        rises,
     }
 }
 
@@ -168,16 +161,11 @@ pub fn covers_of(z: Counts, groups: Groups, rows: &[u64], ranges: &mut [u64; 307
 {
     let mut ends = [0usize; 17];
     let mut rises = [true; 16];
-    let mut g = 0;
-    while g < groups.count {
+    for g in 0..groups.count {
         let at = ends[g];
         let added = add_group(z, groups, g, rows, ranges, at);
         ends[g + 1] = at + added.count;
         rises[g] = added.rises;
-        g += 1;
     }
-    Covers {
-        ends: ends,
-        rises: rises,
-    }
+    Covers { ends, rises }
 }

@@ -21,7 +21,7 @@ pub fn facts_of(groups: Groups, covers: Covers, g: usize) -> Facts
 {
     let known = known_of(groups, g);
     Facts {
-        known: known,
+        known,
         rises: covers.rises[g],
         from: covers.ends[g],
         to: covers.ends[g + 1],

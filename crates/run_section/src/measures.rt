@@ -1,4 +1,4 @@
-// The first rule that a group breaks, or how long its file is, by its section.
+// How long the file of a group is, or the first rule that the group breaks, by its section.
 ghost use Rattle.std.specs.Prelude.{◌≡◌, ◌≤◌};
 ghost use Rattle.columns.specs.Limits.{max_records, max_subject};
 ghost use Rattle.archive_store.specs.sizes.FileSize.{max_file_size};
@@ -9,14 +9,7 @@ ghost use Rattle.run_section.specs.Measures.{Inside, size_by, SectionMeasured};
 use crate::rules::{Known, section_rules};
 use crate::sizes::{edges_of, section_size};
 use crate::{Counts, Section};
-use columns::refusal::Ruling;
-
-// The first broken rule, or how long what is measured is.
-#[derive(Clone, Copy)]
-pub struct Measured {
-    pub ruling: Ruling,
-    pub length: usize,
-}
+use columns::refusal::Refusal;
 
 // How long the file of a section is.
 fn file_length(
@@ -40,7 +33,7 @@ fn file_length(
     section_size(size, s, e, covered, ranges)
 }
 
-// Of a group with a subject of `size` bytes whose seqs rise or not, and which has so many ranges.
+// How long the file is of a group with a subject of `size` bytes whose seqs rise or not, and which has so many ranges; or the first rule that it breaks.
 pub fn measure_section(
     z: Counts,
     size: usize,
@@ -53,24 +46,15 @@ pub fn measure_section(
     targets: &[u64],
     starts: &[u64],
     kids: &[u64],
-) -> Measured
+) -> Result<usize, Refusal>
     requires inside { (Inside z s unresolved.now) × ((size ≤ max_subject) × (ranges ≤ max_records)) }
     requires lists { Lists z.rows offsets.now targets.now starts.now kids.now }
     ensures { SectionMeasured z size k rises ranges s unresolved.now offsets.now targets.now starts.now kids.now result }
 {
-    let v = section_rules(
+    section_rules(
         z, size, k, rises, s, unresolved, offsets, targets, starts, kids,
-    );
-    match v {
-        Ruling::Broken(x) => Measured {
-            ruling: Ruling::Broken(x),
-            length: 0,
-        },
-        Ruling::Kept => Measured {
-            ruling: Ruling::Kept,
-            length: file_length(
-                z, size, k.covered, ranges, s, unresolved, offsets, targets, starts, kids,
-            ),
-        },
-    }
+    )?;
+    Ok(file_length(
+        z, size, k.covered, ranges, s, unresolved, offsets, targets, starts, kids,
+    ))
 }

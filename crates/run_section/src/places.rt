@@ -22,6 +22,7 @@ fn place_of(table: &[u64], width: usize, n: usize, x: u64) -> usize
 {
     let mut low = 0;
     let mut high = n;
+    // No `for`: what is left is halved.
     while low < high {
         let middle = between(low, high);
         if table[middle * width] < x {
@@ -40,7 +41,7 @@ fn span_of(table: &[u64], width: usize, n: usize, low: u64, high: u64) -> Span
 {
     let from = place_of(table, width, n, low);
     let to = place_of(table, width, n, high);
-    Span { from: from, to: to }
+    Span { from, to }
 }
 
 // The rows of group g.

@@ -132,8 +132,8 @@ pub fn prepare(
     let n = put_children(counts, s.edges, starts, kids);
     let covers = covers_of(counts, s.groups, rows, ranges);
     Prepared {
-        counts: counts,
-        covers: covers,
+        counts,
+        covers,
         kids: n,
     }
 }

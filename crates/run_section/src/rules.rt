@@ -9,7 +9,7 @@ ghost use Rattle.run_section.specs.Tables.{unresolved_in};
 ghost use Rattle.run_section.specs.Rules.{kind_fits, depth_in, KnownOf, faults, Lists, spans_in};
 
 use crate::{Counts, Section};
-use columns::refusal::{Refusal, Ruling};
+use columns::refusal::Refusal;
 use columns_rules::spans::reach::slots_fit;
 use run_state::Groups;
 
@@ -48,13 +48,11 @@ fn kinds_fit(unresolved: &[u64], a: usize, n: usize) -> bool
     requires { (a + n) * 3 ≤ length unresolved.now }
     ensures { result ≡ all kind_fits (several 3 unresolved_in n (drop (a * 3) unresolved.now)) }
 {
-    let mut i = 0;
     let mut p = a * 3;
-    while i < n {
+    for i in 0..n {
         if 2 <= unresolved[p + 1] {
             return false;
         }
-        i += 1;
         p += 3;
     }
     true
@@ -81,25 +79,31 @@ fn spans_fit(
 }
 
 // The first rule that is broken, by the tests.
-fn first_fault(named: bool, kinds: bool, depth: bool, seqs: bool, spans: bool) -> Ruling
+fn first_fault(
+    named: bool,
+    kinds: bool,
+    depth: bool,
+    seqs: bool,
+    spans: bool,
+) -> Result<(), Refusal>
     ensures { result ≡ ruling (faults named kinds depth seqs spans) }
 {
     if !named {
-        return Ruling::Broken(Refusal::SubjectLength);
+        return Err(Refusal::SubjectLength);
     }
     if !kinds {
-        return Ruling::Broken(Refusal::UnresolvedKind);
+        return Err(Refusal::UnresolvedKind);
     }
     if !depth {
-        return Ruling::Broken(Refusal::DepthOrder);
+        return Err(Refusal::DepthOrder);
     }
     if !seqs {
-        return Ruling::Broken(Refusal::SeqNotRising);
+        return Err(Refusal::SeqNotRising);
     }
     if !spans {
-        return Ruling::Broken(Refusal::DeltaRange);
+        return Err(Refusal::DeltaRange);
     }
-    Ruling::Kept
+    Ok(())
 }
 
 // The first rule that a group breaks: `size` is the length of the subject, `rises` says whether its seqs rise along each chain.
@@ -114,7 +118,7 @@ pub fn section_rules(
     targets: &[u64],
     starts: &[u64],
     kids: &[u64],
-) -> Ruling
+) -> Result<(), Refusal>
     requires rows_bound { (z.rows ≤ 1024) × ((z.start + z.rows < end64) × ((s.rows.from ≤ s.rows.to) × (s.rows.to ≤ z.rows))) }
     requires from_le_to { (s.unresolved.from ≤ s.unresolved.to) × (s.unresolved.to * 3 ≤ length unresolved.now) }
     requires lists { Lists z.rows offsets.now targets.now starts.now kids.now }

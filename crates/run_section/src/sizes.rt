@@ -62,9 +62,9 @@ pub fn edges_of(
     let reverse = count_rows(z.rows, a, b, starts, kids, 0, end);
     let inbound = count_rows(z.rows, a, b, starts, kids, end, all);
     Edges {
-        forward: forward,
-        reverse: reverse,
-        inbound: inbound,
+        forward,
+        reverse,
+        inbound,
     }
 }
 

@@ -10,11 +10,9 @@ fn put_bytes(column: &[u8], w: usize, k: usize, n: usize, out: &mut [u64])
     requires { (k < w) × (n ≤ length column.now) × (n * w ≤ length out.old) }
     ensures { ColumnPut w k n 256 column.now out.old out.new }
 {
-    let mut i = 0;
     let mut p = k;
-    while i < n {
+    for i in 0..n {
         out[p] = wide(column[i]);
-        i += 1;
         p += w;
     }
 }
@@ -23,11 +21,9 @@ fn put_longs(column: &[u32], w: usize, k: usize, n: usize, out: &mut [u64])
     requires { (k < w) × (n ≤ length column.now) × (n * w ≤ length out.old) }
     ensures { ColumnPut w k n (2 ^ 32) column.now out.old out.new }
 {
-    let mut i = 0;
     let mut p = k;
-    while i < n {
+    for i in 0..n {
         out[p] = long(column[i]);
-        i += 1;
         p += w;
     }
 }
@@ -36,11 +32,9 @@ fn put_numbers(column: &[u64], w: usize, k: usize, n: usize, out: &mut [u64])
     requires { (k < w) × (n ≤ length column.now) × (n * w ≤ length out.old) }
     ensures { ColumnPut w k n end64 column.now out.old out.new }
 {
-    let mut i = 0;
     let mut p = k;
-    while i < n {
+    for i in 0..n {
         out[p] = column[i];
-        i += 1;
         p += w;
     }
 }

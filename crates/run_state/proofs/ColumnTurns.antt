@@ -1,24 +1,18 @@
 -- Columns tested number by number and slot by slot: one turn of each loop, and each of its answers.
-use mathlib.Core.Path.{◌≡◌, refl, sym}
-use mathlib.Core.Bool.{Bool, true, false, not}
+use Rattle.std.specs.List.{list_all}
+use Rattle.std.proofs.lemmas.List.{drop-take}
+use mathlib.Core.Path.{◌≡◌, refl, sym, ap, ◌∙◌}
+use mathlib.Core.Bool.{Bool, true, false, not, ◌&&◌}
 use mathlib.Core.List.{List, [], ◌∷◌}
-use Prim.Native.Nat.{ℕ, suc, ◌+◌, ◌*◌, ◌≤◌, ◌<◌}
+use Prim.Native.Nat.{ℕ, suc, ◌+◌, ◌-◌, ◌*◌, ◌≤◌, ◌<◌}
 use native.Mathlib.Numerals.{add-one}
 use native.Mathlib.Omega.{arith}
 use lib.ListN.{length, get_or, take, drop, drop_of_length-le}
-use lib.Seq.{slice, slice-cons, drop-cons, length-take-le}
-use borrow.Author.Tests.{lt-ltb, le-ltb, not-true, not-false}
+use lib.Seq.{drop-cons, length-take-le}
+use borrow.Author.Tests.{not-true, not-false}
 use Rattle.columns.specs.Limits.{kinds}
 use Rattle.lists.specs.Lists.{all}
-use Rattle.lists.proofs.Slices.{slice-none}
 use Rattle.columns.specs.EdgeSet.{offsets_form, cut, event_of}
-use Rattle.columns.specs.Building.{in_file, slot_rules}
-use Rattle.columns.specs.Answers.{ruling}
-use Rattle.columns.specs.declared.refusal.Refusal.{Refusal}
-use Rattle.columns.specs.declared.refusal.Ruling.{Ruling}
-use Rattle.columns.specs.declared.refusal.Ruling.TheVariants.{Kept, Broken}
-use Rattle.columns.proofs.Told.{told, told-kept}
-use Rattle.cleaning.specs.Source.{is_there}
 use Rattle.columns_rules.proofs.SlotTables.{table_of, length_cut}
 use Rattle.columns_rules.proofs.ParentTurns.{slot-list}
 use Rattle.run_state.specs.Valid.{below, earlier}
@@ -34,44 +28,20 @@ numbers-count n l h k = sym (length-take-le n l (omega arith))
 pub form-cut : (rows n : ℕ) (os l : List ℕ) → n ≤ 4096 → length l ≡ 4096 → offsets_form kinds rows n os ≡ true → offsets_form kinds rows (length (take n l)) os ≡ true
 form-cut rows n os l h k e = rw (length-take-le n l (omega arith)) e
 
--- ── every number of a part of a column passes a test ─────────────────────────────────────────
-
-module _ (p : ℕ → Bool) {t : Bool} (i to : ℕ) (l : List ℕ) (e : t ≡ all p (slice i to l)) where
-  pub all_done : to ≤ i → true ≡ t
-  unfolding all
-  all_done h = rw (e, slice-none i to l h)
-
-  module _ (h : i < to) (k : to ≤ length l) (b : Bool) (d : b ≡ p (get_or l i 0)) where
-    all-stop : b ≡ false → false ≡ t
-    unfolding all
-    all-stop f = rw (e, slice-cons i to l 0, ← d, f)
-
-    all-on : b ≡ true → t ≡ all p (slice (i + 1) to l)
-    unfolding all
-    all-on f = rw (e, slice-cons i to l 0, ← d, f, add-one)
-
-module _ {t : Bool} (event i to : ℕ) (l : List ℕ) (e : t ≡ all (below event) (slice i to l)) (h : i < to) (k : to ≤ length l) where
-  pub not-below : event ≤ get_or l i 0 → false ≡ t
-  unfolding below
-  not-below f = all-stop (below event) i to l e h k (below event (get_or l i 0)) refl (le-ltb (get_or l i 0) event f)
-
-  pub below_on : get_or l i 0 < event → t ≡ all (below event) (slice (i + 1) to l)
-  unfolding below
-  below_on f = all-on (below event) i to l e h k (below event (get_or l i 0)) refl (lt-ltb (get_or l i 0) event f)
-
-module _ {t : Bool} (first end i to : ℕ) (l : List ℕ) (e : t ≡ all (in_file first end) (slice i to l)) (h : i < to) (k : to ≤ length l) {b : Bool} (d : b ≡ in_file first end (get_or l i 0)) where
-  pub outside : not b ≡ true → false ≡ t
-  outside f = all-stop (in_file first end) i to l e h k b d (not-true b f)
-
-  pub inside_on : not b ≡ false → t ≡ all (in_file first end) (slice (i + 1) to l)
-  inside_on f = all-on (in_file first end) i to l e h k b d (not-false b f)
+-- the library's test of every element
+pub all-listed : (p : ℕ → Bool) (xs : List ℕ) → list_all p xs ≡ all p xs
+unfolding all
+all-listed p [] = refl
+all-listed p (x ∷ xs) = ap (λ b. p x && b) (all-listed p xs)
 
 -- ── slot by slot ─────────────────────────────────────────────────────────────────────────────
 
+-- `b - a` numbers from the a-th on are those up to the b-th
 pub slot-told : (rows : ℕ) (offsets targets : List ℕ) → offsets_form kinds rows (length targets) offsets ≡ true → (s : ℕ) → s < 2 * rows → (a b : ℕ) → a ≡ get_or offsets s 0
-    → b ≡ get_or offsets (s + 1) 0 → (event f : ℕ) → event ≡ f → {r : Bool} → r ≡ all (below event) (slice a b targets)
+    → b ≡ get_or offsets (s + 1) 0 → a ≤ b → (event f : ℕ) → event ≡ f → {r : Bool} → r ≡ all (below event) (take (b - a) (drop a targets))
     → r ≡ all (below f) (get_or (cut offsets targets) s [])
-slot-told rows offsets targets ok s h a b p q event f d k = rw (slot-list rows offsets targets ok s h a b p q, ← d) k
+slot-told rows offsets targets ok s h a b p q o event f d k =
+    rw (slot-list rows offsets targets ok s h a b p q, ← d) (k ∙ ap (all (below event)) (sym (drop-take a (b - a) targets) ∙ ap (λ m. drop a (take m targets)) (omega arith)))
 
 module _ {t : Bool} (first rows s : ℕ) (offsets targets : List ℕ) (ok : offsets_form kinds rows (length targets) offsets ≡ true)
     (e : t ≡ earlier first s (drop s (cut offsets targets))) where
@@ -93,12 +63,3 @@ module _ {t : Bool} (first rows s : ℕ) (offsets targets : List ℕ) (ok : offs
     pub slot-early : not r ≡ false → t ≡ earlier first (s + 1) (drop (s + 1) (cut offsets targets))
     unfolding earlier
     slot-early g = rw (e, here, ← k, not-false r g, add-one)
-
--- ── every slot names its parents once ────────────────────────────────────────────────────────
-
-module _ (first : ℕ) (lists : List (List ℕ)) {r : Ruling} (e : r ≡ ruling (slot_rules kinds first 0 lists)) where
-  pub named_once : r ≡ Kept → true ≡ not (is_there (slot_rules kinds first 0 lists))
-  named_once k = rw (told-kept (slot_rules kinds first 0 lists) e k)
-
-  pub not-once : (x : Refusal) → r ≡ Broken x → false ≡ not (is_there (slot_rules kinds first 0 lists))
-  not-once x k = rw (told (slot_rules kinds first 0 lists) e k)

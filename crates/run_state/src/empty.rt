@@ -21,8 +21,8 @@ pub fn fresh() -> Held
     let targets = [0u64; 4096];
     let none = Edges {
         count: 0,
-        offsets: offsets,
-        targets: targets,
+        offsets,
+        targets,
     };
     let ends = Ends {
         chains: words,
@@ -68,7 +68,7 @@ pub fn fresh() -> Held
         },
     };
     Held {
-        sheet: sheet,
+        sheet,
         erased: flags,
         reverse: none,
         inbound: none,

@@ -109,10 +109,3 @@ pub struct Held {
     pub inbound: Edges,
     pub ranges: usize,
 }
-
-// How many bytes were written, or why none.
-#[derive(Clone, Copy)]
-pub enum Writing {
-    Length(usize),
-    Refused(Refusal),
-}

@@ -12,44 +12,27 @@ use crate::Sheet;
 use archive_store::order::{is_level, rises};
 use long::sheet_long;
 
-fn number(g: u8) -> usize
-    ensures { result ≡ g }
-{
-    g as usize
-}
-
 // Whether none of the first n groups falls.
 fn groups_level(groups: &[u8], n: usize) -> bool
     requires { n ≤ length groups.now }
     ensures { result ≡ not_falling (take n groups.now) }
 {
     let mut low: u8 = 0;
-    let mut i = 0;
-    while i < n {
+    for i in 0..n {
         let g = groups[i];
         if g < low {
             return false;
         }
         low = g;
-        i += 1;
     }
     true
 }
 
-// Whether each of the first n groups is below the count of groups.
-fn groups_there(groups: &[u8], n: usize, count: usize) -> bool
-    requires { n ≤ length groups.now }
-    ensures { result ≡ all (below count) (take n groups.now) }
+// Whether each group is below the count of groups.
+fn groups_there(groups: &[u8], count: usize) -> bool
+    ensures { result ≡ all (below count) groups.now }
 {
-    let mut i = 0;
-    while i < n {
-        let g = number(groups[i]);
-        if count <= g {
-            return false;
-        }
-        i += 1;
-    }
-    true
+    groups.iter().all(|&g| usize::from(g) < count)
 }
 
 // Both.
@@ -57,10 +40,7 @@ fn groups_ordered(groups: &[u8], n: usize, count: usize) -> bool
     requires { n ≤ length groups.now }
     ensures { result ≡ groups_ordered count n groups.now }
 {
-    if !groups_level(groups, n) {
-        return false;
-    }
-    groups_there(groups, n, count)
+    groups_level(groups, n) && groups_there(&groups[..n], count)
 }
 
 // Whether every group up to the count has one of the first n rows, whose groups don't fall.
@@ -69,13 +49,10 @@ fn reaches_all(groups: &[u8], n: usize, count: usize) -> bool
     ensures { result ≡ reaches count 0 (take n groups.now) }
 {
     let mut seen: usize = 0;
-    let mut i = 0;
-    while i < n {
-        let g = number(groups[i]);
-        if g == seen {
+    for i in 0..n {
+        if usize::from(groups[i]) == seen {
             seen += 1;
         }
-        i += 1;
     }
     seen == count
 }

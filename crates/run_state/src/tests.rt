@@ -10,7 +10,6 @@ ghost use Rattle.run_state.specs.Valid.{below, earlier};
 
 use arrays::index;
 use columns::kind::KINDS;
-use columns::refusal::Ruling;
 use columns_rules::records::parts::is_in_file;
 use columns_rules::slots::slot_rules;
 use columns_slots::sets::is_form;
@@ -24,19 +23,11 @@ pub fn table_ok(n: usize, count: usize, offsets: &[u64]) -> bool
     is_form(KINDS, n, count as u64, &offsets[..k])
 }
 
-// Whether each of targets[from..to] is below the event.
-pub fn are_below(event: u64, targets: &[u64], from: usize, to: usize) -> bool
-    requires { to ≤ length targets.now }
-    ensures { result ≡ all (below event) (slice from to targets.now) }
+// Whether each number is below the event.
+pub fn are_below(event: u64, numbers: &[u64]) -> bool
+    ensures { result ≡ all (below event) numbers.now }
 {
-    let mut j = from;
-    while j < to {
-        if event <= targets[j] {
-            return false;
-        }
-        j += 1;
-    }
-    true
+    numbers.iter().all(|&x| x < event)
 }
 
 // Whether the numbers of slot s are below its event.
@@ -49,7 +40,7 @@ fn slot_earlier(first: u64, rows: usize, offsets: &[u64], targets: &[u64], s: us
     let to = index(offsets[s + 1]);
     let row = s / 2;
     let event = first + (row as u64);
-    are_below(event, targets, from, to)
+    are_below(event, &targets[from..to])
 }
 
 // Whether every number is below its event.
@@ -58,12 +49,10 @@ fn are_earlier(first: u64, rows: usize, offsets: &[u64], targets: &[u64]) -> boo
     requires offsets_value { offsets_form kinds rows (length targets.now) offsets.now ≡ true }
     ensures { result ≡ earlier first 0 (cut offsets.now targets.now) }
 {
-    let mut s = 0;
-    while s < 2 * rows {
+    for s in 0..2 * rows {
         if !slot_earlier(first, rows, offsets, targets, s) {
             return false;
         }
-        s += 1;
     }
     true
 }
@@ -87,24 +76,12 @@ pub fn once_ok(first: u64, rows: usize, count: usize, offsets: &[u64], targets: 
     ensures { result ≡ not (is_there (slot_rules kinds first 0 (cut (take (2 * rows + 1) offsets.now) (take count targets.now)))) }
 {
     let k = 2 * rows + 1;
-    let r = slot_rules(first, rows, &offsets[..k], &targets[..count]);
-    match r {
-        Ruling::Kept => true,
-        Ruling::Broken(_) => false,
-    }
+    slot_rules(first, rows, &offsets[..k], &targets[..count]).is_ok()
 }
 
-// Whether the first n numbers are those of rows from `first` on.
-pub fn are_in_file(first: u64, rows: usize, list: &[u64], n: usize) -> bool
-    requires { n ≤ length list.now }
-    ensures { result ≡ all (in_file first (first + rows)) (take n list.now) }
+// Whether each number is that of a row from `first` on.
+pub fn are_in_file(first: u64, rows: usize, numbers: &[u64]) -> bool
+    ensures { result ≡ all (in_file first (first + rows)) numbers.now }
 {
-    let mut i = 0;
-    while i < n {
-        if !is_in_file(first, rows, list[i]) {
-            return false;
-        }
-        i += 1;
-    }
-    true
+    numbers.iter().all(|&x| is_in_file(first, rows, x))
 }

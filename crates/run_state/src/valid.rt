@@ -87,10 +87,10 @@ fn columns_ok(z: Sizes, offsets: &[u64], targets: &[u64], children: &[u64], root
     if !edges_ok(z.rows, z.numbers, offsets) {
         return false;
     }
-    if !are_in_file(z.start, z.rows, children, z.unresolved) {
+    if !are_in_file(z.start, z.rows, &children[..z.unresolved]) {
         return false;
     }
-    if !are_below(z.rows as u64, roots, 0, z.roots) {
+    if !are_below(z.rows as u64, &roots[..z.roots]) {
         return false;
     }
     order_ok(z.start, z.rows, z.numbers, offsets, targets)

@@ -1,10 +1,12 @@
 // The columns of a run grown by the entries of one record of an archive: each function writes one column from a place on. Things of `width`
 // bytes stand one after the other from `base` on, and of each the number that starts `skip` bytes after its first is taken.
-ghost use Rattle.std.specs.Prelude.{◌≡◌, true, map, ◌+◌, ◌≤◌, ◌<◌, ◌^◌, eqb, length, get_or, take, drop, replicate};
+ghost use Rattle.std.specs.Prelude.{◌≡◌, true, List, ℕ, map, ◌+◌, ◌≤◌, ◌<◌, ◌^◌, eqb, length, get_or, take, drop, replicate};
 ghost use Rattle.std.proofs.lemmas.List.Edits.{sets};
+ghost use Rattle.std.proofs.lemmas.List.{get_or-drop};
 ghost use Rattle.columns.specs.Limits.{kinds};
 ghost use Rattle.lists.specs.Lists.{joined};
 ghost use Rattle.archive_bytes.specs.Bytes.{be, several, column};
+ghost use Rattle.archive_bytes.proofs.Several.{be-drop};
 ghost use Rattle.cover.specs.Cover.{sums, sums_fit};
 ghost use Rattle.columns.specs.EdgeSet.{from_to};
 ghost use Rattle.columns.specs.Reading.{slots_of};
@@ -15,53 +17,59 @@ ghost use Rattle.run_store.specs.grow.Column.{Room, Small, bit};
 use archive_bytes::{load_u32, load_u64};
 use columns::kind::KINDS;
 
-// Numbers of 8 bytes.
-pub fn put_u64s(
-    out: &mut [u64; 1024],
-    at: usize,
-    bytes: &[u8],
-    base: usize,
-    width: usize,
-    skip: usize,
-    n: usize,
-)
-    requires { Room (length bytes.now) base width n × ((skip + 8 ≤ width) × (at + n ≤ 1024)) }
-    ensures { out.new ≡ sets out.old at (several width (λ l. be 8 l skip) n (drop base bytes.now)) }
-{
-    let mut i = 0;
-    let mut p = base;
-    while i < n {
-        out[at + i] = load_u64(bytes, p + skip);
-        i += 1;
-        p += width;
-    }
+// A number as an archive holds it, its highest byte first.
+pub trait Number: Copy {
+    // how many bytes it takes
+    ghost size: { ℕ };
+    // the number that starts at a place of bytes
+    ghost held: { List ℕ → ℕ → Self };
+
+    fn load(bytes: &[u8], at: usize) -> Self
+        requires { at + size ≤ length bytes.now }
+        ensures { result ≡ held bytes.now at };
+
+    ghost behind: { (l : List ℕ) (p k : ℕ) → held (drop p l) k ≡ held l (p + k) };
 }
 
-// Numbers of 4 bytes.
-pub fn put_u32s(
-    out: &mut [u32; 1024],
-    at: usize,
-    bytes: &[u8],
-    base: usize,
-    width: usize,
-    skip: usize,
-    n: usize,
-)
-    requires { Room (length bytes.now) base width n × ((skip + 4 ≤ width) × (at + n ≤ 1024)) }
-    ensures { out.new ≡ sets out.old at (several width (λ l. be 4 l skip) n (drop base bytes.now)) }
-{
-    let mut i = 0;
-    let mut p = base;
-    while i < n {
-        out[at + i] = load_u32(bytes, p + skip) as u32;
-        i += 1;
-        p += width;
+impl Number for u8 {
+    ghost size = { 1 };
+
+    ghost held = { λ l k. get_or l k 0 };
+
+    fn load(bytes: &[u8], at: usize) -> u8 {
+        bytes[at]
     }
+
+    ghost behind = { λ l p k. get_or-drop p l k 0 };
 }
 
-// Bytes.
-pub fn put_u8s(
-    out: &mut [u8; 1024],
+impl Number for u32 {
+    ghost size = { 4 };
+
+    ghost held = { be 4 };
+
+    fn load(bytes: &[u8], at: usize) -> u32 {
+        load_u32(bytes, at) as u32
+    }
+
+    ghost behind = { be-drop 4 };
+}
+
+impl Number for u64 {
+    ghost size = { 8 };
+
+    ghost held = { be 8 };
+
+    fn load(bytes: &[u8], at: usize) -> u64 {
+        load_u64(bytes, at)
+    }
+
+    ghost behind = { be-drop 8 };
+}
+
+// The numbers of n things.
+pub fn put_numbers<T: Number>(
+    out: &mut [T; 1024],
     at: usize,
     bytes: &[u8],
     base: usize,
@@ -69,14 +77,12 @@ pub fn put_u8s(
     skip: usize,
     n: usize,
 )
-    requires { Room (length bytes.now) base width n × ((skip + 1 ≤ width) × (at + n ≤ 1024)) }
-    ensures { out.new ≡ sets out.old at (several width (λ l. get_or l skip 0) n (drop base bytes.now)) }
+    requires { Room (length bytes.now) base width n × ((skip + T.size ≤ width) × (at + n ≤ 1024)) }
+    ensures { out.new ≡ sets out.old at (several width (λ l. T.held l skip) n (drop base bytes.now)) }
 {
-    let mut i = 0;
     let mut p = base;
-    while i < n {
-        out[at + i] = bytes[p + skip];
-        i += 1;
+    for i in 0..n {
+        out[at + i] = T::load(bytes, p + skip);
         p += width;
     }
 }
@@ -85,10 +91,7 @@ pub fn put_u8s(
 fn flag(x: u8) -> u8
     ensures { result ≡ bit (eqb x 1) }
 {
-    if x == 1 {
-        return 1;
-    }
-    0
+    u8::from(x == 1)
 }
 
 // The flags of rows: whether the first byte of each is 1.
@@ -96,11 +99,9 @@ pub fn put_flags(out: &mut [u8; 1024], at: usize, bytes: &[u8], base: usize, wid
     requires { Room (length bytes.now) base width n × ((1 ≤ width) × (at + n ≤ 1024)) }
     ensures { out.new ≡ sets out.old at (several width (λ l. bit (eqb (get_or l 0 0) 1)) n (drop base bytes.now)) }
 {
-    let mut i = 0;
     let mut p = base;
-    while i < n {
+    for i in 0..n {
         out[at + i] = flag(bytes[p]);
-        i += 1;
         p += width;
     }
 }
@@ -120,11 +121,9 @@ pub fn put_moved(
     requires add_bound { (add ≤ 1024) × Small (several width (λ l. be 8 l skip) n (drop base bytes.now)) }
     ensures { out.new ≡ sets out.old at (several width (λ l. add + be 8 l skip) n (drop base bytes.now)) }
 {
-    let mut i = 0;
     let mut p = base;
-    while i < n {
+    for i in 0..n {
         out[at + i] = add + load_u64(bytes, p + skip);
-        i += 1;
         p += width;
     }
 }
@@ -134,10 +133,8 @@ pub fn fill(out: &mut [u8; 1024], at: usize, n: usize, x: u8)
     requires { at + n ≤ 1024 }
     ensures { out.new ≡ sets out.old at (replicate n x) }
 {
-    let mut i = 0;
-    while i < n {
+    for i in 0..n {
         out[at + i] = x;
-        i += 1;
     }
 }
 
@@ -147,13 +144,11 @@ pub fn put_sums(out: &mut [u32; 1024], at: usize, bytes: &[u8], base: usize, n: 
     requires base_value { sums_fit (column 4 n bytes.now base) ≡ true }
     ensures { out.new ≡ sets out.old at (sums 0 (column 4 n bytes.now base)) }
 {
-    let mut i = 0;
     let mut p = base;
     let mut sum: u64 = 0;
-    while i < n {
+    for i in 0..n {
         sum += load_u32(bytes, p);
         out[at + i] = sum as u32;
-        i += 1;
         p += 4;
     }
 }
@@ -163,10 +158,8 @@ pub fn put_subject(out: &mut [u8; 255], bytes: &[u8], base: usize, n: usize)
     requires { (base + n ≤ length bytes.now) × (n ≤ 255) }
     ensures { out.new ≡ sets out.old 0 (take n (drop base bytes.now)) }
 {
-    let mut i = 0;
-    while i < n {
+    for i in 0..n {
         out[i] = bytes[base + i];
-        i += 1;
     }
 }
 
@@ -175,10 +168,8 @@ pub fn put_offsets(out: &mut [u64; 2049], at: usize, offsets: &[u64], count: usi
     requires { (at + length offsets.now ≤ 2049) × ((add + count ≤ 4096) × (from_to 0 count offsets.now ≡ true)) }
     ensures { out.new ≡ sets out.old (at + 1) (map (λ o. add + o) (drop 1 offsets.now)) }
 {
-    let mut i = 1;
-    while i < offsets.len() {
+    for i in 1..offsets.len() {
         out[at + i] = add + offsets[i];
-        i += 1;
     }
 }
 

@@ -56,17 +56,17 @@ pub fn store(h: Held, bytes: &[u8]) -> Held
     Held {
         sheet: Sheet {
             start: names.start,
-            subject: subject,
-            groups: groups,
-            rows: rows,
-            edges: edges,
-            unresolved: unresolved,
-            roots: roots,
-            links: links,
+            subject,
+            groups,
+            rows,
+            edges,
+            unresolved,
+            roots,
+            links,
         },
-        erased: erased,
-        reverse: reverse,
-        inbound: inbound,
+        erased,
+        reverse,
+        inbound,
         ranges: names.ranges,
     }
 }

@@ -11,9 +11,9 @@ ghost use Rattle.run_store.specs.turns.Parts.{stored, Accepted};
 ghost use Rattle.run_state.specs.ByColumns.{links_of};
 ghost use Rattle.run_store.specs.links.Columns.{EndsMore};
 
-use crate::grow::{fill, put_sums, put_u32s};
+use crate::grow::{fill, put_numbers, put_sums};
 use crate::turns::next;
-use archive_read::records::{FileAt, FileRead, TailAt, file_at};
+use archive_read::records::{FileAt, TailAt, file_at};
 use run_state::{Ends, Held, Links};
 
 // The ends of n links, after those of c others, by four columns that start at `at`.
@@ -35,9 +35,9 @@ fn put_ends(
     ensures toseqs_after { toseqs.new ≡ sets toseqs.old c (column 4 n bytes.now (at + n * 4 + n * 4 + n * 4)) }
 {
     put_sums(chains, c, bytes, at, n);
-    put_u32s(seqs, c, bytes, at + n * 4, 4, 0, n);
-    put_u32s(tochains, c, bytes, at + n * 4 + n * 4, 4, 0, n);
-    put_u32s(toseqs, c, bytes, at + n * 4 + n * 4 + n * 4, 4, 0, n);
+    put_numbers(seqs, c, bytes, at + n * 4, 4, 0, n);
+    put_numbers(tochains, c, bytes, at + n * 4 + n * 4, 4, 0, n);
+    put_numbers(toseqs, c, bytes, at + n * 4 + n * 4 + n * 4, 4, 0, n);
 }
 
 // The ends of the links of a cover of n rows.
@@ -120,9 +120,10 @@ pub fn grow_links(
     let mut c = count;
     let mut k: usize = 0;
     let mut p = 0;
+    // No `for`: p moves by a file's size.
     while p < bytes.len() {
         let x = file_at(bytes, p);
-        let FileRead::FileIs(f) = x else {
+        let Some(f) = x else {
             break;
         };
         add_links(groups, chains, seqs, tochains, toseqs, c, bytes, f);
@@ -157,7 +158,7 @@ pub fn store_links(h: Held, bytes: &[u8]) -> Links
     );
     Links {
         count: c,
-        groups: groups,
+        groups,
         from: Ends { chains, seqs },
         to: Ends {
             chains: tochains,

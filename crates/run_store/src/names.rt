@@ -8,7 +8,7 @@ ghost use Rattle.run_store.specs.names.Named.{names_of, names_more, NamesRoom, N
 use crate::parts::{with_group, with_subject};
 use crate::turns::next;
 use archive_read::bodies::HeadAt;
-use archive_read::records::{FileAt, FileRead, Part, file_at};
+use archive_read::records::{FileAt, Part, file_at};
 use run_state::{Groups, Held, Subject};
 
 // Start and subject of a run, the facts of its groups, and the number of its ranges.
@@ -64,9 +64,9 @@ fn add_names(q: Names, bytes: &[u8], f: FileAt) -> Names
     let subject = add_subject(q.subject, fresh, bytes, h, a.file);
     let groups = with_group(q.groups, h.group, h.flag, h.least, h.greatest, t.covered);
     Names {
-        start: start,
-        subject: subject,
-        groups: groups,
+        start,
+        subject,
+        groups,
         ranges: q.ranges + k.ranges,
     }
 }
@@ -79,8 +79,8 @@ pub fn names_of(h: Held) -> Names
     let groups = h.sheet.groups;
     Names {
         start: h.sheet.start,
-        subject: subject,
-        groups: groups,
+        subject,
+        groups,
         ranges: h.ranges,
     }
 }
@@ -93,9 +93,10 @@ pub fn grow_names(h: Held, names: Names, bytes: &[u8]) -> Names
     let mut q = names;
     let mut k: usize = 0;
     let mut p = 0;
+    // No `for`: p moves by a file's size.
     while p < bytes.len() {
         let x = file_at(bytes, p);
-        let FileRead::FileIs(f) = x else {
+        let Some(f) = x else {
             break;
         };
         q = add_names(q, bytes, f);

@@ -6,32 +6,11 @@ ghost use Rattle.run_store.specs.parts.Grown.{smaller, greater, groups_new, grou
 use crate::grow::put_subject;
 use run_state::{Groups, Subject};
 
-fn min(a: u64, b: u64) -> u64
-    ensures { result ≡ smaller a b }
-{
-    if b < a {
-        return b;
-    }
-    a
-}
-
-fn max(a: u64, b: u64) -> u64
-    ensures { result ≡ greater a b }
-{
-    if a < b {
-        return b;
-    }
-    a
-}
-
 // 1 for yes, 0 for no.
 fn number(x: bool) -> u8
     ensures { result ≡ bit x }
 {
-    if x {
-        return 1;
-    }
-    0
+    u8::from(x)
 }
 
 // x where the flag is 1, else 0.
@@ -63,8 +42,8 @@ fn with_joined(g: Groups, at: usize, flag: u8, least: u64, greatest: u64) -> Gro
 {
     let mut q = g;
     q.known[at] = where_flagged(flag, g.known[at]);
-    q.least[at] = min(g.least[at], least);
-    q.greatest[at] = max(g.greatest[at], greatest);
+    q.least[at] = g.least[at].min(least);
+    q.greatest[at] = g.greatest[at].max(greatest);
     q
 }
 

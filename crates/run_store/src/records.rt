@@ -8,9 +8,9 @@ ghost use Rattle.run_store.specs.parts.Grown.{unresolved_with, roots_with};
 ghost use Rattle.run_store.specs.turns.Parts.{stored, Accepted};
 ghost use Rattle.run_state.specs.ByColumns.{unresolved_of, roots_of};
 
-use crate::grow::{put_moved, put_u8s, put_u32s, put_u64s};
+use crate::grow::{put_moved, put_numbers};
 use crate::turns::next;
-use archive_read::records::{FileRead, MiddleAt, TailAt, file_at};
+use archive_read::records::{MiddleAt, TailAt, file_at};
 use run_state::{Held, Roots, Unresolved};
 
 // n unresolved references, after c others.
@@ -26,9 +26,9 @@ fn put_unresolved(
     ensures { unresolved_of (c + n) children.new kinds.new handles.new
         ≡ unresolved_with (unresolved_of c children.old kinds.old handles.old) (several 13 unresolved_at n (drop 4 bytes.now)) }
 {
-    put_u64s(children, c, bytes, 4, 13, 0, n);
-    put_u8s(kinds, c, bytes, 4, 13, 8, n);
-    put_u32s(handles, c, bytes, 4, 13, 9, n);
+    put_numbers(children, c, bytes, 4, 13, 0, n);
+    put_numbers(kinds, c, bytes, 4, 13, 8, n);
+    put_numbers(handles, c, bytes, 4, 13, 9, n);
 }
 
 // Those of a file.
@@ -67,9 +67,10 @@ pub fn grow_unresolved(
     let mut c = count;
     let mut k: usize = 0;
     let mut p = 0;
+    // No `for`: p moves by a file's size.
     while p < bytes.len() {
         let x = file_at(bytes, p);
-        let FileRead::FileIs(f) = x else {
+        let Some(f) = x else {
             break;
         };
         let m = f.middle;
@@ -100,9 +101,9 @@ pub fn store_unresolved(h: Held, bytes: &[u8]) -> Unresolved
     );
     Unresolved {
         count: c,
-        children: children,
-        kinds: kinds,
-        handles: handles,
+        children,
+        kinds,
+        handles,
     }
 }
 
@@ -121,7 +122,7 @@ fn put_roots(
         ≡ roots_with (roots_of c rows.old handles.old) before (several 16 root_at n (drop 4 bytes.now)) }
 {
     put_moved(rows, c, bytes, 4, 16, 0, n, before as u64);
-    put_u64s(handles, c, bytes, 4, 16, 8, n);
+    put_numbers(handles, c, bytes, 4, 16, 8, n);
 }
 
 // Those of a file.
@@ -160,9 +161,10 @@ pub fn grow_roots(
     let mut n = before;
     let mut k: usize = 0;
     let mut p = 0;
+    // No `for`: p moves by a file's size.
     while p < bytes.len() {
         let x = file_at(bytes, p);
-        let FileRead::FileIs(f) = x else {
+        let Some(f) = x else {
             break;
         };
         let t = f.tail;
@@ -194,7 +196,7 @@ pub fn store_roots(h: Held, bytes: &[u8]) -> Roots
     );
     Roots {
         count: c,
-        rows: rows,
-        handles: handles,
+        rows,
+        handles,
     }
 }

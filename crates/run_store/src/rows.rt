@@ -9,9 +9,9 @@ ghost use Rattle.run_store.specs.turns.Parts.{stored, Accepted};
 ghost use Rattle.run_state.specs.ByColumns.{rows_of};
 ghost use Rattle.run_store.specs.rows.Rows.{rows_more, chains_more, seqs_more};
 
-use crate::grow::{fill, put_flags, put_u32s, put_u64s};
+use crate::grow::{fill, put_flags, put_numbers};
 use crate::turns::next;
-use archive_read::records::{FileAt, FileRead, Part, TailAt, file_at};
+use archive_read::records::{FileAt, Part, TailAt, file_at};
 use run_state::{Held, Rows};
 
 // The labels of n rows from a place on.
@@ -20,8 +20,8 @@ fn put_labels(chains: &mut [u32; 1024], seqs: &mut [u32; 1024], at: usize, n: us
     ensures chains_after { chains.new ≡ sets chains.old at (column 4 n bytes.now 0) }
     ensures seqs_after { seqs.new ≡ sets seqs.old at (column 4 n bytes.now (n * 4)) }
 {
-    put_u32s(chains, at, bytes, 0, 4, 0, n);
-    put_u32s(seqs, at, bytes, n * 4, 4, 0, n);
+    put_numbers(chains, at, bytes, 0, 4, 0, n);
+    put_numbers(seqs, at, bytes, n * 4, 4, 0, n);
 }
 
 // The labels of a cover.
@@ -69,7 +69,7 @@ fn add_tags(out: &mut [u64; 1024], at: usize, n: usize, bytes: &[u8], a: Part)
 {
     let start = a.at;
     let end = a.end;
-    put_u64s(out, at, &bytes[start..end], 0, 9, 1, n);
+    put_numbers(out, at, &bytes[start..end], 0, 9, 1, n);
 }
 
 // The erased flags of n rows.
@@ -122,9 +122,10 @@ pub fn grow_rows(
     let mut c = count;
     let mut k: usize = 0;
     let mut p = 0;
+    // No `for`: p moves by a file's size.
     while p < bytes.len() {
         let x = file_at(bytes, p);
-        let FileRead::FileIs(f) = x else {
+        let Some(f) = x else {
             break;
         };
         add_rows(groups, tags, chains, seqs, c, bytes, f);
@@ -158,10 +159,10 @@ pub fn store_rows(h: Held, bytes: &[u8]) -> Rows
     );
     Rows {
         count: c,
-        groups: groups,
-        tags: tags,
-        chains: chains,
-        seqs: seqs,
+        groups,
+        tags,
+        chains,
+        seqs,
     }
 }
 
@@ -173,9 +174,10 @@ pub fn grow_flags(h: Held, flags: &mut [u8; 1024], rows: usize, bytes: &[u8])
     let mut c = rows;
     let mut k: usize = 0;
     let mut p = 0;
+    // No `for`: p moves by a file's size.
     while p < bytes.len() {
         let x = file_at(bytes, p);
-        let FileRead::FileIs(f) = x else {
+        let Some(f) = x else {
             break;
         };
         let a = f.front;

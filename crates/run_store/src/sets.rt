@@ -19,7 +19,7 @@ use crate::grow::{put_offsets, put_targets};
 use crate::turns::next;
 use archive_bytes::number_columns::{fill_i64s, fill_u64s};
 use archive_read::bodies::EdgesAt;
-use archive_read::records::{FileRead, FrontAt, Part, file_at};
+use archive_read::records::{FrontAt, Part, file_at};
 use run_state::{Edges, Held};
 
 // One of the three sets of a file.
@@ -171,9 +171,10 @@ pub fn grow_set(
     let mut n = rows;
     let mut k: usize = 0;
     let mut p = 0;
+    // No `for`: p moves by a file's size.
     while p < bytes.len() {
         let x = file_at(bytes, p);
-        let FileRead::FileIs(f) = x else {
+        let Some(f) = x else {
             break;
         };
         let a = f.front;
@@ -212,6 +213,6 @@ pub fn store_set(h: Held, e: Edges, side: Side, bytes: &[u8]) -> Edges
     Edges {
         count: c,
         offsets: starts,
-        targets: targets,
+        targets,
     }
 }

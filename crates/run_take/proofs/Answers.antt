@@ -1,4 +1,5 @@
 -- What a taking hands back: the run that came, or the run with the archive's files more.
+use Rattle.std.specs.Prelude.{Err, Ok, Result}
 use mathlib.Core.Path.{◌≡◌, refl, sym}
 use mathlib.Core.Bool.{true}
 use mathlib.Core.List.{List, [], ◌∷◌, map, foldl}
@@ -13,8 +14,6 @@ use Rattle.columns.specs.Refusal.{refused, accepted, unless}
 use Rattle.columns.specs.declared.refusal.Refusal.{Refusal}
 use Rattle.columns.specs.declared.refusal.Refusal.TheVariants.{RecordBroken}
 use Rattle.columns.specs.Answers.{ruling}
-use Rattle.columns.specs.declared.refusal.Ruling.{Ruling}
-use Rattle.columns.specs.declared.refusal.Ruling.TheVariants.{Kept, Broken}
 use Rattle.columns.proofs.Told.{told, told-kept}
 use Rattle.archive.specs.File.{File}
 use Rattle.archive.specs.Fits.{FileFits}
@@ -58,17 +57,17 @@ unfolding archive_rules
 archive-kept h broken e = absurd (none-ne-some RecordBroken (sym e))
 archive-kept h (got fs end) e = (e, refl)
 
-module _ (h : Held) (o : Parsed (List File)) {r : Ruling} (v : r ≡ ruling (archive_rules (held_in h) o)) where
+module _ (h : Held) (o : Parsed (List File)) {r : Result (Unit {0}) Refusal} (v : r ≡ ruling (archive_rules (held_in h) o)) where
   -- why it is refused
-  pub not-held : {x : Refusal} → r ≡ Broken x → hold_more kinds (held_in h) o ≡ refused x
+  pub not-held : {x : Refusal} → r ≡ Err x → hold_more kinds (held_in h) o ≡ refused x
   unfolding unless
   not-held q = rw (verdict-is (held_in h) o, told (archive_rules (held_in h) o) v q)
 
-  pub is-refused : {x : Refusal} → r ≡ Broken x → TookBy (hold_more kinds (held_in h) o) h (record { held = h; ruling = Broken x })
+  pub is-refused : {x : Refusal} → r ≡ Err x → {t : Result Held Refusal} → t ≡ Err x → TookBy (hold_more kinds (held_in h) o) t
   unfolding unless
-  is-refused q = rw (verdict-is (held_in h) o, told (archive_rules (held_in h) o) v q) (refl, refl)
+  is-refused q i = rw (verdict-is (held_in h) o, told (archive_rules (held_in h) o) v q) i
 
-  module _ (q : r ≡ Kept) where
+  module _ (q : r ≡ Ok tt) where
     kept : archive_rules (held_in h) o ≡ none
     kept = told-kept (archive_rules (held_in h) o) v q
 
@@ -83,6 +82,6 @@ module _ (h : Held) (o : Parsed (List File)) {r : Ruling} (v : r ≡ ruling (arc
     unfolding unless
     now-held = rw (verdict-is (held_in h) o, kept)
 
-    pub is-accepted : (k : Held) → held_in k ≡ held_after h o → held_ok k ≡ true → ordered k.sheet ≡ true → TookBy (hold_more kinds (held_in h) o) h (record { held = k; ruling = Kept })
+    pub is-accepted : (k : Held) → held_in k ≡ held_after h o → held_ok k ≡ true → ordered k.sheet ≡ true → TookBy (hold_more kinds (held_in h) o) (Ok k)
     unfolding unless
-    is-accepted k a b c = rw (verdict-is (held_in h) o, kept) (refl, a, b, c)
+    is-accepted k a b c = rw (verdict-is (held_in h) o, kept) (k, refl, a, b, c)

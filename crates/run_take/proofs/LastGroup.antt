@@ -1,4 +1,5 @@
 -- What the first file of an archive looks back at: the last group of a sheet.
+use Rattle.std.specs.Prelude.{Result}
 use mathlib.Core.Path.{◌≡◌, refl, sym}
 use mathlib.Core.Bool.{true, false}
 use mathlib.Core.List.{List}
@@ -13,7 +14,6 @@ use Rattle.lists.proofs.Tests.{both}
 use Rattle.lists.proofs.Flat.{length-map-up_from, get_or-map-up_from}
 use Rattle.columns.specs.Limits.{kinds, max_subject, max_groups, end64}
 use Rattle.columns.specs.Answers.{ruling}
-use Rattle.columns.specs.declared.refusal.Ruling.{Ruling}
 use Rattle.archive.specs.File.{File}
 use Rattle.archive.specs.Reader.{Parsed, broken, got}
 use Rattle.cleaning.specs.Held.{look_back, no_facts}
@@ -28,6 +28,7 @@ use Rattle.run_state.specs.order.Long.{LongSheet}
 use Rattle.run_state.proofs.order.TidySheets.{tags-length}
 use Rattle.run_rules.specs.parts.Back.{back_of}
 use Rattle.run_rules.specs.declared.parts.heads.Back.{Back}
+use Rattle.columns.specs.declared.refusal.Refusal.{Refusal}
 use Rattle.run_rules.specs.files.Archive.{rules_of}
 
 -- ── within the limits ────────────────────────────────────────────────────────────────────────
@@ -83,7 +84,7 @@ module _ (s : Sheet) (l : LongSheet s) (k : sheet_ok s ≡ true) where
 
 -- ── the rules of files that look back at it ──────────────────────────────────────────────────
 
-pub looked-back : (s : Sheet) (o : Parsed (List File)) (b : Back) (name : List ℕ) → back_of b name ≡ look_back (sheet_in s) → {r : Ruling}
+pub looked-back : (s : Sheet) (o : Parsed (List File)) (b : Back) (name : List ℕ) → back_of b name ≡ look_back (sheet_in s) → {r : Result (Unit {0}) Refusal}
     → r ≡ ruling (rules_of (back_of b name) o) → r ≡ ruling (files_rules kinds (look_back (sheet_in s)) (files_in o))
 unfolding rules_of files_rules
 looked-back s broken b name e v = v

@@ -1,4 +1,5 @@
 -- The rules of a taking in their order: 23, 42, 43, then file by file.
+use Rattle.std.specs.Prelude.{Err, Ok, Result}
 use mathlib.Core.Path.{◌≡◌, refl, sym, ap, ◌∙◌}
 use mathlib.Core.Bool.{Bool, true, false}
 use mathlib.Core.List.{List, [], ◌∷◌, ◌++◌, map}
@@ -17,14 +18,10 @@ use Rattle.columns.specs.declared.refusal.Refusal.{Refusal}
 use Rattle.columns.specs.declared.refusal.Refusal.TheVariants.{RecordBroken, OverRecords, OverNumbers}
 use Rattle.columns.proofs.FirstBroken.{each_none, not-refused}
 use Rattle.columns.specs.Answers.{ruling}
-use Rattle.columns.specs.declared.refusal.Ruling.{Ruling}
-use Rattle.columns.specs.declared.refusal.Ruling.TheVariants.{Kept, Broken}
 use Rattle.columns.proofs.Told.{told-kept, stops-here, goes_on}
 use Rattle.archive.specs.File.{File}
 use Rattle.archive.specs.Reader.{Parsed, broken, got}
 use Rattle.archive_read.specs.declared.files.Totals.{Totals}
-use Rattle.archive_read.specs.declared.files.Summed.{Summed}
-use Rattle.archive_read.specs.declared.files.Summed.TheVariants as summed
 use Rattle.archive_read.specs.Sums.{totals, totals_of}
 use Rattle.archive_groups.specs.Groups.{files_of, is_read, groups_over}
 use Rattle.cleaning.specs.Held.{records_over, numbers_over, look_back, hold_rules}
@@ -43,33 +40,33 @@ use Rattle.run_take.specs.Known.{KnownOf}
 use Rattle.run_take.specs.Took.{limits_over, archive_rules}
 
 -- what holds of every archive holds of bytes that have sums
-summed-up : (P : Parsed (List File) → Type 0) (o : Parsed (List File)) {t : Totals} → totals_of o ≡ summed.Sums t → ((fs : List File) (end : ℕ) → t ≡ totals fs → P (got fs end)) → P o
+summed-up : (P : Parsed (List File) → Type 0) (o : Parsed (List File)) {t : Totals} → totals_of o ≡ Ok t → ((fs : List File) (end : ℕ) → t ≡ totals fs → P (got fs end)) → P o
 unfolding totals_of
 summed-up P broken e f = absurd (let z : ◌≡◌ {A = ℕ} 0 1 = cc in omega arith)
 summed-up P (got fs end) e f = f fs end (cc)
 
 -- ── 23, 42, 43 ───────────────────────────────────────────────────────────────────────────────────
 
-pub is_read_lem : (o : Parsed (List File)) (t : Totals) → totals_of o ≡ summed.Sums t → is_read o ≡ true
+pub is_read_lem : (o : Parsed (List File)) (t : Totals) → totals_of o ≡ Ok t → is_read o ≡ true
 unfolding is_read
 is_read_lem o t e = summed-up (λ o. is_read o ≡ true) o e (λ fs end z. refl)
 
-pub limits-are : (h : Held) (o : Parsed (List File)) (t : Totals) (g : Bool) → LongHeld h → held_ok h ≡ true → totals_of o ≡ summed.Sums t
-    → g ≡ groups_over h.sheet.groups.count (files_of o) → {r : Ruling} → r ≡ ruling (limit_rules h t g) → r ≡ ruling (limits_over (held_in h) (files_in o))
+pub limits-are : (h : Held) (o : Parsed (List File)) (t : Totals) (g : Bool) → LongHeld h → held_ok h ≡ true → totals_of o ≡ Ok t
+    → g ≡ groups_over h.sheet.groups.count (files_of o) → {r : Result (Unit {0}) Refusal} → r ≡ ruling (limit_rules h t g) → r ≡ ruling (limits_over (held_in h) (files_in o))
 unfolding files_of limit_rules limits_over
 limits-are h o t g l k e f {r} v = summed-up (λ o. g ≡ groups_over h.sheet.groups.count (files_of o) → r ≡ ruling (limits_over (held_in h) (files_in o))) o e
     (λ fs end z f. rw (← references-same fs, ← records-same h l k fs, ← numbers-same h l k fs, ← z, ← f) v) f
 
 -- the number of groups by what is known
-pub limits-known : (h : Held) (k : Known) (o : Parsed (List File)) (t : Totals) (g : Bool) → LongHeld h → held_ok h ≡ true → KnownOf h k → totals_of o ≡ summed.Sums t
-    → g ≡ groups_over k.groups (files_of o) → {r : Ruling} → r ≡ ruling (limit_rules h t g) → r ≡ ruling (limits_over (held_in h) (files_in o))
+pub limits-known : (h : Held) (k : Known) (o : Parsed (List File)) (t : Totals) (g : Bool) → LongHeld h → held_ok h ≡ true → KnownOf h k → totals_of o ≡ Ok t
+    → g ≡ groups_over k.groups (files_of o) → {r : Result (Unit {0}) Refusal} → r ≡ ruling (limit_rules h t g) → r ≡ ruling (limits_over (held_in h) (files_in o))
 limits-known h k o t g l ok w e f v = limits-are h o t g l ok e (f ∙ ap (λ n. groups_over n (files_of o)) w.groups_are) v
 
 within : (m a b : ℕ) → ltb m (a + b) ≡ false → b ≤ m
 within m a b e = omega (arith, ltb-false m (a + b) e)
 
 -- what is within the limits with the run is within them by itself
-limits-within : (h : run.Held) (fs : List File) → limits_over h fs ≡ none → Within (summed.Sums (totals fs))
+limits-within : (h : run.Held) (fs : List File) → limits_over h fs ≡ none → Within (Ok (totals fs))
 unfolding limits_over records_over numbers_over totals
 limits-within h fs e =
     let parts = (each_none _ e).1 in
@@ -101,30 +98,30 @@ pub sheet-ok : (h : Held) → held_ok h ≡ true → sheet_ok h.sheet ≡ true
 unfolding held_ok
 sheet-ok h k = (both (sheet_ok h.sheet) _ k).0
 
-module _ (h : Held) (o : Parsed (List File)) {r : Ruling} (v : r ≡ ruling (limits_over (held_in h) (files_in o))) where
-  pub within_both : (t : Totals) → totals_of o ≡ summed.Sums t → r ≡ Kept → Within (totals_of o)
+module _ (h : Held) (o : Parsed (List File)) {r : Result (Unit {0}) Refusal} (v : r ≡ ruling (limits_over (held_in h) (files_in o))) where
+  pub within_both : (t : Totals) → totals_of o ≡ Ok t → r ≡ Ok tt → Within (totals_of o)
   unfolding totals_of
   within_both t e q = summed-up (λ o. limits_over (held_in h) (files_in o) ≡ none → Within (totals_of o)) o e (λ fs end z n. limits-within (held_in h) fs n)
       (told-kept (limits_over (held_in h) (files_in o)) v q)
 
-  pub over-limits : (x : Refusal) → r ≡ Broken x → Broken x ≡ ruling (hold_rules kinds (held_in h) (files_in o))
+  pub over-limits : (x : Refusal) → r ≡ Err x → Err x ≡ ruling (hold_rules kinds (held_in h) (files_in o))
   over-limits x q = rw (← in_order (held_in h) (files_in o)) (stops-here (limits_over (held_in h) (files_in o)) _ v x q)
 
-  pub then-files : r ≡ Kept → {s : Ruling} → s ≡ ruling (files_rules kinds (look_back (sheet_in h.sheet)) (files_in o)) → s ≡ ruling (hold_rules kinds (held_in h) (files_in o))
+  pub then-files : r ≡ Ok tt → {s : Result (Unit {0}) Refusal} → s ≡ ruling (files_rules kinds (look_back (sheet_in h.sheet)) (files_in o)) → s ≡ ruling (hold_rules kinds (held_in h) (files_in o))
   unfolding held_in
   then-files q e = rw (← in_order (held_in h) (files_in o)) (goes_on (limits_over (held_in h) (files_in o)) _ v q e)
 
 -- ── 23 ───────────────────────────────────────────────────────────────────────────────────────
 
-pub not-archive : (h : run.Held) (o : Parsed (List File)) {x : Summed} {y : Refusal} → x ≡ totals_of o → x ≡ summed.Refused y → Broken y ≡ ruling (archive_rules h o)
+pub not-archive : (h : run.Held) (o : Parsed (List File)) {x : Result Totals Refusal} {y : Refusal} → x ≡ totals_of o → x ≡ Err y → Err y ≡ ruling (archive_rules h o)
 unfolding totals_of archive_rules
 not-archive h broken e f = cc
 not-archive h (got fs end) e f = absurd (let z : ◌≡◌ {A = ℕ} 0 1 = cc in omega arith)
 
-module _ (o : Parsed (List File)) {x : Summed} {t : Totals} (e : x ≡ totals_of o) (f : x ≡ summed.Sums t) where
-  pub sums-known : totals_of o ≡ summed.Sums t
+module _ (o : Parsed (List File)) {x : Result Totals Refusal} {t : Totals} (e : x ≡ totals_of o) (f : x ≡ Ok t) where
+  pub sums-known : totals_of o ≡ Ok t
   sums-known = sym e ∙ f
 
-  pub then-held : (h : run.Held) {r : Ruling} → r ≡ ruling (hold_rules kinds h (files_in o)) → r ≡ ruling (archive_rules h o)
+  pub then-held : (h : run.Held) {r : Result (Unit {0}) Refusal} → r ≡ ruling (hold_rules kinds h (files_in o)) → r ≡ ruling (archive_rules h o)
   unfolding archive_rules
   then-held h {r} v = summed-up (λ o. r ≡ ruling (hold_rules kinds h (files_in o)) → r ≡ ruling (archive_rules h o)) o sums-known (λ fs end z v. v) v

@@ -1,12 +1,11 @@
 -- Document 01, the order of an archive's rules: 23 over the whole archive, its references too, then 42, 43 over the run and the archive together, then file by file. A refused
 -- archive is taken in no part.
-use Rattle.std.specs.Prelude.{◌≡◌, true, List, [], ◌∷◌}
+use Rattle.std.specs.Prelude.{◌≡◌, true, List, [], ◌∷◌, Err, Ok, Result}
 use Rattle.std.proofs.Math.Option.{Option, some}
 use Rattle.columns.specs.Limits.{kinds}
 use Rattle.columns.specs.Refusal.{Verdict, refused, accepted, refuse, first_of}
 use Rattle.columns.specs.declared.refusal.Refusal.{Refusal}
 use Rattle.columns.specs.declared.refusal.Refusal.TheVariants.{RecordBroken, OverRecords, OverNumbers}
-use Rattle.columns.specs.declared.refusal.Ruling.TheVariants.{Kept, Broken}
 use Rattle.archive.specs.File.{File}
 use Rattle.archive.specs.Reader.{Parsed, broken, got}
 use Rattle.cleaning.specs.Held as run
@@ -16,7 +15,6 @@ use Rattle.run_state.specs.declared.Held.{Held}
 use Rattle.run_state.specs.View.{held_in}
 use Rattle.run_state.specs.Valid.{held_ok}
 use Rattle.run_state.specs.order.Ordered.{ordered}
-use Rattle.run_take.specs.declared.Taken.{Taken}
 
 -- 23 of references, then 42, then 43
 unfoldable pub limits_over : run.Held → List File → Option Refusal
@@ -27,7 +25,7 @@ unfoldable pub archive_rules : run.Held → Parsed (List File) → Option Refusa
 archive_rules h broken = some RecordBroken
 archive_rules h (got fs end) = hold_rules kinds h fs
 
--- what a taking hands back: the run that came and why it is refused, or a run that holds what is to be held, fit for the next call
-abbrev pub TookBy : Verdict run.Held → Held → Taken → Type 0
-TookBy (refused x) h r = (r.ruling ≡ Broken x) × (r.held ≡ h)
-TookBy (accepted m) h r = (r.ruling ≡ Kept) × (held_in r.held ≡ m) × (held_ok r.held ≡ true) × (ordered r.held.sheet ≡ true)
+-- what a taking hands back: why it is refused, or what is to be held, fit for the next call
+abbrev pub TookBy : Verdict run.Held → Result Held Refusal → Type 0
+TookBy (refused x) r = r ≡ Err x
+TookBy (accepted m) r = (k : Held) × (r ≡ Ok k) × (held_in k ≡ m) × (held_ok k ≡ true) × (ordered k.sheet ≡ true)

@@ -6,7 +6,6 @@ ghost use Rattle.columns.specs.Limits.{kinds};
 ghost use Rattle.columns.specs.Answers.{ruling};
 ghost use Rattle.archive.specs.Parse.{parse};
 ghost use Rattle.archive_read.specs.Sums.{totals_of};
-ghost use Rattle.archive_read.specs.declared.files.Summed.TheVariants.{Sums};
 ghost use Rattle.cleaning.specs.Taking.{files_rules};
 ghost use Rattle.cleaning.specs.Held.{look_back, hold_rules, hold_more};
 ghost use Rattle.cleaning.specs.History.{files_in};
@@ -19,21 +18,14 @@ ghost use Rattle.run_take.specs.Known.{KnownOf};
 ghost use Rattle.run_take.specs.Took.{limits_over, archive_rules, TookBy};
 
 use archive_groups::groups_over;
-use archive_read::files::{Summed, Totals, sum_up};
-use columns::refusal::Ruling;
+use archive_read::files::{Totals, sum_up};
+use columns::refusal::Refusal;
 use run_rules::files::all::files_rules;
 use run_rules::limits::{count, limit_rules};
 use run_rules::parts::heads::Back;
 use run_state::order::long::{held_long, sheet_long, subject_long};
 use run_state::{Held, Sheet, Subject};
 use run_store::store;
-
-// What is held after a taking, and the first rule that is broken, if one is.
-#[derive(Clone, Copy)]
-pub struct Taken {
-    pub held: Held,
-    pub ruling: Ruling,
-}
 
 // What the first file looks back at, besides the subject.
 fn look_back(s: Sheet) -> Back
@@ -78,15 +70,15 @@ pub fn known_of(h: Held) -> Known
     let back = look_back(h.sheet);
     let subject = h.sheet.subject;
     Known {
-        figures: figures,
+        figures,
         groups: h.sheet.groups.count,
-        back: back,
-        subject: subject,
+        back,
+        subject,
     }
 }
 
 // The rules of an archive's files, the first of which looks back at the rows that are held.
-fn known_rules(h: Held, k: Known, bytes: &[u8]) -> Ruling
+fn known_rules(h: Held, k: Known, bytes: &[u8]) -> Result<(), Refusal>
     requires { (KnownOf h k) × Within (totals_of (parse kinds bytes.now)) }
     ensures { result ≡ ruling (files_rules kinds (look_back (sheet_in h.sheet)) (files_in (parse kinds bytes.now))) }
 {
@@ -99,8 +91,8 @@ fn known_rules(h: Held, k: Known, bytes: &[u8]) -> Ruling
 }
 
 // 23 of references, then 42, then 43: what a run holds and an archive of those sums together.
-fn limits(h: Held, k: Known, bytes: &[u8], t: Totals) -> Ruling
-    requires { (held_ok h ≡ true) × ((KnownOf h k) × (totals_of (parse kinds bytes.now) ≡ Sums t)) }
+fn limits(h: Held, k: Known, bytes: &[u8], t: Totals) -> Result<(), Refusal>
+    requires { (held_ok h ≡ true) × ((KnownOf h k) × (totals_of (parse kinds bytes.now) ≡ Ok t)) }
     ensures { result ≡ ruling (limits_over (held_in h) (files_in (parse kinds bytes.now))) }
 {
     held_long(h);
@@ -110,49 +102,30 @@ fn limits(h: Held, k: Known, bytes: &[u8], t: Totals) -> Ruling
 }
 
 // 23 of references, 42, 43, then file by file.
-fn hold_rules(h: Held, k: Known, bytes: &[u8], t: Totals) -> Ruling
-    requires { (held_ok h ≡ true) × ((KnownOf h k) × (totals_of (parse kinds bytes.now) ≡ Sums t)) }
+fn hold_rules(h: Held, k: Known, bytes: &[u8], t: Totals) -> Result<(), Refusal>
+    requires { (held_ok h ≡ true) × ((KnownOf h k) × (totals_of (parse kinds bytes.now) ≡ Ok t)) }
     ensures { result ≡ ruling (hold_rules kinds (held_in h) (files_in (parse kinds bytes.now))) }
 {
-    let r = limits(h, k, bytes, t);
-    match r {
-        Ruling::Broken(x) => Ruling::Broken(x),
-        Ruling::Kept => known_rules(h, k, bytes),
-    }
+    limits(h, k, bytes, t)?;
+    known_rules(h, k, bytes)
 }
 
 // 23, then the others, by what is known of what is held, which itself is not read.
 // Not inlined, so that its columns and those of the steps beside it do not stand on the stack at once.
 #[inline(never)]
-pub fn rules_by(h: Held, k: Known, bytes: &[u8]) -> Ruling
+pub fn rules_by(h: Held, k: Known, bytes: &[u8]) -> Result<(), Refusal>
     requires { (held_ok h ≡ true) × (KnownOf h k) }
     ensures { result ≡ ruling (archive_rules (held_in h) (parse kinds bytes.now)) }
 {
-    let x = sum_up(bytes);
-    match x {
-        Summed::Refused(y) => Ruling::Broken(y),
-        Summed::Sums(t) => hold_rules(h, k, bytes, t),
-    }
+    let t = sum_up(bytes)?;
+    hold_rules(h, k, bytes, t)
 }
 
-// What a run holds with an archive more; a refused archive leaves it as it was.
-pub fn take(h: Held, bytes: &[u8]) -> Taken
+// What a run holds with an archive more, or the first rule that is broken.
+pub fn take(h: Held, bytes: &[u8]) -> Result<Held, Refusal>
     requires { (held_ok h ≡ true) × (ordered h.sheet ≡ true) }
-    ensures { TookBy (hold_more kinds (held_in h) (parse kinds bytes.now)) h result }
+    ensures { TookBy (hold_more kinds (held_in h) (parse kinds bytes.now)) result }
 {
-    let k = known_of(h);
-    let r = rules_by(h, k, bytes);
-    match r {
-        Ruling::Broken(x) => Taken {
-            held: h,
-            ruling: Ruling::Broken(x),
-        },
-        Ruling::Kept => {
-            let q = store(h, bytes);
-            Taken {
-                held: q,
-                ruling: Ruling::Kept,
-            }
-        }
-    }
+    rules_by(h, known_of(h), bytes)?;
+    Ok(store(h, bytes))
 }

@@ -8,7 +8,7 @@ ghost use Rattle.run_text.specs.lines.Parts.{spaced, new_text, map_text, head_te
 
 use crate::numbers::{put_byte, put_decimal, put_signed};
 use archive_bytes::number_columns::store_bytes;
-use columns::refusal::{Refusal, number};
+use columns::refusal::Refusal;
 
 // ── parts of a line ──────────────────────────────────────────────────────────────────────────
 
@@ -43,11 +43,9 @@ pub fn put_numbers(out: &mut [u8], at: usize, xs: &[u64]) -> usize
     requires { at + 21 * length xs.now ≤ length out.old }
     ensures { Wrote (spaced (map decimal xs.now)) (21 * length xs.now) out.old at out.new result }
 {
-    let mut i = 0;
     let mut p = at;
-    while i < xs.len() {
-        p = put_number(out, p, xs[i]);
-        i += 1;
+    for &x in xs {
+        p = put_number(out, p, x);
     }
     p
 }
@@ -56,11 +54,9 @@ pub fn put_deltas(out: &mut [u8], at: usize, ds: &[i64]) -> usize
     requires { at + 21 * length ds.now ≤ length out.old }
     ensures { Wrote (spaced (map signed ds.now)) (21 * length ds.now) out.old at out.new result }
 {
-    let mut i = 0;
     let mut p = at;
-    while i < ds.len() {
-        p = put_delta(out, p, ds[i]);
-        i += 1;
+    for &d in ds {
+        p = put_delta(out, p, d);
     }
     p
 }
@@ -81,7 +77,7 @@ pub fn put_refused(out: &mut [u8], at: usize, refusal: Refusal) -> usize
     requires { at + 29 ≤ length out.old }
     ensures { Wrote (refused_line refusal) 29 out.old at out.new result }
 {
-    put_line(out, at, b"refused", number(refusal))
+    put_line(out, at, b"refused", refusal.number())
 }
 
 // How many survivors were reparented.

@@ -1,4 +1,5 @@
 -- The parts of a sheet's columns and of the arrays prepared for it that are lent, and what is known of them.
+use Rattle.std.specs.Prelude.{Result}
 use mathlib.Core.Path.{◌≡◌, sym, ◌∙◌}
 use mathlib.Core.Bool.{true}
 use mathlib.Core.List.{List}
@@ -12,7 +13,6 @@ use Rattle.lists.proofs.Tests.{both}
 use Rattle.columns.specs.Limits.{max_subject, end64}
 use Rattle.cleaning.specs.Sections.{Filled}
 use Rattle.run_state.specs.declared.Sheet.{Sheet}
-use Rattle.run_state.specs.declared.Writing.{Writing}
 use Rattle.run_state.specs.Valid.{counts_ok, sheet_ok}
 use Rattle.run_state.specs.View.{sheet_in}
 use Rattle.run_state.specs.order.Ordered.{filled}
@@ -26,6 +26,7 @@ use Rattle.run_section.specs.Covers.{CoversAt}
 use Rattle.run_section.specs.Prepared.{LaidBy, PreparedBy, subject_in, offsets_in, targets_in}
 use Rattle.run_records.specs.Files.{Stores}
 use Rattle.run_records.proofs.LaidStores.{laid-stores}
+use Rattle.columns.specs.declared.refusal.Refusal.{Refusal}
 use Rattle.run_write.specs.Answers.{Wrote}
 
 -- ── the sheet's columns ──────────────────────────────────────────────────────────────────────
@@ -96,6 +97,6 @@ module _ (s : Sheet) (p : Prepared) (rows unresolved roots links starts kids ran
   pub stores : Stores p.counts rows unresolved links ranges
   stores = rw d.tables.counts_are (laid-stores s rows unresolved roots links ranges d.tables.laid (omega (arith, d.long_ranges)))
 
-  pub wrote-laid : {was is : List ℕ} {r : Writing}
+  pub wrote-laid : {was is : List ℕ} {r : Result ℕ Refusal}
       → Wrote (sheet_of p.counts (subject_in s) s.groups rows unresolved roots links (offsets_in s) (targets_in s)) was is r → Wrote (sheet_in s) was is r
   wrote-laid w = rw (sheet_is s p rows unresolved roots links starts kids d.tables) at w

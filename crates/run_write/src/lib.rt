@@ -13,12 +13,12 @@ ghost use Rattle.run_section.specs.Prepared.{PreparedBy};
 ghost use Rattle.run_records.specs.Files.{Stores};
 ghost use Rattle.run_write.specs.Answers.{Wrote};
 
-use columns::refusal::{Refusal, Ruling};
+use columns::refusal::Refusal;
 use run_records::files::put_groups;
 use run_records::lengths::measure;
 use run_section::prepare::{Prepared, prepare};
 use run_state::order::long::sheet_long;
-use run_state::{Groups, Sheet, Writing};
+use run_state::{Groups, Sheet};
 
 // Writes the archive of survivors in tables, unless a rule refuses it or it has no room: every group's rules and the length of its file come first,
 // so that a refusal leaves the lent bytes as they were.
@@ -36,7 +36,7 @@ fn write_tables(
     starts: &[u64],
     kids: &[u64],
     out: &mut [u8],
-) -> Writing
+) -> Result<usize, Refusal>
     requires ready { Ready p.counts subject.now groups rows.now unresolved.now roots.now links.now offsets.now targets.now }
     requires children { (Children p.counts offsets.now targets.now starts.now kids.now) × (CoversAt p.counts groups rows.now ranges.now p.covers) }
     requires stores { Stores p.counts rows.now unresolved.now links.now ranges.now }
@@ -46,24 +46,17 @@ fn write_tables(
 {
     let z = p.counts;
     let covers = p.covers;
-    let m = measure(
+    let n = measure(
         z, subject, groups, covers, rows, unresolved, roots, links, offsets, targets, starts, kids,
-    );
-    let v = m.ruling;
-    match v {
-        Ruling::Broken(x) => Writing::Refused(x),
-        Ruling::Kept => {
-            let n = m.length;
-            if out.len() < n {
-                return Writing::Refused(Refusal::SliceShort);
-            }
-            put_groups(
-                z, subject, groups, covers, rows, unresolved, roots, links, ranges, offsets,
-                targets, starts, kids, out,
-            );
-            Writing::Length(n)
-        }
+    )?;
+    if out.len() < n {
+        return Err(Refusal::SliceShort);
     }
+    put_groups(
+        z, subject, groups, covers, rows, unresolved, roots, links, ranges, offsets, targets,
+        starts, kids, out,
+    );
+    Ok(n)
 }
 
 // The same of a sheet whose tables, children and ranges stand in lent arrays.
@@ -78,7 +71,7 @@ fn write_laid(
     kids: &[u64],
     ranges: &[u64],
     out: &mut [u8],
-) -> Writing
+) -> Result<usize, Refusal>
     requires s_value { (sheet_ok s ≡ true) × (filled s ≡ true) }
     requires prepared_by { PreparedBy s rows.now unresolved.now roots.now links.now starts.now kids.now ranges.now p }
     ensures { Wrote (sheet_in s) out.old out.new result }
@@ -109,7 +102,7 @@ fn write_laid(
 }
 
 // Writes the archive of a sheet, unless a rule refuses it or it has no room.
-pub fn write_sheet(s: Sheet, out: &mut [u8]) -> Writing
+pub fn write_sheet(s: Sheet, out: &mut [u8]) -> Result<usize, Refusal>
     requires { (sheet_ok s ≡ true) × ((ordered s ≡ true) × ((filled s ≡ true) × (once_ok s ≡ true))) }
     ensures { Wrote (sheet_in s) out.old out.new result }
 {

@@ -9,8 +9,8 @@ returns-then-not-is_taking c = search (rules, taking-is, resolve-late)
 pub resolve-q-requires : goal.resolve-q-requires
 resolve-q-requires c = search (rules, taking-is, sources-valid, sources-order)
 
-pub returns-in-Broken : goal.returns-in-Broken
-returns-in-Broken c = search (rules, taking-is, resolve-refused)
+pub returns-in-Err : goal.returns-in-Err
+returns-in-Err c = search (rules, taking-is, resolve-refused)
 
-pub returns-in-Kept : goal.returns-in-Kept
-returns-in-Kept c = search (rules, taking-is, resolve-done)
+pub returns-in-Ok : goal.returns-in-Ok
+returns-in-Ok c = search (rules, taking-is, resolve-done)

@@ -6,11 +6,11 @@ use Rattle.run.proofs.take.Goals as goal
 pub returns-then-not-is_taking : goal.returns-then-not-is_taking
 returns-then-not-is_taking c = search (rules, taking-is, take-late)
 
-pub take-t-requires : goal.take-t-requires
-take-t-requires c = search (rules, taking-is, sources-valid, sources-order)
+pub take-requires : goal.take-requires
+take-requires c = search (rules, taking-is, sources-valid, sources-order)
 
-pub returns-in-Broken : goal.returns-in-Broken
-returns-in-Broken c = search (rules, taking-is, take_refused)
+pub returns-in-Err : goal.returns-in-Err
+returns-in-Err c = search (rules, taking-is, take_refused)
 
-pub returns-in-Kept : goal.returns-in-Kept
-returns-in-Kept c = search (rules, taking-is, take_done)
+pub returns-in-Ok : goal.returns-in-Ok
+returns-in-Ok c = search (rules, taking-is, take_done)

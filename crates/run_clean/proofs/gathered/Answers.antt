@@ -5,7 +5,7 @@ use Rattle.run_clean.proofs.Gathers.{flags_long, rows_end, edges-form, front-few
 use Rattle.run_clean.proofs.gathered.Goals as goal
 
 pub returns-then-groups-eq0 : goal.returns-then-groups-eq0
-returns-then-groups-eq0 c = no-file _ _ _ c.grow_names-names.ensures _ c.if-groups-eq0.true c.refused.ensures
+returns-then-groups-eq0 c = no-file _ _ _ c.grow_names-names.ensures c.if-groups-eq0.true
 
 pub fill_rows-n-requires-clause-alone : goal.fill_rows-n-requires-clause-alone
 fill_rows-n-requires-clause-alone c = c.requires
@@ -20,7 +20,7 @@ slice_bounds-fill_lists-end c = let d = c.grow_names-names.ensures in
 pub returns-in_default : goal.returns-in_default
 returns-in_default c = let d = c.grow_names-names.ensures in
     too_many _ _ _ d c.fill_rows-n.ensures.seqs_after c.fill_rows-n.ensures.flags_after c.if-groups-eq0.false _ _ _
-    c.fill_lists-g.ensures _ c.in_default.is c.refused-in_default.ensures
+    c.fill_lists-g.ensures c.in_default.is
 
 pub slice_bounds-flags-end : goal.slice_bounds-flags-end
 slice_bounds-flags-end c = let d = c.grow_names-names.ensures in
@@ -57,7 +57,7 @@ is_filled-requires c = sheet-counted _ _ _
     c.fill_rows-n.ensures.flags_after
     c.if-groups-eq0.false _ _ _
     c.fill_lists-g.ensures _
-    c.in-Upto.is _ _ _ _
+    c.in-Some.is _ _ _ _
     c.fill_unresolved-u.ensures.result_after
     c.fill_unresolved-u.ensures.upper_bound
     c.fill_roots-r.ensures.result_after
@@ -124,14 +124,14 @@ returns-then-not-is_filled c = one-empty _ _ _
     c.fill_rows-n.ensures.flags_after
     c.if-groups-eq0.false _ _ _
     c.fill_lists-g.ensures _
-    c.in-Upto.is _ _ _ _
+    c.in-Some.is _ _ _ _
     c.fill_unresolved-u.ensures.result_after
     c.fill_unresolved-u.ensures.upper_bound
     c.fill_roots-r.ensures.result_after
     c.fill_roots-r.ensures.upper_bound
     c.fill_links-l.ensures
     c.keep_rows-k.ensures
-    c.sheet_long.ensures c.is_filled.ensures _ (ap not c.if-not-is_filled.true) c.refused-then-not-is_filled.ensures
+    c.sheet_long.ensures c.is_filled.ensures (ap not c.if-not-is_filled.true)
 
 pub returns : goal.returns
 returns c = all-full _ _ _
@@ -140,7 +140,7 @@ returns c = all-full _ _ _
     c.fill_rows-n.ensures.flags_after
     c.if-groups-eq0.false _ _ _
     c.fill_lists-g.ensures _
-    c.in-Upto.is _ _ _ _
+    c.in-Some.is _ _ _ _
     c.fill_unresolved-u.ensures.result_after
     c.fill_unresolved-u.ensures.upper_bound
     c.fill_roots-r.ensures.result_after

@@ -1,4 +1,5 @@
 -- One slot more of a row that survives: the table after it, and one turn of the loop over the slots.
+use Rattle.std.specs.Prelude.{Some}
 use mathlib.Core.Path.{◌≡◌, refl, sym, ◌∙◌, ap}
 use mathlib.Core.Bool.{Bool, true, false, cond, not}
 use mathlib.Core.List.{List, [], ◌∷◌, ◌++◌, append-nil, append_assoc}
@@ -13,7 +14,6 @@ use Rattle.lists.specs.Lists.{flat, part, up_from}
 use Rattle.columns.specs.Limits.{kinds}
 use Rattle.columns.specs.EdgeSet.{from_to, offsets_form, cut}
 use Rattle.columns.proofs.Offsets.{cut_at}
-use Rattle.run_renumber.specs.declared.Grown.TheVariants.{Upto}
 use Rattle.run_renumber.specs.Answers.{Grew, Built}
 use Rattle.run_renumber.proofs.Tables.{table-rises, table-within, form-length, form-table}
 use Rattle.run_renumber.proofs.Slots.{slot_added, built-same, built-cut, rows-length}
@@ -54,7 +54,7 @@ module _ (offsets targets : List ℕ) (s : ℕ) (h : s + 1 < length offsets) (ok
           holds = ap (drop end) t ∙ drop_at (take end all) (slice a b targets) end full;
         } in
         let same : slice a b targets ≡ get_or (cut offsets targets) s [] = rw (e, f) (sym (cut_at offsets targets s h)) in
-        rw (← same) (slot_added offs all k end lists built (Upto m) all' (slice a b targets) g m refl n)
+        rw (← same) (slot_added offs all k end lists built (Some m) all' (slice a b targets) g m refl n)
 
 -- ── the loop over the slots ──────────────────────────────────────────────────────────────────
 

@@ -1,3 +1,5 @@
+use mathlib.Core.Path.{refl}
+use Rattle.columns.proofs.Handed.{handed-on}
 use Rattle.run_list.proofs.Answered.{rows_fit, need-fits, list-refused, in_reach, list-short, list_all}
 use Rattle.run_list.proofs.BySheet.{tabled}
 use borrow.Author.Rules.{rules}
@@ -17,19 +19,19 @@ overflow_add-h c = let pre = c.requires in search
 pub returns-then-out-h : goal.returns-then-out-h
 returns-then-out-h c = let pre = c.requires in
     list-short _ pre.h_value.0 pre.h_value.1 c.held_long.ensures _ _ _ _ _ _ _ _ _ pre.ready pre.filled
-    c.measure-m.ensures
-    c.in-Kept.is pre.children.0 c.need_files-bytes.ensures.0 _ c.if-out-h.true
+    c.measure.ensures
+    c.in_ok-measure.was pre.children.0 c.need_files-bytes.ensures.0 _ c.if-out-h.true
 
-pub returns-in-Broken : goal.returns-in-Broken
-returns-in-Broken c = let pre = c.requires in
+pub returns-in_err-measure : goal.returns-in_err-measure
+returns-in_err-measure c = let pre = c.requires in
     list-refused _ pre.h_value.0 pre.h_value.1 c.held_long.ensures _ _ _ _ _ _ _ _ _ pre.ready pre.filled
-    c.measure-m.ensures _ _ c.in-Broken.is
+    c.measure.ensures _ _ c.in_err-measure.was (handed-on _ c.from_residual.ensures refl)
 
-pub returns-else-out-h : goal.returns-else-out-h
-returns-else-out-h c = let pre = c.requires in
+pub returns : goal.returns
+returns c = let pre = c.requires in
     list_all _ pre.h_value.0 pre.h_value.1 c.held_long.ensures _ _ _ _ _ _ _ _ _
-    pre.ready pre.filled c.measure-m.ensures
-    c.in-Kept.is pre.children.0
+    pre.ready pre.filled c.measure.ensures
+    c.in_ok-measure.was pre.children.0
     c.need_files-bytes.ensures.0 c.if-out-h.false c.put_listing.ensures
 
 pub put_listing-requires : goal.put_listing-requires
@@ -38,8 +40,8 @@ put_listing-requires c = let pre = c.requires in
       h_value = pre.h_value;
       tabled = (
         tabled _ _ _ _ _ _ _ _ _ pre.ready pre.children.0,
-        in_reach _ pre.h_value.0 pre.h_value.1 c.held_long.ensures _ _ _ _ _ _ _ _ _ pre.ready pre.filled c.measure-m.ensures
-            c.in-Kept.is pre.children.0,
+        in_reach _ pre.h_value.0 pre.h_value.1 c.held_long.ensures _ _ _ _ _ _ _ _ _ pre.ready pre.filled c.measure.ensures
+            c.in_ok-measure.was pre.children.0,
       );
       kids_in_bounds = search rules;
     }

@@ -6,14 +6,14 @@ use Rattle.run_renumber.proofs.add_slots.Goals as goal
 pub loop-s-init : goal.loop-s-init
 loop-s-init c = (search rules, search rules, search rules, search begin-cut, search begin-lists)
 
-pub add_slot-g-requires-clause-s_bound : goal.add_slot-g-requires-clause-s_bound
-add_slot-g-requires-clause-s_bound c = (search rules, (search rules, search form-length))
+pub add_slot-requires-clause-s_bound : goal.add_slot-requires-clause-s_bound
+add_slot-requires-clause-s_bound c = (search rules, (search rules, search form-length))
 
 pub loop-s-preserved : goal.loop-s-preserved
-loop-s-preserved c = (search rules, search rules, search rules, search slots-built, search slots-more)
+loop-s-preserved c = (search rules, search rules, search rules, search (slots-built, c.in_ok-end.was), search (slots-more, c.in_ok-end.was))
 
-pub returns-in-Full : goal.returns-in-Full
-returns-in-Full c = search slots-full
+pub returns-in_err-end : goal.returns-in_err-end
+returns-in_err-end c = rw c.from_residual.ensures (search (slots-full, c.in_err-end.was))
 
 pub returns : goal.returns
 returns c = search all-built

@@ -1,7 +1,7 @@
 -- The invariant: the table holds the lists of the slots passed, and all lists are those with the ones of the slots that are left.
 use mathlib.Core.List.{[]}
 use mathlib.Core.Path.{◌≡◌}
-use Prim.Native.Nat.{◌≤◌, ◌+◌, ◌-◌, ◌*◌}
+use Prim.Native.Nat.{◌≤◌, ◌+◌, ◌*◌}
 use lib.ListN.{length, take, drop}
 use Rattle.columns.specs.EdgeSet.{cut}
 use Rattle.columns.specs.Limits.{kinds}
@@ -15,6 +15,3 @@ invariant-loop-s l =
     × Built l.offs l.all l.s l.end (cut (take (l.s + 1) l.offs) (take l.end l.all))
     × (new_lists_from kinds l.start l.flags l.numbers [] (cut l.offsets l.targets)
     ≡ new_lists_from kinds l.start l.flags l.numbers (cut (take (l.s + 1) l.offs) (take l.end l.all)) (drop l.s (cut l.offsets l.targets)))
-
-abbrev pub decreases-loop-s : goal.decreases-loop-s
-decreases-loop-s l = kinds * length l.flags - l.s

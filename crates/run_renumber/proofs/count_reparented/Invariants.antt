@@ -12,6 +12,3 @@ abbrev pub invariant-loop-i : goal.invariant-loop-i
 invariant-loop-i l =
     (l.i ≤ length l.flags) × (l.n ≤ l.i)
     × (reparented kinds l.start l.flags (cut l.offsets l.targets) ≡ l.n + length (filter (is_reparented kinds l.start l.flags (cut l.offsets l.targets)) (up_from l.i (length l.flags - l.i))))
-
-abbrev pub decreases-loop-i : goal.decreases-loop-i
-decreases-loop-i l = length l.flags - l.i

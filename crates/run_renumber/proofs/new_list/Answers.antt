@@ -6,14 +6,14 @@ use Rattle.run_renumber.proofs.new_list.Goals as goal
 pub loop-i-init : goal.loop-i-init
 loop-i-init c = (search rules, search rules, search rules, search rules, search rules, search list-begins)
 
-pub add_parent-g-requires-clause-base_le_end : goal.add_parent-g-requires-clause-base_le_end
-add_parent-g-requires-clause-base_le_end c = (search rules, search rules)
+pub add_parent-requires-clause-base_le_end : goal.add_parent-requires-clause-base_le_end
+add_parent-requires-clause-base_le_end c = (search rules, search rules)
 
 pub loop-i-preserved : goal.loop-i-preserved
-loop-i-preserved c = (search rules, search above-now, search room-now, search rules, search kept-now, search list-more)
+loop-i-preserved c = let e = c.in_ok-n.was in (search rules, search (above-now, e), search (room-now, e), search rules, search (kept-now, e), search (list-more, e))
 
-pub returns-in-Full : goal.returns-in-Full
-returns-in-Full c = search list_full
+pub returns-in_err-n : goal.returns-in_err-n
+returns-in_err-n c = rw c.from_residual.ensures (search (list_full, c.in_err-n.was))
 
 pub returns : goal.returns
 returns c = search list_done

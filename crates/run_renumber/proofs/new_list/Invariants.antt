@@ -1,7 +1,7 @@
 -- The invariant: what lies below base stands, and the new list is the one grown so far with the parents that are left.
 use mathlib.Core.List.{foldl}
 use mathlib.Core.Path.{◌≡◌}
-use Prim.Native.Nat.{◌≤◌, ◌+◌, ◌-◌}
+use Prim.Native.Nat.{◌≤◌, ◌+◌}
 use lib.ListN.{length, take}
 use lib.Seq.{slice}
 use Rattle.columns.specs.Limits.{kinds}
@@ -14,6 +14,3 @@ invariant-loop-i l =
     (l.i ≤ l.b) × (l.base ≤ l.n) × (l.n ≤ length l.all) × (length l.all ≡ length l.initial.all) × (take l.base l.all ≡ take l.base l.initial.all)
     × (new_list kinds l.start l.flags l.numbers l.kind (cut (take (l.s + 1) l.offs) (take l.base l.initial.all)) (slice l.a l.b l.parents)
     ≡ foldl (add_parent kinds l.start l.flags l.numbers l.kind (cut (take (l.s + 1) l.offs) (take l.base l.initial.all))) (slice l.base l.n l.all) (slice l.i l.b l.parents))
-
-abbrev pub decreases-loop-i : goal.decreases-loop-i
-decreases-loop-i l = l.b - l.i

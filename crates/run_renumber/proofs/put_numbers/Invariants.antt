@@ -1,6 +1,6 @@
 -- The invariant: the numbers still to be stored start at `start + n`, and the survivors still to be counted come on top of n.
 use mathlib.Core.Path.{◌≡◌}
-use Prim.Native.Nat.{◌≤◌, ◌+◌, ◌-◌}
+use Prim.Native.Nat.{◌≤◌, ◌+◌}
 use lib.ListN.{length, drop}
 use lib.Seq.{sets}
 use Rattle.run_renumber.specs.Numbers.{numbers_from, survivors}
@@ -11,6 +11,3 @@ invariant-loop-i l =
     (l.i ≤ length l.flags) × (l.n ≤ l.i) × (length l.numbers ≡ length l.initial.numbers)
     × (sets l.initial.numbers 0 (numbers_from l.start l.flags) ≡ sets l.numbers l.i (numbers_from (l.start + l.n) (drop l.i l.flags)))
     × (survivors l.flags ≡ l.n + survivors (drop l.i l.flags))
-
-abbrev pub decreases-loop-i : goal.decreases-loop-i
-decreases-loop-i l = length l.flags - l.i

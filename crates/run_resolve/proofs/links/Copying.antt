@@ -1,19 +1,21 @@
 -- Columns filled from a place on, and the end of a group: one turn of each loop, and each of its answers.
 use mathlib.Core.Path.{◌≡◌, sym, ap, ◌∙◌}
 use mathlib.Core.Bool.{true}
-use mathlib.Core.List.{List, [], ◌∷◌, ◌++◌, append-nil, append_assoc}
+use mathlib.Core.List.{List, [], ◌∷◌, ◌++◌}
 use Prim.Native.Nat.{ℕ, suc, ◌+◌, ◌-◌, ◌≤◌, ◌<◌}
 use native.Mathlib.Numerals.{add-one}
 use native.Mathlib.Omega.{arith}
 use lib.Dec.{eqb, leb}
-use lib.ListN.{length, get_or, set, take, drop, replicate}
-use lib.Seq.{slice, slice-cons, slice_empty, take-suc-set, take-take, take_at, drop_at, length-take-le}
+use lib.ListN.{length, length-drop, get_or, take, drop, replicate, length-replicate}
+use lib.Seq.{slice, slice-cons, slice_empty, take-take, take_at, drop_at, length-take-le}
 use borrow.Author.Tests.{leb-true, le-leb, eq-eqb}
+use borrow.Rule.Slice.PartMut.{put_mid}
+use Rattle.std.proofs.lemmas.Slice.{take-put_mid}
 use Rattle.lists.specs.Lists.{all}
 use Rattle.lists.specs.Order.{level_above}
 use Rattle.lists.proofs.Tests.{both, all-each, all-of}
 use Rattle.lists.proofs.Each.{each_append}
-use Rattle.lists.proofs.Slices.{slice-none, slice_snoc}
+use Rattle.lists.proofs.Slices.{slice_snoc}
 use Rattle.run_resolve.specs.links.Sorted.{Appended}
 
 -- ── copies ───────────────────────────────────────────────────────────────────────────────────
@@ -27,22 +29,15 @@ behind was all vs end m e h l =
       added = ap (drop end) e ∙ drop_at (take end was) vs end q;
     }
 
-pub fill_start : (m g : ℕ) (xs : List ℕ) → xs ++ replicate m g ≡ xs ++ replicate (m - 0) g
-fill_start m g xs = let z : m - 0 ≡ m = omega arith in rw z
-
-pub fill_done : (was all : List ℕ) (g end n i m : ℕ) → take end was ++ replicate m g ≡ take n all ++ replicate (m - i) g → n ≡ end + i → i ≤ m → m ≤ i
-    → end + m ≤ 1024 → length was ≡ 1024 → Appended end m was all (replicate m g)
-fill_done was all g end n i m e f h k o l =
-    let q : end + m ≡ n = omega arith in
-    let z : m - i ≡ 0 = omega arith in
-    behind was all (replicate m g) end m (rw (q, e, z, append-nil)) o l
-
-pub fill_on : {t : List ℕ} (all : List ℕ) (g end n i m : ℕ) → t ≡ take n all ++ replicate (m - i) g → n ≡ end + i → i < m → end + m ≤ 1024 → length all ≡ 1024
-    → t ≡ take (n + 1) (set all n g) ++ replicate (m - (i + 1)) g
-fill_on all g end n i m e f h o l =
-    let b : n < length all = omega arith in
-    let z : m - i ≡ suc (m - (i + 1)) = omega arith in
-    e ∙ ap (λ k. take n all ++ replicate k g) z ∙ rw (add-one n, take-suc-set all n g b, append_assoc)
+-- a part that is filled
+pub filled : (was now : List ℕ) (g end m : ℕ) → now ≡ replicate (length (take ((end + m) - end) (drop end was))) g → end + m ≤ 1024 → length was ≡ 1024
+    → Appended end m was (put_mid end ((end + m) - end) was now) (replicate m g)
+filled was now g end m e h l =
+    let k : length (take ((end + m) - end) (drop end was)) ≡ m =
+    length-take-le ((end + m) - end) (drop end was) (omega (arith, length-drop end was)) ∙ omega arith in
+    let f : now ≡ replicate m g = e ∙ ap (λ n. replicate n g) k in
+    let n : length now ≡ m = ap length f ∙ length-replicate m g in
+    behind was _ (replicate m g) end m (take-put_mid end ((end + m) - end) was now (end + m) (omega (arith, n)) (omega arith) ∙ ap (λ x. take end was ++ x) f) h l
 
 -- ── the end of a group ───────────────────────────────────────────────────────────────────────
 
@@ -51,11 +46,14 @@ module _ (g i n p : ℕ) (groups : List ℕ) (l : n ≤ length groups) where
   unfolding all
   end-start = rw (slice_empty i groups)
 
-  module _ (o : level_above g (slice p n groups) ≡ true) where
-    pub end-last : n ≤ p → level_above (g + 1) (slice p n groups) ≡ true
-    unfolding level_above
-    end-last h = rw (slice-none p n groups h)
+  pub end-last : level_above (g + 1) (slice n n groups) ≡ true
+  unfolding level_above
+  end-last = rw (slice_empty n groups)
 
+  pub end-all : n ≤ p → p ≤ n → all (eqb g) (slice i p groups) ≡ true → all (eqb g) (slice i n groups) ≡ true
+  end-all h k a = let e : p ≡ n = omega arith in rw e at a
+
+  module _ (o : level_above g (slice p n groups) ≡ true) where
     module _ (h : p < n) where
       parts : (leb g (get_or groups p 0) ≡ true) × (level_above (get_or groups p 0) (slice (suc p) n groups) ≡ true)
       unfolding level_above

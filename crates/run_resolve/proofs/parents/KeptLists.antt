@@ -1,21 +1,20 @@
 -- The lists of the survivors, by the table that is built of them.
+use Rattle.std.specs.Prelude.{None, Some, Option}
 use mathlib.Core.Path.{◌≡◌, refl, sym, ap, ◌∙◌}
-use mathlib.Core.Bool.{true, false, not, true≢false}
+use mathlib.Core.Bool.{true, not}
 use mathlib.Core.List.{List}
 use Prim.Native.Nat.{ℕ, ◌+◌, ◌*◌, ◌^◌, ◌-◌, ◌≤◌, ◌<◌}
 use native.Mathlib.Omega.{arith}
 use lib.Dec.{eqb}
 use lib.ListN.{length, take, length-map}
 use lib.Seq.{length-take-le}
-use borrow.Author.Tests.{le-leb, lt-ltb, le-ltb}
+use borrow.Author.Tests.{le-leb}
 use Rattle.lists.specs.Lists.{part, joined, up_from}
 use Rattle.lists.proofs.Flat.{length-up_from}
 use Rattle.lists.proofs.Filters.{each_below}
 use Rattle.columns.specs.Limits.{kinds, max_numbers}
 use Rattle.columns.proofs.Served.{kinds-served}
 use Rattle.columns.specs.EdgeSet.{offsets_form, cut}
-use Rattle.run_renumber.specs.declared.Grown.{Grown}
-use Rattle.run_renumber.specs.declared.Grown.TheVariants.{Upto, Full}
 use Rattle.run_renumber.specs.NewLists.{new_lists}
 use Rattle.run_renumber.specs.Answers.{Built, Result}
 use Rattle.run_renumber.proofs.Slots.{built-form, built-cut, built-fits, rows-length}
@@ -29,7 +28,7 @@ use Rattle.run_compact.specs.Columns.{gone, survive}
 use Rattle.run_resolve.proofs.sheet.KeptColumns.{front_length}
 use Rattle.run_resolve.proofs.sheet.Asking.{form-here, edges_few, edges-table}
 use Rattle.run_state.specs.ByColumns.{edges_of}
-use Rattle.run_resolve.specs.parents.Renewal.{EdgesKept, Renewal, renewed_of}
+use Rattle.run_resolve.specs.parents.Renewal.{EdgesKept, RenewedTo, Renewal, renewed_of}
 
 -- ── rows under their count ───────────────────────────────────────────────────────────────────
 
@@ -43,7 +42,7 @@ module _ (n : ℕ) (flags : List ℕ) (h : n ≤ 1024) (l : length flags ≡ 102
   pub numbers-room : (numbers : List ℕ) → length numbers ≡ 1024 → length (take n flags) ≤ length numbers
   numbers-room numbers k = omega (arith, front_length n flags h l)
 
-  pub lists-counted : (r : Grown) (offs all : List ℕ) (lists : List (List ℕ)) → Result r offs all (kinds * length (take n flags)) lists → Result r offs all (2 * n) lists
+  pub lists-counted : (r : Option ℕ) (offs all : List ℕ) (lists : List (List ℕ)) → Result r offs all (kinds * length (take n flags)) lists → Result r offs all (2 * n) lists
   lists-counted r offs all lists b = rw (front_length n flags h l) at b
 
 pub numbers-held : (m : ℕ) (targets all : List ℕ) → m ≤ 4096 → length targets ≡ 4096 → length all ≡ 4096 → length (take m targets) ≤ length all
@@ -84,8 +83,8 @@ kept-edges n m flags offsets targets offs all r h l i k f q b =
 
 -- ── all new lists, then those of the survivors ───────────────────────────────────────────────
 
-module _ (n : ℕ) (lists : List (List ℕ)) (g : Grown) (offs all : List ℕ) (x : Result g offs all (2 * n) lists) (l : length all ≡ 4096) where
-  module _ (m : ℕ) (e : g ≡ Upto m) where
+module _ (n : ℕ) (lists : List (List ℕ)) (g : Option ℕ) (offs all : List ℕ) (x : Result g offs all (2 * n) lists) (l : length all ≡ 4096) where
+  module _ (m : ℕ) (e : g ≡ Some m) where
     built : Built offs all (2 * n) m lists
     built = rw e at x
 
@@ -95,19 +94,14 @@ module _ (n : ℕ) (lists : List (List ℕ)) (g : Grown) (offs all : List ℕ) (
     pub built-table : offsets_form kinds n m (take (2 * n + 1) offs) ≡ true
     built-table = built-form kinds offs all (2 * n) m lists built n refl
 
-    renewed-kept : (flags : List ℕ) (q : Edges) → EdgesKept flags (cut (take (2 * n + 1) offs) (take m all)) q → Renewal flags lists (record { edges = q; over = false })
+    renewed-kept : (flags : List ℕ) (q : Edges) → EdgesKept flags (cut (take (2 * n + 1) offs) (take m all)) q → RenewedTo flags lists q
     renewed-kept flags q k = record {
-      over = sym (le-ltb max_numbers (length (joined lists)) (omega (arith, built-fits offs all (2 * n) m lists built)));
-      kept = λ _. rw (built-cut offs all (2 * n) m lists built) at k;
+      within = omega (arith, built-fits offs all (2 * n) m lists built);
+      kept = rw (built-cut offs all (2 * n) m lists built) at k;
     }
 
-  renewed-over : g ≡ Full → (flags : List ℕ) (q : Edges) → Renewal flags lists (record { edges = q; over = true })
-  renewed-over e flags q =
-      let o : length all < length (joined lists) = rw e at x in
-      record {
-        over = sym (lt-ltb max_numbers (length (joined lists)) (omega arith));
-        kept = λ f. absurd (true≢false f);
-      }
+  renewed-over : g ≡ None → max_numbers < length (joined lists)
+  renewed-over e = let o : length all < length (joined lists) = rw e at x in omega arith
 
 -- lists in form, by their columns
 module _ (n c : ℕ) (os ts : List ℕ) (ok : edges_ok n (edges_of c os ts) ≡ true) where
@@ -117,21 +111,21 @@ module _ (n c : ℕ) (os ts : List ℕ) (ok : edges_ok n (edges_of c os ts) ≡ 
   pub columns-table : offsets_form kinds n c (take (2 * n + 1) os) ≡ true
   columns-table = edges-table n (edges_of c os ts) ok
 
-module _ (start n c : ℕ) (flags os ts : List ℕ) (g : Grown) (offs all : List ℕ)
+module _ (start n c : ℕ) (flags os ts : List ℕ) (g : Option ℕ) (offs all : List ℕ)
     (x : Result g offs all (2 * n) (new_lists kinds start (take n flags) (cut (take (2 * n + 1) os) (take c ts)))) (l : length all ≡ 4096) where
-  pub edges-kept : (m : ℕ) → g ≡ Upto m → (k : ℕ) (os' ts' : List ℕ) → EdgesKept (take n flags) (cut (take (2 * n + 1) offs) (take m all)) (edges_of k os' ts')
-      → Renewal (take n flags) (new_lists kinds start (take n flags) (slots_in n (edges_of c os ts))) (renewed_of (Upto k) os' ts')
+  pub edges-kept : (m : ℕ) → g ≡ Some m → (k : ℕ) (os' ts' : List ℕ) → EdgesKept (take n flags) (cut (take (2 * n + 1) offs) (take m all)) (edges_of k os' ts')
+      → Renewal (take n flags) (new_lists kinds start (take n flags) (slots_in n (edges_of c os ts))) (renewed_of (Some k) os' ts')
   unfolding slots_in
   edges-kept m f k os' ts' q = renewed-kept n (new_lists kinds start (take n flags) (slots_in n (edges_of c os ts))) g offs all x l m f (take n flags) (edges_of k os' ts') q
 
-  pub edges-over : g ≡ Full → (os' ts' : List ℕ) → Renewal (take n flags) (new_lists kinds start (take n flags) (slots_in n (edges_of c os ts))) (renewed_of Full os' ts')
+  pub edges-over : g ≡ None → (os' ts' : List ℕ) → Renewal (take n flags) (new_lists kinds start (take n flags) (slots_in n (edges_of c os ts))) (renewed_of None os' ts')
   unfolding slots_in
-  edges-over f os' ts' = renewed-over n (new_lists kinds start (take n flags) (slots_in n (edges_of c os ts))) g offs all x l f (take n flags) (edges_of 0 os' ts')
+  edges-over f os' ts' = renewed-over n (new_lists kinds start (take n flags) (slots_in n (edges_of c os ts))) g offs all x l f
 
 -- the answer, by its cases
-module _ (flags : List ℕ) (lists : List (List ℕ)) (g : Grown) (os ts : List ℕ) (x : Renewal flags lists (renewed_of g os ts)) where
-  pub renewal-upto : (m : ℕ) → g ≡ Upto m → Renewal flags lists (renewed_of (Upto m) os ts)
+module _ (flags : List ℕ) (lists : List (List ℕ)) (g : Option ℕ) (os ts : List ℕ) (x : Renewal flags lists (renewed_of g os ts)) where
+  pub renewal-upto : (m : ℕ) → g ≡ Some m → Renewal flags lists (renewed_of (Some m) os ts)
   renewal-upto m e = rw e at x
 
-  pub renewal-full : g ≡ Full → Renewal flags lists (renewed_of Full os ts)
+  pub renewal-full : g ≡ None → Renewal flags lists (renewed_of None os ts)
   renewal-full e = rw e at x

@@ -5,8 +5,8 @@ use Rattle.run_resolve.proofs.resolve.Goals as goal
 pub returns-then-h-eq0 : goal.returns-then-h-eq0
 returns-then-h-eq0 c = search no_source
 
-pub returns-then-q : goal.returns-then-q
-returns-then-q c = search lists-over
+pub returns-in_default : goal.returns-in_default
+returns-in_default c = search lists-over
 
 pub survivors-s-requires-clause-edges_kept : goal.survivors-s-requires-clause-edges_kept
 survivors-s-requires-clause-edges_kept c = search lists-within

@@ -4,6 +4,8 @@ ghost use Rattle.run_compact.specs.Columns.{flags_of};
 ghost use Rattle.run_state.specs.ByColumns.{rows_of, unresolved_of, roots_of};
 ghost use Rattle.run_resolve.specs.sheet.Kept.{RowsKept, UnresolvedKept, RootsKept};
 
+use run_compact::following::put_flags;
+use run_compact::keep::keep;
 use run_state::Rows;
 
 // The rows whose flags are 0, in place; answers how many they are.
@@ -18,14 +20,10 @@ pub fn keep_rows(
     ensures { RowsKept flags.now (rows_of (length flags.now) groups.old tags.old chains.old seqs.old)
         (rows_of result groups.new tags.new chains.new seqs.new) }
 {
-    run_compact::long::long8(groups);
-    run_compact::long::long64(tags);
-    run_compact::long::long32(chains);
-    run_compact::long::long32(seqs);
-    run_compact::narrow::keep8(groups, flags);
-    run_compact::wide::keep64(tags, flags);
-    run_compact::middle::keep32(chains, flags);
-    run_compact::middle::keep32(seqs, flags)
+    keep(groups, flags);
+    keep(tags, flags);
+    keep(chains, flags);
+    keep(seqs, flags)
 }
 
 // The rows whose flags are 0.
@@ -40,10 +38,10 @@ pub fn kept_rows(r: Rows, flags: &[u8]) -> Rows
     let n = keep_rows(&mut groups, &mut tags, &mut chains, &mut seqs, flags);
     Rows {
         count: n,
-        groups: groups,
-        tags: tags,
-        chains: chains,
-        seqs: seqs,
+        groups,
+        tags,
+        chains,
+        seqs,
     }
 }
 
@@ -54,16 +52,14 @@ fn compact_unresolved(
     handles: &mut [u32; 1024],
     gone: &[u8],
 ) -> usize
-    requires { (length gone.now ≤ 1024) × (length children.old ≡ 1024) }
+    requires { length gone.now ≤ 1024 }
     ensures unresolved_kept { UnresolvedKept gone.now (unresolved_of (length gone.now) children.old kinds.old handles.old)
         (unresolved_of result children.new kinds.new handles.new) }
     ensures children_len { length children.new ≡ 1024 }
 {
-    run_compact::long::long8(kinds);
-    run_compact::long::long32(handles);
-    run_compact::narrow::keep8(kinds, gone);
-    run_compact::middle::keep32(handles, gone);
-    run_compact::wide::keep64(children, gone)
+    keep(kinds, gone);
+    keep(handles, gone);
+    keep(children, gone)
 }
 
 // The unresolved records of rows that survive, by the flags of the rows, in place; answers how many they are.
@@ -75,26 +71,25 @@ pub fn keep_unresolved(
     flags: &[u8],
     start: u64,
 ) -> usize
-    requires { (count ≤ 1024) × (length children.old ≡ 1024) }
+    requires { count ≤ 1024 }
     ensures unresolved_kept { UnresolvedKept (flags_of start flags.now (take count children.old)) (unresolved_of count children.old kinds.old handles.old)
         (unresolved_of result children.new kinds.new handles.new) }
     ensures children_len { length children.new ≡ 1024 }
 {
     let mut gone = [0u8; 1024];
-    run_compact::following::put_flags(&mut gone, children, count, flags, start);
+    put_flags(&mut gone, children, count, flags, start);
     compact_unresolved(children, kinds, handles, &gone[..count])
 }
 
 // The roots whose own flags are 0, in place; answers how many they are.
 fn compact_roots(rows: &mut [u64; 1024], handles: &mut [u64; 1024], gone: &[u8]) -> usize
-    requires { (length gone.now ≤ 1024) × (length rows.old ≡ 1024) }
+    requires { length gone.now ≤ 1024 }
     ensures roots_kept { RootsKept gone.now (roots_of (length gone.now) rows.old handles.old)
         (roots_of result rows.new handles.new) }
     ensures rows_len { length rows.new ≡ 1024 }
 {
-    run_compact::long::long64(handles);
-    run_compact::wide::keep64(handles, gone);
-    run_compact::wide::keep64(rows, gone)
+    keep(handles, gone);
+    keep(rows, gone)
 }
 
 // The roots of rows that survive, by the flags of the rows, in place; answers how many they are.
@@ -104,12 +99,12 @@ pub fn keep_roots(
     count: usize,
     flags: &[u8],
 ) -> usize
-    requires { (count ≤ 1024) × (length rows.old ≡ 1024) }
+    requires { count ≤ 1024 }
     ensures roots_kept { RootsKept (flags_of 0 flags.now (take count rows.old)) (roots_of count rows.old handles.old)
         (roots_of result rows.new handles.new) }
     ensures rows_len { length rows.new ≡ 1024 }
 {
     let mut gone = [0u8; 1024];
-    run_compact::following::put_flags(&mut gone, rows, count, flags, 0);
+    put_flags(&mut gone, rows, count, flags, 0);
     compact_roots(rows, handles, &gone[..count])
 }

@@ -1,4 +1,6 @@
 -- The rules of an archive's files: one turn of the loop over them, and each of its answers.
+use Rattle.std.specs.declared.option.Option as rust
+use Rattle.std.specs.Prelude.{Err, None, Ok, Result, Some}
 use mathlib.Core.Path.{◌≡◌, refl, sym, ◌∙◌, ap}
 use mathlib.Core.Bool.{Bool, true, false, cond}
 use mathlib.Core.List.{List, ◌∷◌}
@@ -20,8 +22,6 @@ use Rattle.columns.specs.declared.refusal.Refusal.{Refusal}
 use Rattle.columns.specs.declared.refusal.Refusal.TheVariants.{SubjectLength, NumberRange}
 use Rattle.columns.proofs.FirstBroken.{each_none, passed}
 use Rattle.columns.specs.Answers.{ruling}
-use Rattle.columns.specs.declared.refusal.Ruling.{Ruling}
-use Rattle.columns.specs.declared.refusal.Ruling.TheVariants.{Kept, Broken}
 use Rattle.columns.proofs.Told.{told-kept, stops-here, goes_on}
 use Rattle.archive.specs.Reader.{Parsed, broken, got, and_then, ◌>>=◌}
 use Rattle.archive.specs.File.{CoverColumns, File}
@@ -31,8 +31,6 @@ use Rattle.archive_read.specs.Layout.{part_in, front_in, tail_in, Uncovers, file
 use Rattle.archive_read.proofs.AtFiles.{rows_counted, forward-counted, reverse-counted, inbound-counted, ranges-counted, links-counted, files-end, file-past, file-fits, file-holds}
 use Rattle.archive_read.specs.Sums.{totals, totals_of}
 use Rattle.archive_read.specs.declared.records.FileAt.{FileAt}
-use Rattle.archive_read.specs.declared.records.FileRead.{FileRead}
-use Rattle.archive_read.specs.declared.records.FileRead.TheVariants.{FileIs, NoFile}
 use Rattle.cleaning.specs.Source.{Source, cover_read, source_of, is_there}
 use Rattle.cleaning.specs.Held.{ending}
 use Rattle.cleaning.proofs.HeldLimits.{files-alike}
@@ -87,7 +85,7 @@ seen-fits subject was name h u e = rw (e, length-sets, u) h
 pub name-count : (s : Seen) → s.length ≤ length s.subject → s.length ≡ length (take s.length s.subject)
 name-count s h = sym (length-take-le s.length s.subject h)
 
-pub seen-rules : (s : Seen) (f : File) {r : Ruling} → r ≡ ruling (file_rules kinds (back_of s.back (take s.length s.subject)) f) → r ≡ ruling (file_rules kinds (seen_of s) f)
+pub seen-rules : (s : Seen) (f : File) {r : Result (Unit {0}) Refusal} → r ≡ ruling (file_rules kinds (back_of s.back (take s.length s.subject)) f) → r ≡ ruling (file_rules kinds (seen_of s) f)
 unfolding seen_of
 seen-rules s f e = e
 
@@ -122,28 +120,29 @@ unfolding parse
 rules-start l s = let z : length l - 0 ≡ length l = omega arith in rw z
 
 -- what is seen before the first file is what was handed over
-pub first-look : (l : List ℕ) (before : Option Source) (s : Seen) {r : Ruling} → r ≡ ruling (rules_of (seen_of s) (parse kinds l)) → seen_of s ≡ before → r ≡ ruling (rules_of before (parse kinds l))
+pub first-look : (l : List ℕ) (before : Option Source) (s : Seen) {r : Result (Unit {0}) Refusal}
+    → r ≡ ruling (rules_of (seen_of s) (parse kinds l)) → seen_of s ≡ before → r ≡ ruling (rules_of before (parse kinds l))
 first-look l before s e i = rw i at e
 
 pub within-start : (l : List ℕ) → Within (totals_of (parse kinds l)) → Within (totals_of (files kinds (length l - 0) l 0))
 unfolding parse
 within-start l w = let z : length l - 0 ≡ length l = omega arith in rw z w
 
-module _ {t : Ruling} (l : List ℕ) (s : Seen) (k p : ℕ) (e : t ≡ ruling (rules_of (seen_of s) (files kinds (length l - k) l p))) where
-  pub files-done : length l ≤ p → Kept ≡ t
+module _ {t : Result (Unit {0}) Refusal} (l : List ℕ) (s : Seen) (k p : ℕ) (e : t ≡ ruling (rules_of (seen_of s) (files kinds (length l - k) l p))) where
+  pub files-done : length l ≤ p → (Ok tt) ≡ t
   unfolding rules_of files_rules
   files-done h = rw (e, files-end (length l - k) l p h)
 
-  module _ (h : p < length l) (g : k ≤ p) (x : FileRead) (d : file_of l x ≡ file kinds l p) (w : Within (totals_of (files kinds (length l - k) l p))) where
+  module _ (h : p < length l) (g : k ≤ p) (x : rust.Option FileAt) (d : file_of l x ≡ file kinds l p) (w : Within (totals_of (files kinds (length l - k) l p))) where
     step : files kinds (length l - k) l p ≡ and_then (file_of l x) (λ f q. and_then (files kinds (length l - (k + 1)) l q) (λ fs q. got (f ∷ fs) q))
     unfolding files ◌>>=◌
     step = let z : length l - k ≡ suc (length l - (k + 1)) = omega arith in rw (z, lt-leb (length l) p h, d)
 
-    pub no-archive : x ≡ NoFile → {r : Ruling} → r ≡ t
+    pub no-archive : x ≡ None → {r : Result (Unit {0}) Refusal} → r ≡ t
     unfolding totals_of
     no-archive m = absurd (let v = rw (step, m) at w in v)
 
-    module _ {f : FileAt} (m : x ≡ FileIs f) (a : AfterFile l p x) where
+    module _ {f : FileAt} (m : x ≡ Some f) (a : AfterFile l p x) where
       here : files kinds (length l - k) l p ≡ and_then (files kinds (length l - (k + 1)) l f.tail.end) (λ fs q. got (file_in l f ∷ fs) q)
       here = step ∙ rw m
 
@@ -156,16 +155,16 @@ module _ {t : Ruling} (l : List ℕ) (s : Seen) (k p : ℕ) (e : t ≡ ruling (r
       pub still-within : (j : ℕ) → j ≡ k + 1 → Within (totals_of (files kinds (length l - j) l f.tail.end))
       still-within j i = rw i both-within.1
 
-      module _ {r : Ruling} (v : r ≡ ruling (file_rules kinds (seen_of s) (file_in l f))) where
-        pub files-stop : {y : Refusal} → r ≡ Broken y → Broken y ≡ t
+      module _ {r : Result (Unit {0}) Refusal} (v : r ≡ ruling (file_rules kinds (seen_of s) (file_in l f))) where
+        pub files-stop : {y : Refusal} → r ≡ Err y → Err y ≡ t
         unfolding rules_of files_rules totals_of
         files-stop {y} q = rw (e, here) (go (files kinds (length l - (k + 1)) l f.tail.end) both-within.1)
           where
-            go : (o : Parsed (List File)) → Within (totals_of o) → Broken y ≡ ruling (rules_of (seen_of s) (and_then o (λ fs q. got (file_in l f ∷ fs) q)))
+            go : (o : Parsed (List File)) → Within (totals_of o) → Err y ≡ ruling (rules_of (seen_of s) (and_then o (λ fs q. got (file_in l f ∷ fs) q)))
             go broken z = absurd z
             go (got fs n) z = stops-here (file_rules kinds (seen_of s) (file_in l f)) (files_rules kinds (some (source_of kinds (file_in l f))) fs) v y q
 
-        pub files-on : r ≡ Kept → (j : ℕ) → j ≡ k + 1 → (z : Seen)
+        pub files-on : r ≡ Ok tt → (j : ℕ) → j ≡ k + 1 → (z : Seen)
             → seen_of z ≡ ends_with f.front.head.group (subject_in l f.front) (f.front.head.first + f.front.head.rows) f.tail.covered
             → t ≡ ruling (rules_of (seen_of z) (files kinds (length l - j) l f.tail.end))
         unfolding rules_of files_rules totals_of
@@ -179,7 +178,7 @@ module _ {t : Ruling} (l : List ℕ) (s : Seen) (k p : ℕ) (e : t ≡ ruling (r
             go (got fs n) u =
                 sym (goes_on (file_rules kinds (seen_of s) (file_in l f)) (files_rules kinds (some (source_of kinds (file_in l f))) fs) v q refl) ∙ sym (ap ruling (looks-back l f fs))
 
-module _ (l : List ℕ) (p : ℕ) (x : FileRead) {f : FileAt} (a : AfterFile l p x) (m : x ≡ FileIs f) where
+module _ (l : List ℕ) (p : ℕ) (x : rust.Option FileAt) {f : FileAt} (a : AfterFile l p x) (m : x ≡ Some f) where
   pub head-holds : HoldsHead l f.front.head f.front.file
   head-holds = (file-holds l p x a m).head
 
@@ -194,11 +193,11 @@ module _ (l : List ℕ) (p : ℕ) (x : FileRead) {f : FileAt} (a : AfterFile l p
 
 -- ── what a file that keeps its rules says of its subject and its numbers ─────────────────────
 
-module _ (l : List ℕ) (before : Option Source) (f : FileAt) {r : Ruling} (v : r ≡ ruling (file_rules kinds before (file_in l f))) (q : r ≡ Kept) where
+module _ (l : List ℕ) (before : Option Source) (f : FileAt) {r : Result (Unit {0}) Refusal} (v : r ≡ ruling (file_rules kinds before (file_in l f))) (q : r ≡ Ok tt) where
   kept : file_rules kinds before (file_in l f) ≡ none
   kept = told-kept (file_rules kinds before (file_in l f)) v q
 
-  pub kept-subject : (p : ℕ) (x : FileRead) → AfterFile l p x → x ≡ FileIs f → f.front.head.subject ≤ 255
+  pub kept-subject : (p : ℕ) (x : rust.Option FileAt) → AfterFile l p x → x ≡ Some f → f.front.head.subject ≤ 255
   unfolding file_rules subject_ok file_in file_from front_in head_in
   kept-subject p x a m =
       let h = file-holds l p x a m in

@@ -1,4 +1,5 @@
 -- What the tests of the limits answer, test after test.
+use Rattle.std.specs.Prelude.{Err, Ok}
 use mathlib.Core.Path.{◌≡◌, refl, sym}
 use mathlib.Core.Bool.{Bool, true, false}
 use Prim.Native.Nat.{ℕ, ◌+◌, ◌-◌, ◌≤◌, ◌<◌}
@@ -10,7 +11,6 @@ use Rattle.columns.specs.Refusal.{first_of}
 use Rattle.columns.specs.declared.refusal.Refusal.TheVariants.{OverRecords, OverNumbers, RecordBroken}
 use Rattle.archive_read.specs.declared.files.Totals.{Totals}
 use Rattle.columns.specs.Answers.{ruling}
-use Rattle.columns.specs.declared.refusal.Ruling.TheVariants.{Kept, Broken}
 use Rattle.run_state.specs.declared.Held.{Held}
 use Rattle.run_rules.specs.limits.Figures.{figures, many_records, many_numbers, limit_rules}
 
@@ -68,20 +68,20 @@ module _ (a b : Totals) {x : Bool} (p : x ≡ ltb max_numbers (a.forward + b.for
     unfolding many_numbers
     only-inbound k e = rw (← p, h, ← q, k) e
 
-pub references-there : (h : Held) (t : Totals) (groups : Bool) → 0 < t.references → Broken RecordBroken ≡ ruling (limit_rules h t groups)
+pub references-there : (h : Held) (t : Totals) (groups : Bool) → 0 < t.references → Err RecordBroken ≡ ruling (limit_rules h t groups)
 unfolding limit_rules first_of
 references-there h t groups l = rw (lt-ltb 0 t.references l)
 
 module _ (h : Held) (t a : Totals) (groups : Bool) (n : t.references ≤ 0) (e : a ≡ figures h) {x : Bool} (p : x ≡ many_records a t groups) where
-  pub records-many : x ≡ true → Broken OverRecords ≡ ruling (limit_rules h t groups)
+  pub records-many : x ≡ true → Err OverRecords ≡ ruling (limit_rules h t groups)
   unfolding limit_rules first_of
   records-many k = rw (le-ltb 0 t.references n, ← e, ← p, k)
 
   module _ (k : x ≡ false) {y : Bool} (q : y ≡ many_numbers a t) where
-    pub numbers-many : y ≡ true → Broken OverNumbers ≡ ruling (limit_rules h t groups)
+    pub numbers-many : y ≡ true → Err OverNumbers ≡ ruling (limit_rules h t groups)
     unfolding limit_rules first_of
     numbers-many l = rw (le-ltb 0 t.references n, ← e, ← p, k, ← q, l)
 
-    pub limits-kept : y ≡ false → Kept ≡ ruling (limit_rules h t groups)
+    pub limits-kept : y ≡ false → (Ok tt) ≡ ruling (limit_rules h t groups)
     unfolding limit_rules first_of
     limits-kept l = rw (le-ltb 0 t.references n, ← e, ← p, k, ← q, l)

@@ -1,4 +1,5 @@
 -- Ranges and links of a cover in bytes: one turn of each loop over them, and each answer of the functions that test them.
+use Rattle.std.specs.Prelude.{Err, Ok}
 use mathlib.Core.Path.{◌≡◌, sym}
 use mathlib.Core.Bool.{Bool, true, false, not}
 use mathlib.Core.List.{List, map}
@@ -23,7 +24,6 @@ use Rattle.archive.specs.Parse.{range_at}
 use Rattle.archive.proofs.Back.{length-several}
 use Rattle.archive_read.specs.bodies.View.{cover_in}
 use Rattle.columns.specs.Answers.{ruling}
-use Rattle.columns.specs.declared.refusal.Ruling.TheVariants.{Kept, Broken}
 use Rattle.cleaning.specs.Taking.{cover_rules}
 use Rattle.run_rules.specs.parts.Back.{in_order, links_at, sized}
 
@@ -105,15 +105,15 @@ module _ (k : ℕ) (b : List ℕ) (p : ℕ) (o w u v : List ℕ) (h : k ≤ 1024
 -- ── a cover ──────────────────────────────────────────────────────────────────────────────────
 
 module _ (b : List ℕ) (rows m k : ℕ) {a : Bool} (d : a ≡ ranges_ok (several 12 range_at m (drop (rows * 4 + rows * 4 + 4) b))) where
-  pub ranges-bad : not a ≡ true → Broken CoverForm ≡ ruling (cover_rules (some (cover_in b rows (sized m k))))
+  pub ranges-bad : not a ≡ true → Err CoverForm ≡ ruling (cover_rules (some (cover_in b rows (sized m k))))
   unfolding cover_in range_rules link_rules first_of
   ranges-bad h = rw (← d, not-true a h)
 
   module _ (h : not a ≡ false) {c : Bool} (e : c ≡ links_ok (links_at b (rows * 4 + rows * 4 + 4 + m * 12 + 4) k)) where
-    pub links-bad : not c ≡ true → Broken CoverForm ≡ ruling (cover_rules (some (cover_in b rows (sized m k))))
+    pub links-bad : not c ≡ true → Err CoverForm ≡ ruling (cover_rules (some (cover_in b rows (sized m k))))
     unfolding cover_in range_rules link_rules first_of links_at
     links-bad g = rw (← d, not-false a h, ← e, not-true c g)
 
-    pub cover-kept : not c ≡ false → Kept ≡ ruling (cover_rules (some (cover_in b rows (sized m k))))
+    pub cover-kept : not c ≡ false → (Ok tt) ≡ ruling (cover_rules (some (cover_in b rows (sized m k))))
     unfolding cover_in range_rules link_rules first_of links_at
     cover-kept g = rw (← d, not-false a h, ← e, not-false c g)

@@ -1,4 +1,5 @@
 -- The tests of a head: each answer of each of them.
+use Rattle.std.specs.Prelude.{Err, Ok}
 use mathlib.Core.Path.{◌≡◌, refl, ap}
 use mathlib.Core.Bool.{Bool, true, false, not, ◌&&◌, ◌||◌, beq}
 use mathlib.Core.List.{List, [], ◌∷◌}
@@ -15,7 +16,6 @@ use Rattle.columns.specs.Building.{depth_ok}
 use Rattle.columns.specs.Refusal.{refuse}
 use Rattle.columns.specs.declared.refusal.Refusal.TheVariants.{GroupOrder}
 use Rattle.columns.specs.Answers.{ruling}
-use Rattle.columns.specs.declared.refusal.Ruling.TheVariants.{Kept, Broken}
 use Rattle.archive.specs.Parse.{depth_read}
 use Rattle.run_rules.specs.parts.Back.{groups_near}
 
@@ -74,10 +74,10 @@ module _ (group last : ℕ) where
     unfolding groups_near
     near_next k = rw (ne_eqb group last h) (eqb-iff (group - 1) last group (last + 1) (λ e. omega arith) (λ e. omega arith))
 
-pub group-late : (group : ℕ) → (group ≡ 0 → ⊥) → Broken GroupOrder ≡ ruling (refuse GroupOrder (not (eqb group 0)))
+pub group-late : (group : ℕ) → (group ≡ 0 → ⊥) → Err GroupOrder ≡ ruling (refuse GroupOrder (not (eqb group 0)))
 group-late group h = rw (ne_eqb group 0 h)
 
-pub group-first : (group : ℕ) → group ≡ 0 → Kept ≡ ruling (refuse GroupOrder (not (eqb group 0)))
+pub group-first : (group : ℕ) → group ≡ 0 → (Ok tt) ≡ ruling (refuse GroupOrder (not (eqb group 0)))
 group-first group h = rw (eq-eqb group 0 h)
 
 -- ── source and cover ─────────────────────────────────────────────────────────────────────────

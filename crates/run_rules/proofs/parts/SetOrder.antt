@@ -1,4 +1,5 @@
 -- The rules on sets of edges: columns loaded from bytes, and one set after another.
+use Rattle.std.specs.Prelude.{Err, Ok, Result}
 use mathlib.Core.Path.{◌≡◌, sym}
 use mathlib.Core.List.{List, map}
 use Prim.Native.Nat.{ℕ, ◌+◌, ◌*◌, ◌≤◌}
@@ -15,8 +16,6 @@ use Rattle.columns.specs.declared.refusal.Refusal.{Refusal}
 use Rattle.archive_bytes.specs.Bytes.{column, signed_of}
 use Rattle.archive.proofs.Back.{length-several}
 use Rattle.archive_read.specs.bodies.View.{set_in}
-use Rattle.columns.specs.declared.refusal.Ruling.{Ruling}
-use Rattle.columns.specs.declared.refusal.Ruling.TheVariants.{Kept, Broken}
 use Rattle.columns.proofs.Told.{stops-here, goes_on}
 use Rattle.run_rules.specs.parts.Back.{sets_rules, later_rules}
 
@@ -47,25 +46,26 @@ module _ (rows n : ℕ) (h : rows ≤ 1024) (k : n ≤ 4096) where
   deltas-count ds v = sym (length-take-le n ds (omega arith))
 
 -- the rules of the columns that were read are those of the set
-pub rules-loaded : (set first rows end : ℕ) (y x : EdgeSet) {r : Ruling} → y ≡ x → r ≡ ruling (set_rules kinds set first rows end y) → r ≡ ruling (set_rules kinds set first rows end x)
+pub rules-loaded : (set first rows end : ℕ) (y x : EdgeSet) {r : Result (Unit {0}) Refusal} → y ≡ x
+    → r ≡ ruling (set_rules kinds set first rows end y) → r ≡ ruling (set_rules kinds set first rows end x)
 rules-loaded set first rows end y x e g = rw (← e) g
 
 -- ── what is answered of a set ────────────────────────────────────────────────────────────────
 
-module _ (first rows end : ℕ) (r i : EdgeSet) {x : Ruling} (e : x ≡ ruling (set_rules kinds 1 first rows end r)) where
-  pub reverse-bad : {y : Refusal} → x ≡ Broken y → Broken y ≡ ruling (later_rules first rows end r i)
+module _ (first rows end : ℕ) (r i : EdgeSet) {x : Result (Unit {0}) Refusal} (e : x ≡ ruling (set_rules kinds 1 first rows end r)) where
+  pub reverse-bad : {y : Refusal} → x ≡ Err y → Err y ≡ ruling (later_rules first rows end r i)
   unfolding later_rules
   reverse-bad {y} g = stops-here (set_rules kinds 1 first rows end r) (set_rules kinds 2 first rows end i) e y g
 
-  pub then-inbound : {s : Ruling} → x ≡ Kept → s ≡ ruling (set_rules kinds 2 first rows end i) → s ≡ ruling (later_rules first rows end r i)
+  pub then-inbound : {s : Result (Unit {0}) Refusal} → x ≡ Ok tt → s ≡ ruling (set_rules kinds 2 first rows end i) → s ≡ ruling (later_rules first rows end r i)
   unfolding later_rules
   then-inbound g k = goes_on (set_rules kinds 1 first rows end r) (set_rules kinds 2 first rows end i) e g k
 
-module _ (first rows end : ℕ) (f r i : EdgeSet) {x : Ruling} (e : x ≡ ruling (set_rules kinds 0 first rows end f)) where
-  pub forward-bad : {y : Refusal} → x ≡ Broken y → Broken y ≡ ruling (sets_rules first rows end f r i)
+module _ (first rows end : ℕ) (f r i : EdgeSet) {x : Result (Unit {0}) Refusal} (e : x ≡ ruling (set_rules kinds 0 first rows end f)) where
+  pub forward-bad : {y : Refusal} → x ≡ Err y → Err y ≡ ruling (sets_rules first rows end f r i)
   unfolding sets_rules
   forward-bad {y} g = stops-here (set_rules kinds 0 first rows end f) (later_rules first rows end r i) e y g
 
-  pub then-later : {s : Ruling} → x ≡ Kept → s ≡ ruling (later_rules first rows end r i) → s ≡ ruling (sets_rules first rows end f r i)
+  pub then-later : {s : Result (Unit {0}) Refusal} → x ≡ Ok tt → s ≡ ruling (later_rules first rows end r i) → s ≡ ruling (sets_rules first rows end f r i)
   unfolding sets_rules
   then-later g k = goes_on (set_rules kinds 0 first rows end f) (later_rules first rows end r i) e g k

@@ -13,8 +13,8 @@ ghost use Rattle.run_rules.specs.files.Archive.{rules_of, Within, seen_of, ends_
 use crate::files::one::file_rules;
 use crate::parts::heads::Back;
 use archive_bytes::number_columns::store_bytes;
-use archive_read::records::{FileAt, FileRead, FrontAt, file_at};
-use columns::refusal::Ruling;
+use archive_read::records::{FileAt, FrontAt, file_at};
+use columns::refusal::Refusal;
 
 // What the next file looks back at, with the subject.
 #[derive(Clone, Copy)]
@@ -31,7 +31,7 @@ fn next_rules(
     f: FileAt,
     offsets: &mut [u64; 2049],
     deltas: &mut [i64; 4096],
-) -> Ruling
+) -> Result<(), Refusal>
     requires length_in_bounds { s.length ≤ length s.subject }
     requires holds_file { HoldsFile bytes.now f × Small f }
     ensures { result ≡ ruling (file_rules kinds (seen_of s) (file_in bytes.now f)) }
@@ -50,7 +50,7 @@ fn see(back: Back, subject: &[u8]) -> Seen
     let mut name = [0u8; 255];
     store_bytes(subject, &mut name, 0);
     Seen {
-        back: back,
+        back,
         length: n,
         subject: name,
     }
@@ -79,7 +79,7 @@ fn see_after(bytes: &[u8], f: FrontAt, covered: bool) -> Seen
         known: true,
         group: h.group as u64,
         end: h.first + (h.rows as u64),
-        covered: covered,
+        covered,
     };
     see_in(back, &bytes[at..end], h.subject)
 }
@@ -93,7 +93,7 @@ fn next(k: usize, end: usize) -> usize
 }
 
 // The rules of an archive's files, the first of which looks back at rows of that subject. What is no archive or past the limits is refused before.
-pub fn files_rules(bytes: &[u8], back: Back, subject: &[u8]) -> Ruling
+pub fn files_rules(bytes: &[u8], back: Back, subject: &[u8]) -> Result<(), Refusal>
     requires { (length subject.now ≤ 255) × Within (totals_of (parse kinds bytes.now)) }
     ensures { result ≡ ruling (rules_of (back_of back subject.now) (parse kinds bytes.now)) }
 {
@@ -103,23 +103,17 @@ pub fn files_rules(bytes: &[u8], back: Back, subject: &[u8]) -> Ruling
     let mut s = see(back, subject);
     let mut k: usize = 0;
     let mut p = 0;
+    // No `for`: p moves by a file's size.
     while p < bytes.len() {
         let x = file_at(bytes, p);
-        let FileRead::FileIs(f) = x else {
-            return Ruling::Kept;
+        let Some(f) = x else {
+            return Ok(());
         };
-        let r = next_rules(s, bytes, f, &mut offsets, &mut deltas);
-        match r {
-            Ruling::Broken(y) => {
-                return Ruling::Broken(y);
-            }
-            Ruling::Kept => {
-                let t = f.tail;
-                s = see_after(bytes, f.front, t.covered);
-                p = t.end;
-                k = next(k, p);
-            }
-        }
+        next_rules(s, bytes, f, &mut offsets, &mut deltas)?;
+        let t = f.tail;
+        s = see_after(bytes, f.front, t.covered);
+        p = t.end;
+        k = next(k, p);
     }
-    Ruling::Kept
+    Ok(())
 }

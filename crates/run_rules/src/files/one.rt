@@ -15,22 +15,19 @@ use crate::parts::sets::sets_rules;
 use crate::parts::tables::records_rules;
 use archive_read::bodies::HeadAt;
 use archive_read::records::{FileAt, FrontAt, MiddleAt, TailAt};
-use columns::refusal::Ruling;
+use columns::refusal::Refusal;
 
 // 1, 3, 8, 24, 25, 26 of a head and the bytes of its subject.
-fn named_rules(s: &[u8], h: HeadAt, covered: bool, back: Back, before: &[u8]) -> Ruling
+fn named_rules(s: &[u8], h: HeadAt, covered: bool, back: Back, before: &[u8]) -> Result<(), Refusal>
     ensures { result ≡ ruling (head_rules (back_of back before.now) s.now h covered) }
 {
     let rows = h.rows as usize;
-    let r = own_rules(s, h.first, rows, h.flag, h.least, h.greatest);
-    match r {
-        Ruling::Broken(x) => Ruling::Broken(x),
-        Ruling::Kept => back_rules(back, before, h.group, s, h.first, covered),
-    }
+    own_rules(s, h.first, rows, h.flag, h.least, h.greatest)?;
+    back_rules(back, before, h.group, s, h.first, covered)
 }
 
 // The same of the body of record 1.
-fn body_rules(b: &[u8], h: HeadAt, covered: bool, back: Back, before: &[u8]) -> Ruling
+fn body_rules(b: &[u8], h: HeadAt, covered: bool, back: Back, before: &[u8]) -> Result<(), Refusal>
     requires { 14 + h.subject ≤ length b.now }
     ensures { result ≡ ruling (head_rules (back_of back before.now) (take h.subject (drop 14 b.now)) h covered) }
 {
@@ -39,7 +36,13 @@ fn body_rules(b: &[u8], h: HeadAt, covered: bool, back: Back, before: &[u8]) -> 
 }
 
 // The same of a file's front.
-fn front_rules(bytes: &[u8], f: FrontAt, covered: bool, back: Back, before: &[u8]) -> Ruling
+fn front_rules(
+    bytes: &[u8],
+    f: FrontAt,
+    covered: bool,
+    back: Back,
+    before: &[u8],
+) -> Result<(), Refusal>
     requires { HoldsHead bytes.now f.head f.file }
     ensures { result ≡ ruling (head_rules (back_of back before.now) (subject_in bytes.now f) f.head covered) }
 {
@@ -56,7 +59,7 @@ fn edges_rules(
     f: FrontAt,
     offsets: &mut [u64; 2049],
     deltas: &mut [i64; 4096],
-) -> Ruling
+) -> Result<(), Refusal>
     requires holds_sets { HoldsSets bytes.now f.head.rows f.edges f.sets }
     requires rows_bound { (f.head.rows ≤ 1024) × (f.head.first + f.head.rows < end64) }
     requires forwards_bound { (f.edges.forwards ≤ 4096) × ((f.edges.reverses ≤ 4096) × (f.edges.inbounds ≤ 4096)) }
@@ -85,7 +88,7 @@ fn edges_rules(
 }
 
 // 16, 6, 7.
-fn lists_rules(bytes: &[u8], h: HeadAt, m: MiddleAt, t: TailAt) -> Ruling
+fn lists_rules(bytes: &[u8], h: HeadAt, m: MiddleAt, t: TailAt) -> Result<(), Refusal>
     requires { HoldsMiddle bytes.now h.rows m × HoldsTail bytes.now h.rows t }
     ensures { result ≡ ruling (lists_rules bytes.now h m t) }
 {
@@ -107,7 +110,7 @@ fn lists_rules(bytes: &[u8], h: HeadAt, m: MiddleAt, t: TailAt) -> Ruling
 }
 
 // 22 of a file that has a cover.
-fn covered_rule(bytes: &[u8], n: u32, t: TailAt) -> Ruling
+fn covered_rule(bytes: &[u8], n: u32, t: TailAt) -> Result<(), Refusal>
     requires holds_cover { HoldsCover bytes.now n t.cover t.body }
     requires n_bound { (n ≤ 1024) × ((t.cover.ranges ≤ 1024) × (t.cover.links ≤ 1024)) }
     ensures { result ≡ ruling (cover_rules (some (cover_in (part_in bytes.now t.body) n t.cover))) }
@@ -121,28 +124,25 @@ fn covered_rule(bytes: &[u8], n: u32, t: TailAt) -> Ruling
 }
 
 // 22.
-fn cover_rule(bytes: &[u8], n: u32, t: TailAt) -> Ruling
+fn cover_rule(bytes: &[u8], n: u32, t: TailAt) -> Result<(), Refusal>
     requires holds_tail { HoldsTail bytes.now n t }
     requires n_bound { (n ≤ 1024) × ((t.cover.ranges ≤ 1024) × (t.cover.links ≤ 1024)) }
     ensures { result ≡ ruling (cover_rule bytes.now n t) }
 {
     if !t.covered {
-        return Ruling::Kept;
+        return Ok(());
     }
     covered_rule(bytes, n, t)
 }
 
 // 16, 6, 7, 22.
-fn tail_rules(bytes: &[u8], h: HeadAt, m: MiddleAt, t: TailAt) -> Ruling
+fn tail_rules(bytes: &[u8], h: HeadAt, m: MiddleAt, t: TailAt) -> Result<(), Refusal>
     requires holds_middle { HoldsMiddle bytes.now h.rows m × HoldsTail bytes.now h.rows t }
     requires rows_bound { (h.rows ≤ 1024) × ((t.cover.ranges ≤ 1024) × (t.cover.links ≤ 1024)) }
     ensures { result ≡ ruling (tail_rules bytes.now h m t) }
 {
-    let r = lists_rules(bytes, h, m, t);
-    match r {
-        Ruling::Broken(x) => Ruling::Broken(x),
-        Ruling::Kept => cover_rule(bytes, h.rows, t),
-    }
+    lists_rules(bytes, h, m, t)?;
+    cover_rule(bytes, h.rows, t)
 }
 
 // 17 to 19, 16, 6, 7, 22 of a file whose numbers fit.
@@ -151,18 +151,15 @@ fn rest_rules(
     f: FileAt,
     offsets: &mut [u64; 2049],
     deltas: &mut [i64; 4096],
-) -> Ruling
+) -> Result<(), Refusal>
     requires holds_file { HoldsFile bytes.now f × Small f }
     requires rows_bound { f.front.head.first + f.front.head.rows < end64 }
     ensures { result ≡ ruling (rest_rules bytes.now f) }
 {
     let a = f.front;
     let h = a.head;
-    let r = edges_rules(bytes, a, offsets, deltas);
-    match r {
-        Ruling::Broken(x) => Ruling::Broken(x),
-        Ruling::Kept => tail_rules(bytes, h, f.middle, f.tail),
-    }
+    edges_rules(bytes, a, offsets, deltas)?;
+    tail_rules(bytes, h, f.middle, f.tail)
 }
 
 // The rules of one file, which looks back at rows of the subject `before`.
@@ -173,14 +170,11 @@ pub fn file_rules(
     before: &[u8],
     offsets: &mut [u64; 2049],
     deltas: &mut [i64; 4096],
-) -> Ruling
+) -> Result<(), Refusal>
     requires { HoldsFile bytes.now f × Small f }
     ensures { result ≡ ruling (file_rules kinds (back_of back before.now) (file_in bytes.now f)) }
 {
     let t = f.tail;
-    let r = front_rules(bytes, f.front, t.covered, back, before);
-    match r {
-        Ruling::Broken(x) => Ruling::Broken(x),
-        Ruling::Kept => rest_rules(bytes, f, offsets, deltas),
-    }
+    front_rules(bytes, f.front, t.covered, back, before)?;
+    rest_rules(bytes, f, offsets, deltas)
 }

@@ -15,7 +15,7 @@ ghost use Rattle.run_rules.specs.parts.Back.{in_order, links_at, sized};
 
 use archive_bytes::load_u32;
 use archive_bytes::number_columns::fill_u32s;
-use columns::refusal::{Refusal, Ruling};
+use columns::refusal::Refusal;
 use cover_rows::links_fit;
 
 // Whether the chains of n ranges from place q on rise, at least one of them.
@@ -23,16 +23,14 @@ fn chains_above(b: &[u8], q: usize, n: usize) -> bool
     requires { (q + n * 12 ≤ length b.now) × (0 < n) }
     ensures { result ≡ rising (map (λ x. x.chain) (several 12 range_at n (drop q b.now))) }
 {
-    let mut i = 1;
     let mut p = q + 12;
     let mut last = load_u32(b, q);
-    while i < n {
+    for i in 1..n {
         let x = load_u32(b, p);
         if x <= last {
             return false;
         }
         last = x;
-        i += 1;
         p += 12;
     }
     true
@@ -53,15 +51,13 @@ fn in_order(b: &[u8], q: usize, n: usize) -> bool
     requires { q + n * 12 ≤ length b.now }
     ensures { result ≡ all in_order (several 12 range_at n (drop q b.now)) }
 {
-    let mut i = 0;
     let mut p = q;
-    while i < n {
+    for i in 0..n {
         let least = load_u32(b, p + 4);
         let greatest = load_u32(b, p + 8);
         if greatest < least {
             return false;
         }
-        i += 1;
         p += 12;
     }
     true
@@ -103,16 +99,16 @@ fn links_ok(b: &[u8], p: usize, k: usize) -> bool
 }
 
 // 22 of a cover of m ranges and k links.
-pub fn cover_rules(b: &[u8], rows: usize, m: usize, k: usize) -> Ruling
+pub fn cover_rules(b: &[u8], rows: usize, m: usize, k: usize) -> Result<(), Refusal>
     requires { (rows ≤ 1024) × ((m ≤ 1024) × ((k ≤ 1024) × (cover_end rows m k ≤ length b.now))) }
     ensures { result ≡ ruling (cover_rules (some (cover_in b.now rows (sized m k)))) }
 {
     let q = rows * 4 + rows * 4 + 4;
     if !ranges_ok(b, q, m) {
-        return Ruling::Broken(Refusal::CoverForm);
+        return Err(Refusal::CoverForm);
     }
     if !links_ok(b, q + m * 12 + 4, k) {
-        return Ruling::Broken(Refusal::CoverForm);
+        return Err(Refusal::CoverForm);
     }
-    Ruling::Kept
+    Ok(())
 }

@@ -9,7 +9,7 @@ ghost use Rattle.columns.specs.Answers.{ruling};
 ghost use Rattle.archive.specs.Parse.{depth_read};
 ghost use Rattle.run_rules.specs.parts.Back.{back_of, own_rules, back_rules, groups_near};
 
-use columns::refusal::{Refusal, Ruling};
+use columns::refusal::Refusal;
 
 // What a file looks back at, besides the subject: the last group and its number, where the rows end, whether there is a cover.
 #[derive(Clone, Copy)]
@@ -52,19 +52,19 @@ pub fn own_rules(
     flag: u8,
     least: u64,
     greatest: u64,
-) -> Ruling
+) -> Result<(), Refusal>
     ensures { result ≡ ruling (own_rules subject.now first rows (depth_read flag least greatest)) }
 {
     if !subject_fits(subject) {
-        return Ruling::Broken(Refusal::SubjectLength);
+        return Err(Refusal::SubjectLength);
     }
     if !numbers_fit(first, rows) {
-        return Ruling::Broken(Refusal::NumberRange);
+        return Err(Refusal::NumberRange);
     }
     if !depth_fits(flag, least, greatest) {
-        return Ruling::Broken(Refusal::DepthOrder);
+        return Err(Refusal::DepthOrder);
     }
-    Ruling::Kept
+    Ok(())
 }
 
 // Whether two subjects are the same bytes.
@@ -74,12 +74,10 @@ fn same_bytes(a: &[u8], b: &[u8]) -> bool
     if a.len() != b.len() {
         return false;
     }
-    let mut i = 0;
-    while i < a.len() {
+    for i in 0..a.len() {
         if a[i] != b[i] {
             return false;
         }
-        i += 1;
     }
     true
 }
@@ -125,13 +123,13 @@ fn is_alike(group: u8, last: u64, covered: bool, was: bool) -> bool
 }
 
 // The first file of all is of group 0.
-fn first_rules(group: u8) -> Ruling
+fn first_rules(group: u8) -> Result<(), Refusal>
     ensures { result ≡ ruling (refuse GroupOrder (not (eqb group 0))) }
 {
     if group != 0 {
-        return Ruling::Broken(Refusal::GroupOrder);
+        return Err(Refusal::GroupOrder);
     }
-    Ruling::Kept
+    Ok(())
 }
 
 // 24, 25, 26.
@@ -142,20 +140,20 @@ pub fn back_rules(
     subject: &[u8],
     first: u64,
     covered: bool,
-) -> Ruling
+) -> Result<(), Refusal>
     ensures { result ≡ ruling (back_rules (back_of back before.now) group subject.now first covered) }
 {
     if !back.known {
         return first_rules(group);
     }
     if !is_near(group, back.group) {
-        return Ruling::Broken(Refusal::GroupOrder);
+        return Err(Refusal::GroupOrder);
     }
     if !is_next(before, back.end, subject, first) {
-        return Ruling::Broken(Refusal::SourceOrder);
+        return Err(Refusal::SourceOrder);
     }
     if !is_alike(group, back.group, covered, back.covered) {
-        return Ruling::Broken(Refusal::CoverInSome);
+        return Err(Refusal::CoverInSome);
     }
-    Ruling::Kept
+    Ok(())
 }

@@ -9,7 +9,7 @@ ghost use Rattle.run_rules.specs.parts.Back.{sets_rules, later_rules};
 
 use archive_bytes::number_columns::{fill_i64s, fill_u64s};
 use columns::kind::KINDS;
-use columns::refusal::Ruling;
+use columns::refusal::Refusal;
 use columns::set::Set;
 use columns_slots::sets::set_rules;
 
@@ -40,7 +40,7 @@ fn loaded_rules(
     n: usize,
     offsets: &[u64],
     deltas: &[i64],
-) -> Ruling
+) -> Result<(), Refusal>
     requires rows_bound { (rows ≤ 1024) × (n ≤ 4096) }
     requires offsets_len { (length offsets.now ≡ 2049) × (length deltas.now ≡ 4096) }
     ensures { result ≡ ruling (set_rules kinds (set_number set) first rows end (columns_of n (take (2 * rows + 1) offsets.now) (take n deltas.now))) }
@@ -69,7 +69,7 @@ fn rule_set(
     n: usize,
     offsets: &mut [u64; 2049],
     deltas: &mut [i64; 4096],
-) -> Ruling
+) -> Result<(), Refusal>
     requires { (rows ≤ 1024) × ((n ≤ 4096) × (set_end rows p n ≤ length b.now)) }
     ensures { result ≡ ruling (set_rules kinds (set_number set) first rows end (set_in b.now rows p n)) }
 {
@@ -89,16 +89,13 @@ fn later_rules(
     m: usize,
     offsets: &mut [u64; 2049],
     deltas: &mut [i64; 4096],
-) -> Ruling
+) -> Result<(), Refusal>
     requires rows_bound { (rows ≤ 1024) × ((n ≤ 4096) × (m ≤ 4096)) }
     requires n_in_bounds { (set_end rows p n ≤ length b.now) × (set_end rows q m ≤ length b.now) }
     ensures { result ≡ ruling (later_rules first rows end (set_in b.now rows p n) (set_in b.now rows q m)) }
 {
-    let r = rule_set(b, Set::Reverse, first, rows, end, p, n, offsets, deltas);
-    match r {
-        Ruling::Broken(x) => Ruling::Broken(x),
-        Ruling::Kept => rule_set(b, Set::Inbound, first, rows, end, q, m, offsets, deltas),
-    }
+    rule_set(b, Set::Reverse, first, rows, end, p, n, offsets, deltas)?;
+    rule_set(b, Set::Inbound, first, rows, end, q, m, offsets, deltas)
 }
 
 // 17 to 19, set by set.
@@ -114,14 +111,11 @@ pub fn sets_rules(
     m: usize,
     offsets: &mut [u64; 2049],
     deltas: &mut [i64; 4096],
-) -> Ruling
+) -> Result<(), Refusal>
     requires rows_bound { (rows ≤ 1024) × ((k ≤ 4096) × ((n ≤ 4096) × (m ≤ 4096))) }
     requires k_in_bounds { (set_end rows 0 k ≤ length b.now) × ((set_end rows p n ≤ length b.now) × (set_end rows q m ≤ length b.now)) }
     ensures { result ≡ ruling (sets_rules first rows end (set_in b.now rows 0 k) (set_in b.now rows p n) (set_in b.now rows q m)) }
 {
-    let r = rule_set(b, Set::Forward, first, rows, end, 0, k, offsets, deltas);
-    match r {
-        Ruling::Broken(x) => Ruling::Broken(x),
-        Ruling::Kept => later_rules(b, first, rows, end, p, n, q, m, offsets, deltas),
-    }
+    rule_set(b, Set::Forward, first, rows, end, 0, k, offsets, deltas)?;
+    later_rules(b, first, rows, end, p, n, q, m, offsets, deltas)
 }

@@ -17,18 +17,9 @@ use Rattle.columns.specs.Limits.{max_records, max_groups, max_subject}
 use Rattle.cleaning.specs.Sections.{reaches}
 use Rattle.run_state.specs.declared.Sheet.{Sheet}
 use Rattle.run_state.specs.Valid.{below, counts_ok}
-use Rattle.run_state.proofs.ColumnTurns.{not-below, below_on}
 use Rattle.run_state.specs.declared.order.Counts.{Counts}
 use Rattle.run_state.specs.order.Long.{LongSheet}
 use Rattle.run_state.specs.order.Ordered.{groups_ordered, counts_in, columns_ordered, ordered, filled}
-
--- a group as a number of another width
-module _ {t : Bool} (count i n : ℕ) (l : List ℕ) (e : t ≡ all (below count) (slice i n l)) (h : i < n) (k : n ≤ length l) (x : ℕ) (d : x ≡ get_or l i 0) where
-  pub group-past : count ≤ x → false ≡ t
-  group-past f = not-below count i n l e h k (omega arith)
-
-  pub group-there : x < count → t ≡ all (below count) (slice (i + 1) n l)
-  group-there f = below_on count i n l e h k (omega arith)
 
 module _ {t : Bool} (n seen i to : ℕ) (l : List ℕ) (e : t ≡ reaches n seen (slice i to l)) where
   pub reach-done : to ≤ i → eqb seen n ≡ t
@@ -44,13 +35,13 @@ module _ {t : Bool} (n seen i to : ℕ) (l : List ℕ) (e : t ≡ reaches n seen
     unfolding reaches
     reach-on f g = rw (e, slice-cons i to l 0, ne_eqb (get_or l i 0) seen (λ q. f (d ∙ q)), g, add-one)
 
-pub groups-fall : (n count : ℕ) (l : List ℕ) {r : Bool} → r ≡ not_falling (take count l) → not r ≡ true → false ≡ groups_ordered n count l
+pub groups-fall : (n count : ℕ) (l : List ℕ) {r : Bool} → r ≡ not_falling (take count l) → r ≡ false → r ≡ groups_ordered n count l
 unfolding groups_ordered
-groups-fall n count l {r} e h = rw (← e, not-true r h)
+groups-fall n count l e h = rw (← e, h)
 
-pub groups-rest : (n count : ℕ) (l : List ℕ) {r q : Bool} → r ≡ not_falling (take count l) → not r ≡ false → q ≡ all (below n) (take count l) → q ≡ groups_ordered n count l
+pub groups-rest : (n count : ℕ) (l : List ℕ) {r q : Bool} → r ≡ not_falling (take count l) → r ≡ true → q ≡ all (below n) (take count l) → q ≡ groups_ordered n count l
 unfolding groups_ordered
-groups-rest n count l {r} e h f = rw (← e, not-false r h) f
+groups-rest n count l e h f = rw (← e, h) f
 
 -- ── a sheet ──────────────────────────────────────────────────────────────────────────────────
 

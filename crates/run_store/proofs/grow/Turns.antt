@@ -12,7 +12,7 @@ use lib.Seq.{sets, drop-cons, get_or-drop, take_all, drop-length}
 use borrow.Rule.Slice.PartMut.{mid_of, post_of, put_mid, Post-is}
 use mir.Syntax.{w32, w64}
 use mir.Val.{Fits}
-use borrow.Author.Tests.{ltb-true, eq-eqb, ne_eqb}
+use borrow.Author.Tests.{ltb-true}
 use Rattle.lists.specs.Lists.{all}
 use Rattle.lists.proofs.Tests.{both}
 use Rattle.columns.specs.Limits.{end32}
@@ -58,15 +58,13 @@ module _ {A : Type 0} (w : ℕ) (f : List ℕ → A) (n i at : ℕ) (l : List �
   pub one-put : (v : A) → i < n → v ≡ f (drop p l) → t ≡ sets (set out (at + i) v) (at + (i + 1)) (several w f (n - (i + 1)) (drop (p + w) l))
   one-put v h g = rw (e, several-cons w f n i l p h, g, add-one, add-suc)
 
+module _ {A : Type 0} (w n i at : ℕ) (l : List ℕ) (p : ℕ) {t : List A} (out : List A) (h : i < n) where
+  pub number_put : (held : List ℕ → ℕ → A) → ((l : List ℕ) (p k : ℕ) → held (drop p l) k ≡ held l (p + k)) → (skip : ℕ) {v : A}
+      → t ≡ sets out (at + i) (several w (λ l. held l skip) (n - i) (drop p l)) → v ≡ held l (p + skip)
+      → t ≡ sets (set out (at + i) v) (at + (i + 1)) (several w (λ l. held l skip) (n - (i + 1)) (drop (p + w) l))
+  number_put held behind skip {v} e g = one-put w (λ l. held l skip) n i at l p out e v h (rw (behind l p skip) g)
+
 module _ (w n i at : ℕ) (l : List ℕ) (p : ℕ) {t : List ℕ} (out : List ℕ) (h : i < n) where
-  pub number_put : (k skip : ℕ) {v : ℕ} → t ≡ sets out (at + i) (several w (λ l. be k l skip) (n - i) (drop p l)) → v ≡ be k l (p + skip)
-      → t ≡ sets (set out (at + i) v) (at + (i + 1)) (several w (λ l. be k l skip) (n - (i + 1)) (drop (p + w) l))
-  number_put k skip {v} e g = one-put w (λ l. be k l skip) n i at l p out e v h (rw (be-drop k l p skip) g)
-
-  pub byte_put : (skip : ℕ) → t ≡ sets out (at + i) (several w (λ l. get_or l skip 0) (n - i) (drop p l))
-      → t ≡ sets (set out (at + i) (get_or l (p + skip) 0)) (at + (i + 1)) (several w (λ l. get_or l skip 0) (n - (i + 1)) (drop (p + w) l))
-  byte_put skip e = one-put w (λ l. get_or l skip 0) n i at l p out e (get_or l (p + skip) 0) h (sym (get_or-drop p l skip 0))
-
   pub flag-put : {v : ℕ} → t ≡ sets out (at + i) (several w (λ l. bit (eqb (get_or l 0 0) 1)) (n - i) (drop p l)) → v ≡ bit (eqb (get_or l p 0) 1)
       → t ≡ sets (set out (at + i) v) (at + (i + 1)) (several w (λ l. bit (eqb (get_or l 0 0) 1)) (n - (i + 1)) (drop (p + w) l))
   flag-put {v} e g = one-put w (λ l. bit (eqb (get_or l 0 0) 1)) n i at l p out e v h (rw (get_or-drop p l 0 0, add-zero p) g)
@@ -74,12 +72,6 @@ module _ (w n i at : ℕ) (l : List ℕ) (p : ℕ) {t : List ℕ} (out : List �
   pub moved-put : (add skip : ℕ) {v : ℕ} → t ≡ sets out (at + i) (several w (λ l. add + be 8 l skip) (n - i) (drop p l)) → v ≡ be 8 l (p + skip)
       → t ≡ sets (set out (at + i) (add + v)) (at + (i + 1)) (several w (λ l. add + be 8 l skip) (n - (i + 1)) (drop (p + w) l))
   moved-put add skip {v} e g = one-put w (λ l. add + be 8 l skip) n i at l p out e (add + v) h (rw (be-drop 8 l p skip) (ap (λ x. add + x) g))
-
-pub is-flag : (x : ℕ) → x ≡ 1 → 1 ≡ bit (eqb x 1)
-is-flag x h = rw (eq-eqb x 1 h)
-
-pub no_flag : (x : ℕ) → (x ≡ 1 → ⊥) → 0 ≡ bit (eqb x 1)
-no_flag x h = rw (ne_eqb x 1 h)
 
 pub small-starts : (w skip n : ℕ) (l : List ℕ) (p : ℕ) → Small (several w (λ l. be 8 l skip) n (drop p l)) → Small (several w (λ l. be 8 l skip) (n - 0) (drop p l))
 small-starts w skip n l p s = rw (sub-zero n) s

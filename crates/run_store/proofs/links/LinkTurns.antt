@@ -1,4 +1,5 @@
 -- The loop over an archive's files that grows the links: what one file adds, and one turn.
+use Rattle.std.specs.Prelude.{None, Some, Option}
 use mathlib.Core.Path.{◌≡◌, refl, sym, ap, ◌∙◌}
 use mathlib.Core.Bool.{true, false, not}
 use mathlib.Core.List.{List, map}
@@ -19,8 +20,6 @@ use Rattle.archive_read.specs.bodies.View.{links_place, head_in, cover_in}
 use Rattle.archive_read.specs.Layout.{part_in, front_in, tail_in, file_from, file_in, file_of, HoldsTail, Uncovers, AfterFile}
 use Rattle.archive_read.specs.declared.records.TailAt.{TailAt}
 use Rattle.archive_read.specs.declared.records.FileAt.{FileAt}
-use Rattle.archive_read.specs.declared.records.FileRead.{FileRead}
-use Rattle.archive_read.specs.declared.records.FileRead.TheVariants.{FileIs, NoFile}
 use Rattle.archive_read.proofs.AtFiles.{file-holds, file-counts}
 use Rattle.run_state.specs.declared.Links.{Links}
 use Rattle.run_state.specs.declared.Held.{Held}
@@ -96,11 +95,11 @@ module _ (h : Held) (c : ℕ) (s a b x y : List ℕ) (l : List ℕ) (k p : ℕ) 
   pub links-done : length l ≤ p → r ≡ (stored h l).links
   links-done g = part-done (λ q. q.links) h r l k p w g
 
-  module _ (lt : p < length l) (le : k ≤ p) (z : FileRead) (d : file_of l z ≡ file kinds l p) where
-    pub no-links : z ≡ NoFile → r ≡ (stored h l).links
+  module _ (lt : p < length l) (le : k ≤ p) (z : Option FileAt) (d : file_of l z ≡ file kinds l p) where
+    pub no-links : z ≡ None → r ≡ (stored h l).links
     no-links m = absurd (no-file links_now h r l k p w lt le z d m)
 
-    module _ {f : FileAt} (m : z ≡ FileIs f) (i : AfterFile l p z) where
+    module _ {f : FileAt} (m : z ≡ Some f) (i : AfterFile l p z) where
       room : HeldRoom w.held l f
       room = walk-room links_now h r l k p w lt le z d m i
 

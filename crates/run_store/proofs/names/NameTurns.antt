@@ -1,4 +1,5 @@
 -- The loop over an archive's files that grows the names: what one file adds, and one turn.
+use Rattle.std.specs.Prelude.{None, Some, Option}
 use mathlib.Core.Path.{◌≡◌, refl, sym, ap, ◌∙◌}
 use mathlib.Core.Bool.{Bool, true, false, cond}
 use mathlib.Core.List.{List}
@@ -12,8 +13,6 @@ use Rattle.archive.specs.Parse.{file}
 use Rattle.archive_read.specs.bodies.View.{head_in, cover_in}
 use Rattle.archive_read.specs.Layout.{part_in, front_in, tail_in, file_from, file_in, file_of, Uncovers, AfterFile}
 use Rattle.archive_read.specs.declared.records.FileAt.{FileAt}
-use Rattle.archive_read.specs.declared.records.FileRead.{FileRead}
-use Rattle.archive_read.specs.declared.records.FileRead.TheVariants.{FileIs, NoFile}
 use Rattle.archive_read.proofs.AtFiles.{ranges-counted, file-counts}
 use Rattle.cleaning.specs.Source.{is_there}
 use Rattle.cleaning.specs.Taking.{stored_ranges}
@@ -88,11 +87,11 @@ module _ (h : Held) (q : Names) (l : List ℕ) (k p : ℕ) (w : Walk names_of h 
     names = w.is;
   }
 
-  module _ (lt : p < length l) (le : k ≤ p) (z : FileRead) (d : file_of l z ≡ file kinds l p) where
-    pub names-none : z ≡ NoFile → Named h l q
+  module _ (lt : p < length l) (le : k ≤ p) (z : Option FileAt) (d : file_of l z ≡ file kinds l p) where
+    pub names-none : z ≡ None → Named h l q
     names-none m = absurd (no-file names_of h q l k p w lt le z d m)
 
-    module _ {f : FileAt} (m : z ≡ FileIs f) (i : AfterFile l p z) where
+    module _ {f : FileAt} (m : z ≡ Some f) (i : AfterFile l p z) where
       pub names-room : NamesRoom q l f
       names-room =
           let r = walk-room names_of h q l k p w lt le z d m i in

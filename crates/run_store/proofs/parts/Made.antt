@@ -2,12 +2,12 @@
 use mathlib.Core.Path.{◌≡◌}
 use mathlib.Core.Bool.{Bool, cond}
 use mathlib.Core.List.{List}
-use Prim.Native.Nat.{ℕ, ◌≤◌, ◌<◌, ◌+◌}
+use Prim.Native.Nat.{ℕ, ◌≤◌, ◌+◌}
 use lib.Dec.{eqb}
 use lib.ListN.{length, get_or, set, take, drop, length-drop}
 use lib.Seq.{sets, length-take-le}
 use native.Mathlib.Omega.{arith}
-use borrow.Author.Tests.{eq-eqb, ne_eqb, lt-ltb, le-ltb}
+use borrow.Author.Tests.{eq-eqb, ne_eqb}
 use Rattle.run_store.specs.grow.Column.{bit}
 use Rattle.run_state.specs.declared.Subject.{Subject}
 use Rattle.run_state.specs.declared.Groups.{Groups}
@@ -34,19 +34,6 @@ module _ (g : Groups) (group flag least greatest : ℕ) (covered : Bool) {q : Gr
   pub is-joined : (group ≡ g.count → ⊥) → q ≡ groups_joined g group flag least greatest → q ≡ groups_with g group flag least greatest covered
   unfolding groups_with
   is-joined h e = rw (ne_eqb group g.count h) e
-
-module _ (a b : ℕ) where
-  pub second-less : b < a → b ≡ smaller a b
-  second-less h = rw (lt-ltb b a h)
-
-  pub first-least : a ≤ b → a ≡ smaller a b
-  first-least h = rw (le-ltb b a h)
-
-  pub second_more : a < b → b ≡ greater a b
-  second_more h = rw (lt-ltb a b h)
-
-  pub first-most : b ≤ a → a ≡ greater a b
-  first-most h = rw (le-ltb a b h)
 
 pub flag_is : (flag x : ℕ) → flag ≡ 1 → x ≡ cond (eqb flag 1) x 0
 flag_is flag x h = rw (eq-eqb flag 1 h)

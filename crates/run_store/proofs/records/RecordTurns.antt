@@ -1,4 +1,5 @@
 -- The loops over an archive's files that grow unresolved references and state roots: what one file adds, and one turn.
+use Rattle.std.specs.Prelude.{None, Some, Option}
 use mathlib.Core.Path.{◌≡◌, refl, sym, ap, ◌∙◌}
 use mathlib.Core.List.{List, map}
 use Prim.Native.Nat.{ℕ, ◌≤◌, ◌<◌, ◌+◌, ◌*◌}
@@ -14,8 +15,6 @@ use Rattle.archive.specs.Parse.{file, unresolved_at, root_at}
 use Rattle.archive.proofs.Back.{length-several}
 use Rattle.archive_read.specs.Layout.{part_in, middle_in, tail_in, file_from, file_in, file_of, Holds, AfterFile}
 use Rattle.archive_read.specs.declared.records.FileAt.{FileAt}
-use Rattle.archive_read.specs.declared.records.FileRead.{FileRead}
-use Rattle.archive_read.specs.declared.records.FileRead.TheVariants.{FileIs, NoFile}
 use Rattle.archive_read.proofs.AtFiles.{file-holds}
 use Rattle.run_state.specs.declared.Unresolved.{Unresolved}
 use Rattle.run_state.specs.declared.Roots.{Roots}
@@ -69,11 +68,11 @@ module _ (h : Held) (c : ℕ) (a b e : List ℕ) (l : List ℕ) (k p : ℕ) (w :
   pub unresolved-done : length l ≤ p → u ≡ (stored h l).unresolved
   unresolved-done g = part-done (λ q. q.unresolved) h u l k p w g
 
-  module _ (lt : p < length l) (le : k ≤ p) (z : FileRead) (d : file_of l z ≡ file kinds l p) where
-    pub unresolved-none : z ≡ NoFile → u ≡ (stored h l).unresolved
+  module _ (lt : p < length l) (le : k ≤ p) (z : Option FileAt) (d : file_of l z ≡ file kinds l p) where
+    pub unresolved-none : z ≡ None → u ≡ (stored h l).unresolved
     unresolved-none m = absurd (no-file unresolved_now h u l k p w lt le z d m)
 
-    module _ {f : FileAt} (m : z ≡ FileIs f) (i : AfterFile l p z) where
+    module _ {f : FileAt} (m : z ≡ Some f) (i : AfterFile l p z) where
       pub unresolved-holds : Holds l f.middle.unresolved (4 + f.middle.count * 13)
       unresolved-holds = (file-holds l p z i m).middle.unresolved
 
@@ -108,11 +107,11 @@ module _ (h : Held) (c : ℕ) (a b : List ℕ) (n : ℕ) (l : List ℕ) (k p : �
   pub roots-done : length l ≤ p → roots_of c a b ≡ (stored h l).roots
   roots-done g = ap (λ v. v.0) (part-done (λ q. (q.roots, q.rows.count)) h t l k p w g)
 
-  module _ (lt : p < length l) (le : k ≤ p) (z : FileRead) (d : file_of l z ≡ file kinds l p) where
-    pub roots-none : z ≡ NoFile → roots_of c a b ≡ (stored h l).roots
+  module _ (lt : p < length l) (le : k ≤ p) (z : Option FileAt) (d : file_of l z ≡ file kinds l p) where
+    pub roots-none : z ≡ None → roots_of c a b ≡ (stored h l).roots
     roots-none m = absurd (no-file roots_now h t l k p w lt le z d m)
 
-    module _ {f : FileAt} (m : z ≡ FileIs f) (i : AfterFile l p z) where
+    module _ {f : FileAt} (m : z ≡ Some f) (i : AfterFile l p z) where
       room : HeldRoom w.held l f
       room = walk-room roots_now h t l k p w lt le z d m i
 

@@ -1,4 +1,6 @@
 -- The loops over an archive's files that grow the rows and their flags: what one file adds, and one turn.
+use Rattle.std.specs.declared.option.Option as rust
+use Rattle.std.specs.Prelude.{None, Some}
 use mathlib.Core.Path.{◌≡◌, refl, sym, ap, ◌∙◌}
 use mathlib.Core.Bool.{true, false, not}
 use mathlib.Core.List.{List, map}
@@ -21,8 +23,6 @@ use Rattle.archive_read.specs.bodies.View.{head_in, cover_in}
 use Rattle.archive_read.specs.Layout.{part_in, front_in, middle_in, tail_in, file_from, file_in, file_of, Holds, AfterFile}
 use Rattle.archive_read.specs.declared.records.TailAt.{TailAt}
 use Rattle.archive_read.specs.declared.records.FileAt.{FileAt}
-use Rattle.archive_read.specs.declared.records.FileRead.{FileRead}
-use Rattle.archive_read.specs.declared.records.FileRead.TheVariants.{FileIs, NoFile}
 use Rattle.archive_read.proofs.AtFiles.{file-holds}
 use Rattle.run_state.specs.declared.Rows.{Rows}
 use Rattle.run_state.specs.declared.Held.{Held}
@@ -106,11 +106,11 @@ module _ (h : Held) (c : ℕ) (a b x y : List ℕ) (l : List ℕ) (k p : ℕ) (w
   pub rows-done : length l ≤ p → r ≡ (stored h l).rows
   rows-done e = part-done (λ q. q.rows) h r l k p w e
 
-  module _ (lt : p < length l) (le : k ≤ p) (z : FileRead) (d : file_of l z ≡ file kinds l p) where
-    pub rows_none : z ≡ NoFile → r ≡ (stored h l).rows
+  module _ (lt : p < length l) (le : k ≤ p) (z : rust.Option FileAt) (d : file_of l z ≡ file kinds l p) where
+    pub rows_none : z ≡ None → r ≡ (stored h l).rows
     rows_none m = absurd (no-file rows_now h r l k p w lt le z d m)
 
-    module _ {f : FileAt} (m : z ≡ FileIs f) (i : AfterFile l p z) where
+    module _ {f : FileAt} (m : z ≡ Some f) (i : AfterFile l p z) where
       pub rows-room : c + f.front.head.rows ≤ 1024
       rows-room = rw (ap (λ v. v.count) w.is) (walk-room rows_now h r l k p w lt le z d m i).sheet.rows
 
@@ -120,7 +120,7 @@ module _ (h : Held) (c : ℕ) (a b x y : List ℕ) (l : List ℕ) (k p : ℕ) (w
       pub rows_on : {j : ℕ} {s : Rows} → j ≡ k + 1 → s ≡ rows_more r (file_in l f) → Walk rows_now h s l j f.tail.end
       rows_on g e = walk-on rows_now h r l k p w lt le z d m i g (e ∙ ap (λ v. rows_more v (file_in l f)) w.is ∙ sym (rows_then w.held l f))
 
-pub rows-hold : (l : List ℕ) (p : ℕ) (z : FileRead) {f : FileAt} → AfterFile l p z → z ≡ FileIs f → Holds l f.middle.rows (f.front.head.rows * 9)
+pub rows-hold : (l : List ℕ) (p : ℕ) (z : rust.Option FileAt) {f : FileAt} → AfterFile l p z → z ≡ Some f → Holds l f.middle.rows (f.front.head.rows * 9)
 rows-hold l p z i m = (file-holds l p z i m).middle.rows
 
 -- the flags, and the number of rows
@@ -139,11 +139,11 @@ module _ (h : Held) (s : List ℕ) (c : ℕ) (l : List ℕ) (k p : ℕ) (w : Wal
   pub flags-done : length l ≤ p → s ≡ (stored h l).erased
   flags-done e = ap (λ v. v.0) (part-done (λ q. (q.erased, q.rows.count)) h (s, c) l k p w e)
 
-  module _ (lt : p < length l) (le : k ≤ p) (z : FileRead) (d : file_of l z ≡ file kinds l p) where
-    pub flags-none : z ≡ NoFile → s ≡ (stored h l).erased
+  module _ (lt : p < length l) (le : k ≤ p) (z : rust.Option FileAt) (d : file_of l z ≡ file kinds l p) where
+    pub flags-none : z ≡ None → s ≡ (stored h l).erased
     flags-none m = absurd (no-file flags_now h (s, c) l k p w lt le z d m)
 
-    module _ {f : FileAt} (m : z ≡ FileIs f) (i : AfterFile l p z) where
+    module _ {f : FileAt} (m : z ≡ Some f) (i : AfterFile l p z) where
       pub flags-room : c + f.front.head.rows ≤ 1024
       flags-room = rw (ap (λ v. v.1) w.is) (walk-room flags_now h (s, c) l k p w lt le z d m i).sheet.rows
 

@@ -1,4 +1,5 @@
 -- The loop over an archive's files that grows the lists of one set: what is read, and one turn.
+use Rattle.std.specs.Prelude.{None, Some, Option}
 use mathlib.Core.Path.{◌≡◌, refl, sym, ap, ◌∙◌}
 use mathlib.Core.Bool.{true}
 use mathlib.Core.List.{List, map}
@@ -26,8 +27,6 @@ use Rattle.archive_read.specs.declared.bodies.EdgesAt.{EdgesAt}
 use Rattle.archive_read.specs.Layout.{part_in, front_in, file_from, file_in, file_of, Holds, HoldsFile, AfterFile}
 use Rattle.archive_read.specs.declared.records.FrontAt.{FrontAt}
 use Rattle.archive_read.specs.declared.records.FileAt.{FileAt}
-use Rattle.archive_read.specs.declared.records.FileRead.{FileRead}
-use Rattle.archive_read.specs.declared.records.FileRead.TheVariants.{FileIs, NoFile}
 use Rattle.run_state.specs.declared.Edges.{Edges}
 use Rattle.run_state.specs.declared.Held.{Held}
 use Rattle.run_store.specs.parts.Grown.{set_at, edges_with}
@@ -144,11 +143,11 @@ module _ (side : Side) (h : Held) (c : ℕ) (a y : List ℕ) (n : ℕ) (l : List
   pub side-done : length l ≤ p → e ≡ side_of side (stored h l)
   side-done t = ap (λ v. v.0) (part-done (λ q. (side_of side q, q.rows.count)) h (e, n) l k p w t)
 
-  module _ (lt : p < length l) (le : k ≤ p) (x : FileRead) (d : file_of l x ≡ file kinds l p) where
-    pub side-none : x ≡ NoFile → e ≡ side_of side (stored h l)
+  module _ (lt : p < length l) (le : k ≤ p) (x : Option FileAt) (d : file_of l x ≡ file kinds l p) where
+    pub side-none : x ≡ None → e ≡ side_of side (stored h l)
     side-none m = absurd (no-file (side_now side) h (e, n) l k p w lt le x d m)
 
-    module _ {f : FileAt} (m : x ≡ FileIs f) (b : AfterFile l p x) {s : SetPlace} (i : s ≡ place_of side f.front.edges) where
+    module _ {f : FileAt} (m : x ≡ Some f) (b : AfterFile l p x) {s : SetPlace} (i : s ≡ place_of side f.front.edges) where
       lists-are : e ≡ side_of side (parts_of w.held)
       lists-are = ap (λ v. v.0) w.is
 

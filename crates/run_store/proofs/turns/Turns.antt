@@ -1,4 +1,5 @@
 -- A loop over an archive's files that stores one part of what a run holds: its start, one turn, and its end.
+use Rattle.std.specs.Prelude.{None, Some, Option}
 use mathlib.Core.Path.{◌≡◌, refl, sym, ap, ◌∙◌}
 use mathlib.Core.Bool.{true, false, not, false≢true}
 use mathlib.Core.List.{List, ◌∷◌, map, foldl}
@@ -16,8 +17,6 @@ use Rattle.archive.specs.Parse.{file, files, parse}
 use Rattle.archive_read.specs.Layout.{file_in, file_of, HoldsCover, HoldsTail, HoldsFile, Uncovers, AfterFile}
 use Rattle.archive_read.specs.declared.records.TailAt.{TailAt}
 use Rattle.archive_read.specs.declared.records.FileAt.{FileAt}
-use Rattle.archive_read.specs.declared.records.FileRead.{FileRead}
-use Rattle.archive_read.specs.declared.records.FileRead.TheVariants.{FileIs, NoFile}
 use Rattle.archive_read.proofs.AtFiles.{files-end, file-past, file-fits, file-counts, file-holds, rows_counted}
 use Rattle.cleaning.specs.Source.{source_of}
 use Rattle.cleaning.specs.Held.{held_with}
@@ -114,15 +113,15 @@ module _ {A : Type 0} (view : Held → A) (h : Held) (a : A) (l : List ℕ) (k p
   unfolding held_ok held_in
   walk-ordered = ordered_sheet q.sheet g.long.sheet (both (sheet_ok q.sheet) _ g.ok).0 g.neat.tidy
 
-  module _ (lt : p < length l) (le : k ≤ p) (x : FileRead) (d : file_of l x ≡ file kinds l p) where
+  module _ (lt : p < length l) (le : k ≤ p) (x : Option FileAt) (d : file_of l x ≡ file kinds l p) where
     step : files kinds (length l - k) l p ≡ and_then (file_of l x) (λ f e. and_then (files kinds (length l - (k + 1)) l e) (λ fs e. got (f ∷ fs) e))
     unfolding files ◌>>=◌
     step = let z : length l - k ≡ suc (length l - (k + 1)) = omega arith in rw (z, lt-leb (length l) p lt, d)
 
-    pub no-file : x ≡ NoFile → ⊥
+    pub no-file : x ≡ None → ⊥
     no-file m = let e : files kinds (length l - k) l p ≡ broken = step ∙ rw m in false≢true (sym (ap is_got e) ∙ g.parsed)
 
-    module _ {f : FileAt} (m : x ≡ FileIs f) (b : AfterFile l p x) where
+    module _ {f : FileAt} (m : x ≡ Some f) (b : AfterFile l p x) where
       abbrev rest : Parsed (List File)
       rest = files kinds (length l - (k + 1)) l f.tail.end
 
@@ -169,7 +168,7 @@ module _ {A : Type 0} (view : Held → A) (h : Held) (a : A) (l : List ℕ) (k p
 pub part-done : {A : Type 0} (v : Parts → A) (h : Held) (a : A) (l : List ℕ) (k p : ℕ) → Walk (λ q. v (parts_of q)) h a l k p → length l ≤ p → a ≡ v (stored h l)
 part-done v h a l k p w e = w.is ∙ ap v (walk-parts (λ q. v (parts_of q)) h a l k p w e)
 
-module _ (l : List ℕ) (p : ℕ) (x : FileRead) {f : FileAt} (a : AfterFile l p x) (m : x ≡ FileIs f) where
+module _ (l : List ℕ) (p : ℕ) (x : Option FileAt) {f : FileAt} (a : AfterFile l p x) (m : x ≡ Some f) where
   pub fewer-left : p < length l → length l - f.tail.end < length l - p
   fewer-left h = omega (arith, file-past l p x a m, file-fits l p x a m)
 

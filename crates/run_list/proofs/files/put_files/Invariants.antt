@@ -10,6 +10,3 @@ abbrev pub invariant-loop-g : goal.invariant-loop-g
 invariant-loop-g l =
     (l.g ≤ l.n) × (length l.out ≡ length l.initial.out) × (l.p + need_from l.z l.n l.rows l.offsets l.targets l.starts l.kids l.g ≤ l.at + need_of l.z l.n l.rows l.offsets l.targets l.starts l.kids)
     × Going (lines_of l.z l.n l.rows l.offsets l.targets l.starts l.kids) l.initial.out l.at l.out l.p (lines_from l.z l.n l.rows l.offsets l.targets l.starts l.kids l.g)
-
-abbrev pub decreases-loop-g : goal.decreases-loop-g
-decreases-loop-g l = l.n - l.g

@@ -9,6 +9,3 @@ use Rattle.run_list.proofs.maps.put_rows.Given as goal
 abbrev pub invariant-loop-i : goal.invariant-loop-i
 invariant-loop-i l =
     (l.i ≤ length l.flags) × (l.p ≤ 46 * l.i) × (length l.out ≡ length l.initial.out) × Going (rows_text l.start l.flags l.numbers) l.initial.out 0 l.out l.p (rows_from l.start l.flags l.numbers l.i)
-
-abbrev pub decreases-loop-i : goal.decreases-loop-i
-decreases-loop-i l = length l.flags - l.i

@@ -12,14 +12,6 @@ facts_of-f-requires c = let pre = c.requires in
     let below = c.loop-g-test.true in
     omega (arith, below, pre.ready.few.groups_count)
 
-pub overflow_add-g : goal.overflow_add-g
-overflow_add-g c = let pre = c.requires in
-    let below = c.loop-g-test.true in
-    record { fits = omega (arith, below, pre.ready.few.groups_count) }
-
-pub loop-g-smaller : goal.loop-g-smaller
-loop-g-smaller c = omega (arith, c.loop-g-test.true)
-
 pub loop-g-preserved : goal.loop-g-preserved
 loop-g-preserved c = let pre = c.requires in
     let left = c.loop-g.invariant in

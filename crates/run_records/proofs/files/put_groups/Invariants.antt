@@ -6,6 +6,3 @@ use Rattle.run_records.proofs.files.put_groups.Given as goal
 abbrev pub invariant-loop-g : goal.invariant-loop-g
 invariant-loop-g l =
     Left (sheet_of l.z l.subject l.groups l.rows l.unresolved l.roots l.links l.offsets l.targets) l.groups.count l.initial.out l.out l.at l.g
-
-abbrev pub decreases-loop-g : goal.decreases-loop-g
-decreases-loop-g l = l.groups.count - l.g

@@ -14,6 +14,3 @@ invariant-loop-i l =
     (l.i ≤ l.n) × (l.p ≡ l.at + l.i * 4) × (l.before < 2 ^ 32) × (length l.out ≡ length l.initial.out) × HalfColumn l.width l.j (l.n - l.i) l.k l.table
     × (sets l.initial.out l.at (column_bytes 4 (differences 0 (several l.width (field l.j) l.n (drop l.q l.table))))
     ≡ sets l.out l.p (column_bytes 4 (differences l.before (several l.width (field l.j) (l.n - l.i) (drop l.k l.table)))))
-
-abbrev pub decreases-loop-i : goal.decreases-loop-i
-decreases-loop-i l = l.n - l.i

@@ -12,6 +12,3 @@ abbrev pub invariant-loop-i : goal.invariant-loop-i
 invariant-loop-i l =
     (l.i ≤ l.n) × (l.p ≡ l.at + l.i * 4) × (length l.out ≡ length l.initial.out) × HalfColumn l.width l.j (l.n - l.i) l.k l.table
     × (sets l.initial.out l.at (column_bytes 4 (several l.width (field l.j) l.n (drop l.q l.table))) ≡ sets l.out l.p (column_bytes 4 (several l.width (field l.j) (l.n - l.i) (drop l.k l.table))))
-
-abbrev pub decreases-loop-i : goal.decreases-loop-i
-decreases-loop-i l = l.n - l.i

@@ -13,6 +13,3 @@ invariant-loop-i l =
     (l.i ≤ l.n) × (l.p ≡ l.at + l.i * 16) × (l.j ≡ l.q + l.i * 2) × (length l.out ≡ length l.initial.out)
     × (sets l.initial.out l.at (flat root_bytes (several 2 (root_above_in l.low) l.n (drop l.q l.roots)))
     ≡ sets l.out l.p (flat root_bytes (several 2 (root_above_in l.low) (l.n - l.i) (drop l.j l.roots))))
-
-abbrev pub decreases-loop-i : goal.decreases-loop-i
-decreases-loop-i l = l.n - l.i

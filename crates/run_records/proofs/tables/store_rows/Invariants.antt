@@ -12,6 +12,3 @@ abbrev pub invariant-loop-i : goal.invariant-loop-i
 invariant-loop-i l =
     (l.i ≤ l.n) × (l.p ≡ l.at + l.i * 9) × (l.j ≡ l.q + l.i * 4) × (length l.out ≡ length l.initial.out)
     × (sets l.initial.out l.at (flat row_bytes (several 4 row_in l.n (drop l.q l.rows))) ≡ sets l.out l.p (flat row_bytes (several 4 row_in (l.n - l.i) (drop l.j l.rows))))
-
-abbrev pub decreases-loop-i : goal.decreases-loop-i
-decreases-loop-i l = l.n - l.i

@@ -15,6 +15,3 @@ invariant-loop-i l =
     × (sets l.initial.out l.at (flat unresolved_bytes (several 3 unresolved_in l.n (drop l.q l.unresolved)))
     ≡ sets l.out l.p (flat unresolved_bytes (several 3 unresolved_in (l.n - l.i) (drop l.j l.unresolved))))
     × NarrowUnresolved (l.n - l.i) (drop l.j l.unresolved)
-
-abbrev pub decreases-loop-i : goal.decreases-loop-i
-decreases-loop-i l = l.n - l.i

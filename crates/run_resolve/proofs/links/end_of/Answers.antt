@@ -1,4 +1,4 @@
-use Rattle.run_resolve.proofs.links.Copying.{end-start, end-last, end-here, end-level, end-own}
+use Rattle.run_resolve.proofs.links.Copying.{end-start, end-last, end-all, end-here, end-level, end-own}
 use borrow.Author.Rules.{rules}
 use Rattle.run_resolve.proofs.links.end_of.Goals as goal
 
@@ -12,4 +12,4 @@ pub loop-p-preserved : goal.loop-p-preserved
 loop-p-preserved c = (search rules, search rules, search end-own, search end-level)
 
 pub returns : goal.returns
-returns c = (search rules, (search rules, (search rules, search end-last)))
+returns c = (search rules, (search rules, (search end-all, search end-last)))

@@ -1,7 +1,7 @@
 -- The invariant: the groups so far are the one, those left are not below it.
 use mathlib.Core.Path.{◌≡◌}
 use mathlib.Core.Bool.{true}
-use Prim.Native.Nat.{◌≤◌, ◌-◌}
+use Prim.Native.Nat.{◌≤◌}
 use lib.Dec.{eqb}
 use lib.Seq.{slice}
 use Rattle.lists.specs.Lists.{all}
@@ -11,6 +11,3 @@ use Rattle.run_resolve.proofs.links.end_of.Given as goal
 abbrev pub invariant-loop-p : goal.invariant-loop-p
 invariant-loop-p l =
     (l.i ≤ l.p) × (l.p ≤ l.n) × (all (eqb l.g) (slice l.i l.p l.groups) ≡ true) × (level_above l.g (slice l.p l.n l.groups) ≡ true)
-
-abbrev pub decreases-loop-p : goal.decreases-loop-p
-decreases-loop-p l = l.n - l.p

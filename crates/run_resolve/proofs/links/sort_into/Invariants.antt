@@ -2,7 +2,7 @@
 use mathlib.Core.Path.{◌≡◌}
 use mathlib.Core.Bool.{true}
 use mathlib.Core.List.{◌++◌}
-use Prim.Native.Nat.{◌≤◌, ◌-◌}
+use Prim.Native.Nat.{◌≤◌}
 use lib.Seq.{slice}
 use Rattle.lists.specs.Order.{level_above}
 use Rattle.cleaning.specs.Survivors.{sort_groups}
@@ -16,6 +16,3 @@ invariant-loop-g l =
     (l.g ≤ l.count) × (l.i ≤ l.n) × (l.k ≤ l.i) × (level_above l.g (slice l.i l.n l.groups) ≡ true)
     × (sort_groups l.count (listed (link_at (links_of l.n l.groups l.a l.b l.c l.d)) l.n)
     ≡ listed (link_at (links_of l.k l.out l.x l.y l.z l.w)) l.k ++ groups_left (links_of l.n l.groups l.a l.b l.c l.d) l.count l.i l.g)
-
-abbrev pub decreases-loop-g : goal.decreases-loop-g
-decreases-loop-g l = l.count - l.g

@@ -8,6 +8,3 @@ use Rattle.run_section.proofs.covers.column_of.Given as goal
 
 abbrev pub invariant-loop-i : goal.invariant-loop-i
 invariant-loop-i l = (l.i ≤ l.n) × (length l.out ≡ 1024) × (take l.i l.out ≡ several 4 (field l.k) l.i (drop (l.a * 4) l.rows))
-
-abbrev pub decreases-loop-i : goal.decreases-loop-i
-decreases-loop-i l = l.n - l.i

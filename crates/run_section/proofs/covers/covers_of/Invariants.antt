@@ -9,6 +9,3 @@ abbrev pub invariant-loop-g : goal.invariant-loop-g
 invariant-loop-g l =
     (l.g ≤ l.groups.count) × (length l.ends ≡ 17) × (length l.rises ≡ 16) × (length l.ranges ≡ 3072)
     × (CoversTo l.z l.groups l.rows l.ranges l.g l.ends l.rises)
-
-abbrev pub decreases-loop-g : goal.decreases-loop-g
-decreases-loop-g l = l.groups.count - l.g

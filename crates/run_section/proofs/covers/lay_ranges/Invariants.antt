@@ -7,6 +7,3 @@ use Rattle.run_section.proofs.covers.lay_ranges.Given as goal
 
 abbrev pub invariant-loop-i : goal.invariant-loop-i
 invariant-loop-i l = (l.i ≤ l.r.count) × (laid l.at (ranges_in l.r) l.initial.table ≡ laid_from l.r l.at l.table l.i)
-
-abbrev pub decreases-loop-i : goal.decreases-loop-i
-decreases-loop-i l = l.r.count - l.i

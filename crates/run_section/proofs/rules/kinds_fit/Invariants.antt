@@ -11,6 +11,3 @@ abbrev pub invariant-loop-i : goal.invariant-loop-i
 invariant-loop-i l =
     (l.i ≤ l.n) × (l.p ≡ l.a * 3 + l.i * 3)
     × (all kind_fits (several 3 unresolved_in l.n (drop (l.a * 3) l.unresolved)) ≡ all kind_fits (several 3 unresolved_in (l.n - l.i) (drop l.p l.unresolved)))
-
-abbrev pub decreases-loop-i : goal.decreases-loop-i
-decreases-loop-i l = l.n - l.i

@@ -1,13 +1,12 @@
-use Rattle.run_state.proofs.ColumnTurns.{all_done}
-use Rattle.run_state.proofs.order.Turns.{group-past, group-there}
-use borrow.Author.Rules.{rules}
+use Rattle.std.proofs.Common.{◌∙◌, rules, tests}
+use Rattle.std.proofs.lemmas.Iterator.{YieldsList-from_slice}
+use Rattle.std.proofs.lemmas.Iterator.Search.{all_from_yields_List}
+use Rattle.run_state.specs.Valid.{below}
+use Rattle.run_state.proofs.ColumnTurns.{all-listed}
 use Rattle.run_state.proofs.order.groups_there.Goals as goal
 
-pub returns-then-count-g : goal.returns-then-count-g
-returns-then-count-g c = search (rules, group-past)
-
-pub loop-i-preserved : goal.loop-i-preserved
-loop-i-preserved c = search (rules, group-there)
-
 pub returns : goal.returns
-returns c = search (rules, all_done)
+unfolding below
+returns c =
+    all_from_yields_List (below c.args.count) _ _ _ c.all.ensures.ran (YieldsList-from_slice c.args.groups.now cc) (λ x b q k. search (rules, tests))
+    ∙ all-listed (below c.args.count) c.args.groups.now

@@ -1,5 +1,5 @@
 use mathlib.Core.Path.{◌≡◌}
-use Prim.Native.Nat.{◌-◌, ◌≤◌}
+use Prim.Native.Nat.{◌≤◌}
 use lib.ListN.{take}
 use lib.Seq.{slice}
 use Rattle.cleaning.specs.Sections.{reaches}
@@ -8,6 +8,3 @@ use Rattle.run_state.proofs.order.reaches_all.Given as goal
 abbrev pub invariant-loop-i : goal.invariant-loop-i
 invariant-loop-i l =
     (l.seen ≤ l.i) × (l.i ≤ l.n) × (reaches l.count 0 (take l.n l.groups) ≡ reaches l.count l.seen (slice l.i l.n l.groups))
-
-abbrev pub decreases-loop-i : goal.decreases-loop-i
-decreases-loop-i l = l.n - l.i

@@ -1,12 +1,12 @@
-use Rattle.run_state.proofs.ColumnTurns.{all_done, not-below, below_on}
-use borrow.Author.Rules.{rules}
+use Rattle.std.proofs.Common.{◌∙◌, rules, tests}
+use Rattle.std.proofs.lemmas.Iterator.{YieldsList-from_slice}
+use Rattle.std.proofs.lemmas.Iterator.Search.{all_from_yields_List}
+use Rattle.run_state.specs.Valid.{below}
+use Rattle.run_state.proofs.ColumnTurns.{all-listed}
 use Rattle.run_state.proofs.tests.are_below.Goals as goal
 
-pub returns-then-event-targets : goal.returns-then-event-targets
-returns-then-event-targets c = search (rules, not-below)
-
-pub loop-j-preserved : goal.loop-j-preserved
-loop-j-preserved c = search (rules, below_on)
-
 pub returns : goal.returns
-returns c = search (rules, all_done)
+unfolding below
+returns c =
+    all_from_yields_List (below c.args.event) _ _ _ c.all.ensures.ran (YieldsList-from_slice c.args.numbers.now cc) (λ x b q k. search (rules, tests))
+    ∙ all-listed (below c.args.event) c.args.numbers.now

@@ -1,5 +1,5 @@
 use mathlib.Core.Path.{◌≡◌}
-use Prim.Native.Nat.{◌≤◌, ◌-◌, ◌*◌}
+use Prim.Native.Nat.{◌≤◌, ◌*◌}
 use lib.ListN.{drop}
 use Rattle.columns.specs.EdgeSet.{cut}
 use Rattle.run_state.specs.Valid.{earlier}
@@ -8,6 +8,3 @@ use Rattle.run_state.proofs.tests.are_earlier.Given as goal
 abbrev pub invariant-loop-s : goal.invariant-loop-s
 invariant-loop-s l =
     (l.s ≤ 2 * l.rows) × (earlier l.first 0 (cut l.offsets l.targets) ≡ earlier l.first l.s (drop l.s (cut l.offsets l.targets)))
-
-abbrev pub decreases-loop-s : goal.decreases-loop-s
-decreases-loop-s l = 2 * l.rows - l.s

@@ -1,12 +1,11 @@
-use Rattle.run_state.proofs.ColumnTurns.{all_done, outside, inside_on}
-use borrow.Author.Rules.{rules}
+use Rattle.std.proofs.Common.{◌+◌, ◌∙◌, rules, tests}
+use Rattle.std.proofs.lemmas.Iterator.{YieldsList-from_slice}
+use Rattle.std.proofs.lemmas.Iterator.Search.{all_from_yields_List}
+use Rattle.columns.specs.Building.{in_file}
+use Rattle.run_state.proofs.ColumnTurns.{all-listed}
 use Rattle.run_state.proofs.tests.are_in_file.Goals as goal
 
-pub returns-then-not-is_in_file : goal.returns-then-not-is_in_file
-returns-then-not-is_in_file c = search (rules, outside)
-
-pub loop-i-preserved : goal.loop-i-preserved
-loop-i-preserved c = search (rules, inside_on)
-
 pub returns : goal.returns
-returns c = search (rules, all_done)
+returns c = let test = in_file c.args.first (c.args.first + c.args.rows) in
+    all_from_yields_List test _ _ _ c.all.ensures.ran (YieldsList-from_slice c.args.numbers.now cc) (λ x b q k. search (rules, tests))
+    ∙ all-listed test c.args.numbers.now

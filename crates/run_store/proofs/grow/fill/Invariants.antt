@@ -7,6 +7,3 @@ use Rattle.run_store.proofs.grow.fill.Given as goal
 abbrev pub invariant-loop-i : goal.invariant-loop-i
 invariant-loop-i l =
     (l.i ≤ l.n) × (sets l.initial.out l.at (replicate l.n l.x) ≡ sets l.out (l.at + l.i) (replicate (l.n - l.i) l.x))
-
-abbrev pub decreases-loop-i : goal.decreases-loop-i
-decreases-loop-i l = l.n - l.i

@@ -12,6 +12,3 @@ invariant-loop-i l =
     (l.i ≤ l.n) × Room (length l.bytes) l.p l.width (l.n - l.i)
     × (sets l.initial.out l.at (several l.width (λ l. bit (eqb (get_or l 0 0) 1)) l.n (drop l.base l.bytes))
     ≡ sets l.out (l.at + l.i) (several l.width (λ l. bit (eqb (get_or l 0 0) 1)) (l.n - l.i) (drop l.p l.bytes)))
-
-abbrev pub decreases-loop-i : goal.decreases-loop-i
-decreases-loop-i l = l.n - l.i

@@ -11,6 +11,3 @@ invariant-loop-i l =
     (l.i ≤ l.n) × Room (length l.bytes) l.p l.width (l.n - l.i) × Small (several l.width (λ b. be 8 b l.skip) (l.n - l.i) (drop l.p l.bytes))
     × (sets l.initial.out l.at (several l.width (λ b. l.add + be 8 b l.skip) l.n (drop l.base l.bytes))
     ≡ sets l.out (l.at + l.i) (several l.width (λ b. l.add + be 8 b l.skip) (l.n - l.i) (drop l.p l.bytes)))
-
-abbrev pub decreases-loop-i : goal.decreases-loop-i
-decreases-loop-i l = l.n - l.i

@@ -12,6 +12,3 @@ abbrev pub invariant-loop-i : goal.invariant-loop-i
 invariant-loop-i l =
     (l.i ≤ l.n) × Room (length l.bytes) l.p 4 (l.n - l.i) × Fitting l.sum (column 4 (l.n - l.i) l.bytes l.p)
     × (sets l.initial.out l.at (sums 0 (column 4 l.n l.bytes l.base)) ≡ sets l.out (l.at + l.i) (sums l.sum (column 4 (l.n - l.i) l.bytes l.p)))
-
-abbrev pub decreases-loop-i : goal.decreases-loop-i
-decreases-loop-i l = l.n - l.i

@@ -2,11 +2,11 @@ use Rattle.run_text.proofs.lines.Columns.{begin, turn_signed, ended}
 use borrow.Author.Rules.{rules}
 use Rattle.run_text.proofs.lines.put_deltas.Goals as goal
 
-pub loop-i-init : goal.loop-i-init
-loop-i-init c = search (rules, begin)
+pub loop-d-init : goal.loop-d-init
+loop-d-init c = search (rules, begin)
 
-pub loop-i-preserved : goal.loop-i-preserved
-loop-i-preserved c = search (rules, turn_signed)
+pub loop-d-preserved : goal.loop-d-preserved
+loop-d-preserved c = search (rules, turn_signed)
 
 pub returns : goal.returns
 returns c = search (rules, ended)

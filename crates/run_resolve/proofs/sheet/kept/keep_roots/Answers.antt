@@ -7,7 +7,7 @@ pub slice_bounds-compact_roots-end : goal.slice_bounds-compact_roots-end
 slice_bounds-compact_roots-end c = search (rules, front-count)
 
 pub compact_roots-requires : goal.compact_roots-requires
-compact_roots-requires c = (search front-few, search rules)
+compact_roots-requires c = search front-few
 
 pub returns-clause-roots_kept : goal.returns-clause-roots_kept
 returns-clause-roots_kept c = search roots-named

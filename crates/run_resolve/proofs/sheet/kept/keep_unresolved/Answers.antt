@@ -7,7 +7,7 @@ pub slice_bounds-compact_unresolved-end : goal.slice_bounds-compact_unresolved-e
 slice_bounds-compact_unresolved-end c = search (rules, front-count)
 
 pub compact_unresolved-requires : goal.compact_unresolved-requires
-compact_unresolved-requires c = (search front-few, search rules)
+compact_unresolved-requires c = search front-few
 
 pub returns-clause-unresolved_kept : goal.returns-clause-unresolved_kept
 returns-clause-unresolved_kept c = search unresolved-named

@@ -1,8 +1,9 @@
+use Rattle.columns.proofs.Handed.{handed-on}
 use Rattle.run_rules.proofs.files.PartOrder.{edges-bad, then_tail}
 use Rattle.run_rules.proofs.files.one.rest_rules.Goals as goal
 
-pub returns-in-Broken : goal.returns-in-Broken
-returns-in-Broken c = search edges-bad
+pub returns-in_err-edges_rules : goal.returns-in_err-edges_rules
+returns-in_err-edges_rules c = handed-on _ c.from_residual.ensures (search (edges-bad, c.in_err-edges_rules.was))
 
-pub returns-in-Kept : goal.returns-in-Kept
-returns-in-Kept c = search then_tail
+pub returns : goal.returns
+returns c = search (then_tail, c.in_ok-edges_rules.was)

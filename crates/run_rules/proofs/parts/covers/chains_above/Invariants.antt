@@ -11,6 +11,3 @@ abbrev pub invariant-loop-i : goal.invariant-loop-i
 invariant-loop-i l =
     (1 ≤ l.i) × (l.i ≤ l.n) × (l.p ≡ l.q + l.i * 12) × (rising (map (λ x. x.chain) (several 12 range_at l.n (drop l.q l.b)))
     ≡ rises_above l.last (map (λ x. x.chain) (several 12 range_at (l.n - l.i) (drop l.p l.b))))
-
-abbrev pub decreases-loop-i : goal.decreases-loop-i
-decreases-loop-i l = l.n - l.i

@@ -10,6 +10,3 @@ use Rattle.run_rules.proofs.parts.covers.in_order.Given as goal
 abbrev pub invariant-loop-i : goal.invariant-loop-i
 invariant-loop-i l =
     (l.i ≤ l.n) × (l.p ≡ l.q + l.i * 12) × (all in_order (several 12 range_at l.n (drop l.q l.b)) ≡ all in_order (several 12 range_at (l.n - l.i) (drop l.p l.b)))
-
-abbrev pub decreases-loop-i : goal.decreases-loop-i
-decreases-loop-i l = l.n - l.i

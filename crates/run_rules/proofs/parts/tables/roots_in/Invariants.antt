@@ -10,6 +10,3 @@ use Rattle.run_rules.proofs.parts.tables.roots_in.Given as goal
 abbrev pub invariant-loop-i : goal.invariant-loop-i
 invariant-loop-i l =
     (l.i ≤ l.n) × (l.p ≡ 4 + l.i * 16) × (all (in_rows l.rows) (several 16 root_at l.n (drop 4 l.b)) ≡ all (in_rows l.rows) (several 16 root_at (l.n - l.i) (drop l.p l.b)))
-
-abbrev pub decreases-loop-i : goal.decreases-loop-i
-decreases-loop-i l = l.n - l.i

@@ -1,6 +1,0 @@
--- Past the end the list's default is read.
-use Rattle.lists.proofs.Slices.{get_or-past}
-use Rattle.run_compact.proofs.following.number_at.Goals as goal
-
-pub returns-else-i-numbers : goal.returns-else-i-numbers
-returns-else-i-numbers c = search get_or-past
