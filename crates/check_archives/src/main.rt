@@ -4,11 +4,10 @@
 
 ghost use Rattle.io.specs.Counts.{IsPrefixLen};
 
-use archive_read::files::{Summed, sum_up};
+use archive_read::files::sum_up;
 use columns::refusal::Refusal;
 use messages::STANDARD_OUTPUT;
 use messages::input::{Reading, read_whole};
-use run_state::Writing;
 use std::env::FillError;
 use std::io::Read;
 use std::rt::{Env, Files};
@@ -25,16 +24,16 @@ enum Outcome {
 fn events_of(bytes: &[u8]) -> usize {
     let x = sum_up(bytes);
     match x {
-        Summed::Sums(t) => t.events,
-        Summed::Refused(_) => 0,
+        Ok(t) => t.events,
+        Err(_) => 0,
     }
 }
 
 fn files_of(bytes: &[u8]) -> usize {
     let x = sum_up(bytes);
     match x {
-        Summed::Sums(t) => t.files,
-        Summed::Refused(_) => 0,
+        Ok(t) => t.files,
+        Err(_) => 0,
     }
 }
 
@@ -60,11 +59,11 @@ fn check_bytes(bytes: &[u8]) -> Outcome {
     let mut out = messages::output_room();
     let r = run_clean::clean(bytes, &mut out);
     match r {
-        Writing::Refused(x) => {
+        Err(x) => {
             messages::tell_refusal(STANDARD_OUTPUT, x);
             Outcome::Refused
         }
-        Writing::Length(n) => {
+        Ok(n) => {
             let m = messages::within(n, &out);
             tell_accepted(bytes, &out[..m]);
             Outcome::Accepted
@@ -89,7 +88,7 @@ fn read_file<F: Read + Drop>(file: F, input: &mut [u8]) -> Reading
 fn check_file<F: Read + Drop>(file: F) -> Outcome {
     let mut input = messages::input_room();
     let r = read_file(file, &mut input);
-    if r.is_failed {
+    if r.failure.is_some() {
         return unread();
     }
     let n = r.count;

@@ -6,15 +6,14 @@ use columns::refusal::Refusal;
 use messages::STANDARD_ERROR;
 use messages::failures::tell_failure;
 use messages::input::read_whole;
-use run_state::Writing;
 
 // Cleans bytes, and writes what they are cleaned to.
 fn clean(rt: &impl Print, bytes: &[u8]) {
     let mut out = messages::output_room();
     let r = run_clean::clean(bytes, &mut out);
     match r {
-        Writing::Refused(x) => messages::tell_refusal(STANDARD_ERROR, x),
-        Writing::Length(n) => {
+        Err(x) => messages::tell_refusal(STANDARD_ERROR, x),
+        Ok(n) => {
             let m = messages::within(n, &out);
             match rt.write_all(&out[..m]) {
                 Ok(()) => {}
@@ -28,8 +27,8 @@ fn clean(rt: &impl Print, bytes: &[u8]) {
 fn main(rt: HostRuntime) {
     let mut input = messages::input_room();
     let r = read_whole(&mut rt.stdin(), &mut input);
-    if r.is_failed {
-        tell_failure(STANDARD_ERROR, b"standard input cannot be read", r.error);
+    if r.failure.is_some() {
+        tell_failure(STANDARD_ERROR, b"standard input cannot be read", r.failure);
         return;
     }
     let n = r.count;

@@ -1,5 +1,5 @@
 -- What every function of the libraries answers by numbers: a refusal is document 01's number and nothing else, an answer 0 and what was found.
-use Rattle.std.specs.Prelude.{Bool, not, ℕ, eqb}
+use Rattle.std.specs.Prelude.{Bool, not, ℕ, eqb, Err, Ok, Result}
 use Rattle.columns.specs.Refusal.{number_of}
 use Rattle.columns.specs.declared.refusal.Refusal.{Refusal}
 use Rattle.cleaning.specs.Step as step
@@ -16,6 +16,10 @@ entries n = record { refusal = 0; length = n }
 
 abbrev pub no_entries : Refusal → Answer
 no_entries r = record { refusal = number_of r; length = 0 }
+
+unfoldable pub answer_of : Result ℕ Refusal → Answer
+answer_of (Ok n) = entries n
+answer_of (Err r) = no_entries r
 
 -- the edges of three sets, and a refusal
 abbrev pub edges : ℕ → ℕ → ℕ → Granule

@@ -1,8 +1,8 @@
 // An answer by numbers: a refusal by its number and nothing else, or 0 and what was found.
 ghost use Rattle.std.specs.Prelude.{◌≡◌};
-ghost use Rattle.ffi.specs.Numbers.{entries, no_entries};
+ghost use Rattle.ffi.specs.Numbers.{answer_of};
 
-use columns::refusal::{Refusal, number};
+use columns::refusal::Refusal;
 
 // How many there are, or how many entries were written.
 #[repr(C)]
@@ -12,20 +12,19 @@ pub struct Answer {
     pub length: usize,
 }
 
-pub fn some_entries(n: usize) -> Answer
-    ensures { result ≡ entries n }
-{
-    Answer {
-        refusal: 0,
-        length: n,
-    }
-}
+impl From<Result<usize, Refusal>> for Answer {
+    ghost from_gives = { λ counted answer. answer ≡ answer_of counted };
 
-pub fn no_entries(why: Refusal) -> Answer
-    ensures { result ≡ no_entries why }
-{
-    Answer {
-        refusal: number(why),
-        length: 0,
+    fn from(counted: Result<usize, Refusal>) -> Answer {
+        match counted {
+            Ok(n) => Answer {
+                refusal: 0,
+                length: n,
+            },
+            Err(why) => Answer {
+                refusal: why.number(),
+                length: 0,
+            },
+        }
     }
 }

@@ -1,8 +1,8 @@
 // The answer of a call that reads or builds the three sets of a granule.
 ghost use Rattle.std.specs.Prelude.{◌≡◌};
-ghost use Rattle.ffi.specs.Numbers.{edges, no_edges};
+ghost use Rattle.ffi.specs.Numbers.{no_edges};
 
-use columns::refusal::{Refusal, number};
+use columns::refusal::Refusal;
 
 // How many targets each set of a granule has.
 #[repr(C)]
@@ -14,24 +14,15 @@ pub struct Granule {
     pub inbound: usize,
 }
 
-pub fn some_edges(forward: usize, reverse: usize, inbound: usize) -> Granule
-    ensures { result ≡ edges forward reverse inbound }
-{
-    Granule {
-        refusal: 0,
-        forward: forward,
-        reverse: reverse,
-        inbound: inbound,
-    }
-}
+impl From<Refusal> for Granule {
+    ghost from_gives = { λ why granule. granule ≡ no_edges why };
 
-pub fn no_edges(why: Refusal) -> Granule
-    ensures { result ≡ no_edges why }
-{
-    Granule {
-        refusal: number(why),
-        forward: 0,
-        reverse: 0,
-        inbound: 0,
+    fn from(why: Refusal) -> Granule {
+        Granule {
+            refusal: why.number(),
+            forward: 0,
+            reverse: 0,
+            inbound: 0,
+        }
     }
 }

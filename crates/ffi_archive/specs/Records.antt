@@ -1,14 +1,15 @@
 -- What reading an archive and writing records answer by numbers.
+use Rattle.std.specs.Prelude.{ℕ, Err, Ok, Result}
 use Rattle.columns.specs.Refusal.{number_of}
-use Rattle.archive_read.specs.declared.files.Summed as reader
-use Rattle.archive_write.specs.declared.writer.Wrote as writer
-use Rattle.ffi.specs.Numbers.{entries, no_entries}
+use Rattle.archive_read.specs.declared.files.Totals.{Totals}
+use Rattle.ffi.specs.Numbers.{answer_of}
 use Rattle.ffi.specs.declared.answer.Answer.{Answer}
+use Rattle.columns.specs.declared.refusal.Refusal.{Refusal}
 use Rattle.ffi_archive.specs.declared.archives.Sums.{Sums}
 
 -- the sums over an archive's files, or the refusal of bytes that are no archive
-unfoldable pub sums_of : reader.Summed → Sums
-sums_of (reader.TheVariants.Sums t) = record {
+unfoldable pub sums_of : Result Totals Refusal → Sums
+sums_of (Ok t) = record {
   refusal = 0;
   files = t.files;
   events = t.events;
@@ -21,7 +22,7 @@ sums_of (reader.TheVariants.Sums t) = record {
   inbound = t.inbound;
   references = t.references;
 }
-sums_of (reader.TheVariants.Refused r) = record {
+sums_of (Err r) = record {
   refusal = number_of r;
   files = 0;
   events = 0;
@@ -36,6 +37,5 @@ sums_of (reader.TheVariants.Refused r) = record {
 }
 
 -- the place after what was written
-unfoldable pub wrote_of : writer.Wrote → Answer
-wrote_of (writer.TheVariants.Ends n) = entries n
-wrote_of (writer.TheVariants.Refused r) = no_entries r
+abbrev pub wrote_of : Result ℕ Refusal → Answer
+wrote_of = answer_of

@@ -11,11 +11,10 @@ ghost use Rattle.archive_store.specs.Lent.{zip2, set_from, row_from, cited_from}
 ghost use Rattle.archive_write.specs.Writes.{edges_rules, rows_rules, references_rules, wrote};
 ghost use Rattle.ffi_archive.specs.Records.{sums_of, wrote_of};
 
-use archive_read::files::{Summed, sum_up};
+use archive_read::files::{Totals, sum_up};
 use archive_write::writer;
-use archive_write::writer::Wrote;
-use columns::refusal::number;
-use ffi::answer::{Answer, no_entries, some_entries};
+use columns::refusal::Refusal;
+use ffi::answer::Answer;
 
 // How many files an archive has, and the sums of their counts; `refusal` is 23 where the bytes are no archive.
 #[repr(C)]
@@ -34,36 +33,38 @@ pub struct Sums {
     pub references: usize,
 }
 
-fn sums_of(summed: Summed) -> Sums
-    ensures { result ≡ sums_of summed }
-{
-    match summed {
-        Summed::Sums(t) => Sums {
-            refusal: 0,
-            files: t.files,
-            events: t.events,
-            roots: t.roots,
-            unresolved: t.unresolved,
-            ranges: t.ranges,
-            links: t.links,
-            forward: t.forward,
-            reverse: t.reverse,
-            inbound: t.inbound,
-            references: t.references,
-        },
-        Summed::Refused(why) => Sums {
-            refusal: number(why),
-            files: 0,
-            events: 0,
-            roots: 0,
-            unresolved: 0,
-            ranges: 0,
-            links: 0,
-            forward: 0,
-            reverse: 0,
-            inbound: 0,
-            references: 0,
-        },
+impl From<Result<Totals, Refusal>> for Sums {
+    ghost from_gives = { λ summed sums. sums ≡ sums_of summed };
+
+    fn from(summed: Result<Totals, Refusal>) -> Sums {
+        match summed {
+            Ok(t) => Sums {
+                refusal: 0,
+                files: t.files,
+                events: t.events,
+                roots: t.roots,
+                unresolved: t.unresolved,
+                ranges: t.ranges,
+                links: t.links,
+                forward: t.forward,
+                reverse: t.reverse,
+                inbound: t.inbound,
+                references: t.references,
+            },
+            Err(why) => Sums {
+                refusal: why.number(),
+                files: 0,
+                events: 0,
+                roots: 0,
+                unresolved: 0,
+                ranges: 0,
+                links: 0,
+                forward: 0,
+                reverse: 0,
+                inbound: 0,
+                references: 0,
+            },
+        }
     }
 }
 
@@ -71,17 +72,7 @@ fn sums_of(summed: Summed) -> Sums
 pub fn ridgeoven_sums(bytes: &[u8]) -> Sums
     ensures { result ≡ sums_of (totals_of (parse kinds bytes.now)) }
 {
-    sums_of(sum_up(bytes))
-}
-
-// The place after what was written.
-fn wrote_of(wrote: Wrote) -> Answer
-    ensures { result ≡ wrote_of wrote }
-{
-    match wrote {
-        Wrote::Ends(n) => some_entries(n),
-        Wrote::Refused(why) => no_entries(why),
-    }
+    Sums::from(sum_up(bytes))
 }
 
 // 2: the forward, reverse and inbound sets, each of offsets and deltas.
@@ -103,7 +94,7 @@ pub fn ridgeoven_write_edges(
         (sets out.old at (record_bytes 2 (sets_bytes (set_from fo.now fd.now) (set_from ro.now rd.now)
         (set_from io.now id.now)))) }
 {
-    wrote_of(writer::write_edges(out, at, fo, fd, ro, rd, io, id))
+    Answer::from(writer::write_edges(out, at, fo, fd, ro, rd, io, id))
 }
 
 // 3: rows, each of a flag and a tag.
@@ -113,7 +104,7 @@ pub fn ridgeoven_write_rows(out: &mut [u8], at: usize, flags: &[u8], tags: &[u64
     ensures out_after { out.new ≡ left (rows_rules (length flags.now) (length tags.now) (length out.old) at) out.old
         (sets out.old at (record_bytes 3 (flat row_bytes (zip2 row_from flags.now tags.now)))) }
 {
-    wrote_of(writer::write_rows(out, at, flags, tags))
+    Answer::from(writer::write_rows(out, at, flags, tags))
 }
 
 // 7: references, each of a kind, a space and a target. Row r has those from place offsets[r] up to offsets[r + 1].
@@ -131,5 +122,5 @@ pub fn ridgeoven_write_references(
         (length out.old) at) out.old (sets out.old at
         (record_bytes 7 (references_bytes (cited_from offsets.now kinds.now spaces.now targets.now)))) }
 {
-    wrote_of(writer::write_references(out, at, offsets, kinds, spaces, targets))
+    Answer::from(writer::write_references(out, at, offsets, kinds, spaces, targets))
 }

@@ -1,7 +1,8 @@
 -- What building is given and answers by numbers.
-use Rattle.std.specs.Prelude.{cond, ℕ}
+use Rattle.std.specs.Prelude.{cond, ℕ, Err, Ok, Result}
+use Rattle.columns.specs.declared.refusal.Refusal.{Refusal}
 use Rattle.columns.specs.declared.depth.Depth as depths
-use Rattle.columns_encode.specs.declared.kept.Encoded as encoding
+use Rattle.columns_encode.specs.declared.writing.Counts.{Counts}
 use Rattle.ffi.specs.Numbers.{flag_at, edges, no_edges}
 use Rattle.ffi.specs.declared.granule.Granule.{Granule}
 
@@ -9,6 +10,6 @@ use Rattle.ffi.specs.declared.granule.Granule.{Granule}
 unfoldable pub depth_at : ℕ → ℕ → ℕ → depths.Depth
 depth_at deep low high = cond (flag_at deep) (depths.TheVariants.Between low high) depths.TheVariants.Unknown
 
-unfoldable pub built_of : encoding.Encoded → Granule
-built_of (encoding.TheVariants.Edges c) = edges c.forward c.reverse c.inbound
-built_of (encoding.TheVariants.Refused r) = no_edges r
+unfoldable pub built_of : Result Counts Refusal → Granule
+built_of (Ok c) = edges c.forward c.reverse c.inbound
+built_of (Err r) = no_edges r

@@ -8,17 +8,24 @@ ghost use Rattle.ffi.specs.Numbers.{flag_at};
 ghost use Rattle.ffi_build.specs.Numbers.{depth_at, built_of};
 
 use columns::depth::Depth;
+use columns::refusal::Refusal;
 use columns_build::encode::encode_graph_blocks;
-use columns_encode::kept::Encoded;
+use columns_encode::writing::Counts;
 use ffi::given::flag_at;
-use ffi::granule::{Granule, no_edges, some_edges};
+use ffi::granule::Granule;
 
-fn built_of(encoded: Encoded) -> Granule
+// `Counts` is of another crate, so no `From` impl can stand here.
+fn built_of(encoded: Result<Counts, Refusal>) -> Granule
     ensures { result ≡ built_of encoded }
 {
     match encoded {
-        Encoded::Edges(counts) => some_edges(counts.forward, counts.reverse, counts.inbound),
-        Encoded::Refused(why) => no_edges(why),
+        Ok(counts) => Granule {
+            refusal: 0,
+            forward: counts.forward,
+            reverse: counts.reverse,
+            inbound: counts.inbound,
+        },
+        Err(why) => Granule::from(why),
     }
 }
 

@@ -1,4 +1,5 @@
 -- What the exported functions promise are links of a trace, and so the claim holds of their calls.
+use Rattle.std.specs.Prelude.{Err, None, Ok, Result, Some}
 use mathlib.Core.Path.{◌≡◌, refl, ap, ap₂, sym, subst, ◌∙◌}
 use mathlib.Core.Bool.{Bool, true, false, cond}
 use mathlib.Core.List.{List, [], ◌∷◌}
@@ -25,14 +26,9 @@ use Rattle.cleaning.specs.Memo.{tables}
 use Rattle.cleaning.specs.Runs as runs
 use Rattle.cleaning.specs.Runs.{RunState, taking, spoiled, run_outcome, fresh_run, held_rules, resolve_into, resolve_held, take_into, run_step}
 use Rattle.cleaning.specs.History.{Did, did}
-use Rattle.run_state.specs.declared.Writing.TheVariants as writing
 use Rattle.run.specs.View.{view}
 use Rattle.run.specs.Promises.{replied, Kept, written_from}
 use Rattle.run.specs.declared.Run.{Run}
-use Rattle.run.specs.declared.Reply.{Reply}
-use Rattle.run.specs.declared.Reply.TheVariants as reply
-use Rattle.run.specs.declared.Number.TheVariants as number
-use Rattle.run.specs.declared.Count.TheVariants as count
 use Rattle.run_clean.specs.Cleans.{after, resolved_from, cleaned_from}
 use Rattle.run_claim.specs.Traces as traces
 use Rattle.run_claim.specs.Traces.{Link, Trace}
@@ -85,13 +81,13 @@ some_number OverNumbers = omega arith
 -- ── what a call may answer ───────────────────────────────────────────────────────────────────
 
 -- the reply of a taking or a resolving, the answer of a question
-abbrev reply_of : Answer → Reply
-reply_of (refused x) = reply.Refused x
-reply_of done = reply.Done
-reply_of (wrote w) = reply.Done
-reply_of (told n) = reply.Done
-reply_of (counted n) = reply.Done
-reply_of (printed t) = reply.Done
+abbrev reply_of : Answer → Result (Unit {0}) Refusal
+reply_of (refused x) = Err x
+reply_of done = Ok tt
+reply_of (wrote w) = Ok tt
+reply_of (told n) = Ok tt
+reply_of (counted n) = Ok tt
+reply_of (printed t) = Ok tt
 
 take-reply : (s : RunState) (b : List ℕ) → replied (reply_of (run_step kinds s (takes b)).answer) ≡ (run_step kinds s (takes b)).answer
 unfolding run_step
@@ -218,13 +214,13 @@ write-link {run} was is r m = go (written_from (view run) (length was)) (write-g
     go : (a : Answer) → Gave a → written_from (view run) (length was) ≡ a → Link run run (did (writes (length was)) a)
     go a (no x) e =
         let n : r.length ≡ 0 = m.counted ∙ ap (λ b. (bytes_of b).length) e in
-        traces.wrote was is (writing.Refused x) (record { answers = sym e; rest = subst (λ k. drop k is ≡ drop k was) n m.rest; within = omega arith })
+        traces.wrote was is (Err x) (record { answers = sym e; rest = subst (λ k. drop k is ≡ drop k was) n m.rest; within = omega arith })
     go a (yes w) e =
         let n : r.length ≡ w.length = m.counted ∙ ap (λ b. (bytes_of b).length) e in
         let l : take r.length is ≡ w.bytes = m.bytes ∙ ap (λ b. (bytes_of b).bytes) e in
         let same : ◌≡◌ {A = Answer} (wrote (record { length = r.length; bytes = take r.length is })) (wrote w) = ap₂ (λ k b. wrote (record { length = k; bytes = b })) n l in
         subst (λ x. Link run run (did (writes (length was)) x)) same
-        (traces.wrote was is (writing.Length r.length) (record { answers = same ∙ sym e; rest = m.rest; within = m.within }))
+        (traces.wrote was is (Ok r.length) (record { answers = same ∙ sym e; rest = m.rest; within = m.within }))
 
 -- a question of each state
 map_link : {run : Run} (old : ℕ) → Link run run (did (maps old) (run_step kinds (view run) (maps old)).answer)
@@ -232,22 +228,22 @@ unfolding run_step
 map_link {run} old = go (view run) refl
   where
     told-link : (o : Option ℕ) → run_step kinds (view run) (maps old) ≡ run_outcome (view run) (told o) → Link run run (did (maps old) (told o))
-    told-link none e = traces.mapped old number.Nothing e
-    told-link (some n) e = traces.mapped old (number.To n) e
+    told-link none e = traces.mapped old (Ok None) e
+    told-link (some n) e = traces.mapped old (Ok (Some n)) e
 
     go : (s : RunState) → view run ≡ s → Link run run (did (maps old) (run_step kinds s (maps old)).answer)
-    go (taking h) e = traces.mapped old (number.Refused OutOfTurn) (map_of run old (taking h) e)
+    go (taking h) e = traces.mapped old (Err OutOfTurn) (map_of run old (taking h) e)
     go (runs.resolved h s) e = told-link (Cleaning.mapped (archive_held kinds h) old) (map_of run old (runs.resolved h s) e)
-    go spoiled e = traces.mapped old (number.Refused OutOfTurn) (map_of run old spoiled e)
+    go spoiled e = traces.mapped old (Err OutOfTurn) (map_of run old spoiled e)
 
 count-link : {run : Run} → Link run run (did counts (run_step kinds (view run) counts).answer)
 unfolding run_step
 count-link {run} = go (view run) refl
   where
     go : (s : RunState) → view run ≡ s → Link run run (did counts (run_step kinds s counts).answer)
-    go (taking h) e = traces.counted (count.Refused OutOfTurn) (count_of run (taking h) e)
-    go (runs.resolved h s) e = traces.counted (count.Of (Cleaning.reparented (archive_held kinds h))) (count_of run (runs.resolved h s) e)
-    go spoiled e = traces.counted (count.Refused OutOfTurn) (count_of run spoiled e)
+    go (taking h) e = traces.counted (Err OutOfTurn) (count_of run (taking h) e)
+    go (runs.resolved h s) e = traces.counted (Ok (Cleaning.reparented (archive_held kinds h))) (count_of run (runs.resolved h s) e)
+    go spoiled e = traces.counted (Err OutOfTurn) (count_of run spoiled e)
 
 -- ── the claim ────────────────────────────────────────────────────────────────────────────────
 

@@ -1,17 +1,15 @@
 -- What cleaning and listing an archive, and the words of a refusal, answer by numbers: 0 and how many bytes were written, or a refusal.
-use Rattle.std.specs.Prelude.{cond, List, [], ◌≡◌, ℕ, ◌≤◌, ltb, length, get_or, take, drop}
+use Rattle.std.specs.Prelude.{cond, List, [], ◌≡◌, ℕ, ◌≤◌, ltb, length, get_or, take, drop, Err, Ok, Result}
+use Rattle.columns.specs.declared.refusal.Refusal.{Refusal}
 use Rattle.columns.specs.declared.refusal.Refusal.TheVariants.{SliceShort}
 use Rattle.cleaning.specs.Step as step
 use Rattle.messages.specs.words.Words.{table}
-use Rattle.run_state.specs.declared.Writing.{Writing}
-use Rattle.run_state.specs.declared.Writing.TheVariants.{Length, Refused}
-use Rattle.ffi.specs.Numbers.{entries, no_entries, refusal_of}
+use Rattle.ffi.specs.Numbers.{answer_of, refusal_of}
 use Rattle.ffi.specs.declared.answer.Answer.{Answer}
 
 -- a length, or a refusal
-unfoldable pub numbered : Writing → Answer
-numbered (Length n) = entries n
-numbered (Refused x) = no_entries x
+abbrev pub numbered : Result ℕ Refusal → Answer
+numbered = answer_of
 
 -- the bytes of a step's answer; a step that writes none has none
 unfoldable pub bytes_of : step.Answer → step.Bytes

@@ -1,4 +1,5 @@
 -- What is answered and written where a kind, a set or a flag was given by a number.
+use Rattle.std.specs.Prelude.{Err, None, Ok, Result, Some}
 use mathlib.Core.Bool.{Bool}
 use mathlib.Core.List.{List, [], ◌∷◌}
 use mathlib.Core.Option.{Option, none, some}
@@ -15,17 +16,12 @@ use Rattle.columns.specs.Walk.{Walked, walk}
 use Rattle.columns.specs.Answers.{in_one, counted_of, written_over}
 use Rattle.columns.specs.declared.refusal.Refusal.{Refusal}
 use Rattle.columns.specs.declared.refusal.Refusal.TheVariants.{InboundParent}
-use Rattle.columns.specs.declared.refusal.Counted.{Counted}
-use Rattle.columns.specs.declared.refusal.Counted.TheVariants as counted
 use Rattle.columns.proofs.Told.{last-rule}
+use Rattle.std.specs.declared.option.Option as rust
 use Rattle.columns_read.specs.Granules.{cover_of, decoded_of, set_in}
-use Rattle.columns_read.specs.declared.Decoded.{Decoded}
+use Rattle.columns_read.specs.declared.Counts.{Counts}
 use Rattle.columns_walk.specs.Handing.{handed_of, numbers_of, ends_of, Promised}
 use Rattle.columns_walk.specs.level.Step.{next}
-use Rattle.columns_walk.specs.declared.Handed.{Handed}
-use Rattle.columns_walk.specs.declared.Handed.TheVariants as handed
-use Rattle.columns_walk.specs.declared.Shared.{Shared}
-use Rattle.columns_walk.specs.declared.Shared.TheVariants.{Number, Nothing, Refused}
 use Rattle.ffi.specs.declared.answer.Answer.{Answer}
 use Rattle.ffi.specs.declared.granule.Granule as told
 use Rattle.ffi_columns.specs.Numbers.{unnamed, after, count_of, granule_of, walked_of, ancestor_of, PromisedBy}
@@ -35,24 +31,24 @@ use Rattle.ffi_columns.specs.declared.walks.Ancestor.{Ancestor}
 -- ── a kind or a set by its number ────────────────────────────────────────────────────────────
 
 -- by a number that names one, the last of them being `last`
-module _ (last n : ℕ) (h : n ≤ last) where
+module _ (last n : ℕ) (h : n < last + 1) where
   is-named : unnamed (last + 1) n ≡ none
-  is-named = rw (lt-ltb n (last + 1) (omega arith))
+  is-named = rw (lt-ltb n (last + 1) h)
 
   of-named : {A : Type 0} (v : Verdict A) → after (unnamed (last + 1) n) v ≡ v
   unfolding after
   of-named v = rw is-named
 
 -- by a number that names none
-module _ (last n : ℕ) (h : last < n) where
+module _ (last n : ℕ) (h : last + 1 ≤ n) where
   is-unnamed : unnamed (last + 1) n ≡ some InboundParent
-  is-unnamed = rw (le-ltb n (last + 1) (omega arith))
+  is-unnamed = rw (le-ltb n (last + 1) h)
 
   of-unnamed : {A : Type 0} (v : Verdict A) → after (unnamed (last + 1) n) v ≡ refused InboundParent
   unfolding after
   of-unnamed v = rw is-unnamed
 
-  pub unnamed-counted : (v : Verdict (List ℕ)) {r : Answer} → r ≡ count_of (counted.Refused InboundParent) → r ≡ count_of (counted_of (after (unnamed (last + 1) n) v))
+  pub unnamed-counted : (v : Verdict (List ℕ)) {r : Answer} → r ≡ count_of (Err InboundParent) → r ≡ count_of (counted_of (after (unnamed (last + 1) n) v))
   unfolding counted_of
   unnamed-counted v e = rw (of-unnamed v) e
 
@@ -60,7 +56,7 @@ module _ (last n : ℕ) (h : last < n) where
   unfolding written_over
   unnamed-as-was v old = rw (of-unnamed v)
 
-  pub unnamed-walked : (v : Verdict Walked) {r : walks.Walked} → r ≡ walked_of (handed.Refused InboundParent) → r ≡ walked_of (handed_of (after (unnamed (last + 1) n) v))
+  pub unnamed-walked : (v : Verdict Walked) {r : walks.Walked} → r ≡ walked_of (Err InboundParent) → r ≡ walked_of (handed_of (after (unnamed (last + 1) n) v))
   unfolding handed_of
   unnamed-walked v e = rw (of-unnamed v) e
 
@@ -73,17 +69,17 @@ module _ (last n : ℕ) (h : last < n) where
   unnamed-ends v old = rw (of-unnamed v)
 
 -- a call is asked with the kind or the set itself, whose number is m
-module _ (last n m : ℕ) (h : n ≤ last) (e : m ≡ n) where
+module _ (last n m : ℕ) (h : n < last + 1) (e : m ≡ n) where
   module _ (f : ℕ → Verdict (List ℕ)) where
-    named-counted : (x : Counted) {r : Answer} → x ≡ counted_of (f m) → r ≡ count_of x → r ≡ count_of (counted_of (after (unnamed (last + 1) n) (f n)))
+    named-counted : (x : Result ℕ Refusal) {r : Answer} → x ≡ counted_of (f m) → r ≡ count_of x → r ≡ count_of (counted_of (after (unnamed (last + 1) n) (f n)))
     named-counted x p q = rw (of-named last n h (f n), ← e) (q ∙ ap count_of p)
 
     named-written : (old out : List ℕ) → out ≡ written_over old (f m) → out ≡ written_over old (after (unnamed (last + 1) n) (f n))
     named-written old out p = rw (of-named last n h (f n), ← e) p
 
 -- one set
-module _ (first rows end : ℕ) (s : EdgeSet) (lent : List Lent) (n m : ℕ) (h : n ≤ 2) (e : m ≡ n) where
-  pub set_told : (x : Counted) {r : Answer} → x ≡ counted_of (in_one (decode_set kinds m first rows end s lent)) → r ≡ count_of x
+module _ (first rows end : ℕ) (s : EdgeSet) (lent : List Lent) (n m : ℕ) (h : n < edge_sets) (e : m ≡ n) where
+  pub set_told : (x : Result ℕ Refusal) {r : Answer} → x ≡ counted_of (in_one (decode_set kinds m first rows end s lent)) → r ≡ count_of x
       → r ≡ count_of (counted_of (after (unnamed edge_sets n) (in_one (decode_set kinds n first rows end s lent))))
   set_told = named-counted 2 n m h e (λ k. in_one (decode_set kinds k first rows end s lent))
 
@@ -92,9 +88,9 @@ module _ (first rows end : ℕ) (s : EdgeSet) (lent : List Lent) (n m : ℕ) (h 
   set-written = named-written 2 n m h e (λ k. in_one (decode_set kinds k first rows end s lent))
 
 -- questions of a kind
-module _ (first rows end : ℕ) (s : EdgeSet) (lent : List Lent) (n m : ℕ) (h : n ≤ 1) (e : m ≡ n) where
+module _ (first rows end : ℕ) (s : EdgeSet) (lent : List Lent) (n m : ℕ) (h : n < kinds) (e : m ≡ n) where
   module _ (number : ℕ) where
-    pub parents-told : (x : Counted) {r : Answer} → x ≡ counted_of (parents kinds first rows end s m number lent) → r ≡ count_of x
+    pub parents-told : (x : Result ℕ Refusal) {r : Answer} → x ≡ counted_of (parents kinds first rows end s m number lent) → r ≡ count_of x
         → r ≡ count_of (counted_of (after (unnamed kinds n) (parents kinds first rows end s n number lent)))
     parents-told = named-counted 1 n m h e (λ k. parents kinds first rows end s k number lent)
 
@@ -103,7 +99,7 @@ module _ (first rows end : ℕ) (s : EdgeSet) (lent : List Lent) (n m : ℕ) (h 
     parents-written = named-written 1 n m h e (λ k. parents kinds first rows end s k number lent)
 
     module _ (i : EdgeSet) where
-      pub children-told : (x : Counted) {r : Answer} → x ≡ counted_of (children kinds first rows end s i m number lent) → r ≡ count_of x
+      pub children-told : (x : Result ℕ Refusal) {r : Answer} → x ≡ counted_of (children kinds first rows end s i m number lent) → r ≡ count_of x
           → r ≡ count_of (counted_of (after (unnamed kinds n) (children kinds first rows end s i n number lent)))
       children-told = named-counted 1 n m h e (λ k. children kinds first rows end s i k number lent)
 
@@ -113,7 +109,7 @@ module _ (first rows end : ℕ) (s : EdgeSet) (lent : List Lent) (n m : ℕ) (h 
 
   module _ (limit : ℕ) where
     module _ (visited frontier : List ℕ) where
-      pub next-told : (x : Counted) {r : Answer} → x ≡ counted_of (next kinds first rows end s m limit visited frontier lent) → r ≡ count_of x
+      pub next-told : (x : Result ℕ Refusal) {r : Answer} → x ≡ counted_of (next kinds first rows end s m limit visited frontier lent) → r ≡ count_of x
           → r ≡ count_of (counted_of (after (unnamed kinds n) (next kinds first rows end s n limit visited frontier lent)))
       next-told = named-counted 1 n m h e (λ k. next kinds first rows end s k limit visited frontier lent)
 
@@ -125,7 +121,7 @@ module _ (first rows end : ℕ) (s : EdgeSet) (lent : List Lent) (n m : ℕ) (h 
       named-walk : after (unnamed kinds n) (walk kinds first rows end s n limit start lent) ≡ walk kinds first rows end s m limit start lent
       named-walk = of-named 1 n h (walk kinds first rows end s n limit start lent) ∙ rw e
 
-      pub walk-told : (x : Handed) {r : walks.Walked} → x ≡ handed_of (walk kinds first rows end s m limit start lent) → r ≡ walked_of x
+      pub walk-told : (x : Result (ℕ × ℕ) Refusal) {r : walks.Walked} → x ≡ handed_of (walk kinds first rows end s m limit start lent) → r ≡ walked_of x
           → r ≡ walked_of (handed_of (after (unnamed kinds n) (walk kinds first rows end s n limit start lent)))
       walk-told x p q = rw named-walk (q ∙ ap walked_of p)
 
@@ -143,7 +139,7 @@ module _ (first rows end : ℕ) (f r i : EdgeSet) (chains seqs : List ℕ) (lent
   abbrev verdict : Bool → Verdict Granule
   verdict cover = read_beside kinds (idle_labels cover chains seqs) first rows end (record { forward = f; reverse = r; inbound = i; labels = cover_of cover chains seqs }) lent
 
-  pub granule-told : {q : told.Granule} (x : Decoded) → x ≡ decoded_of (verdict a) → q ≡ granule_of x → q ≡ granule_of (decoded_of (verdict b))
+  pub granule-told : {q : told.Granule} (x : Result Counts Refusal) → x ≡ decoded_of (verdict a) → q ≡ granule_of x → q ≡ granule_of (decoded_of (verdict b))
   granule-told x d h = rw (← e) (h ∙ ap granule_of d)
 
   pub granule-written : (set : ℕ) (l m : List ℕ) → l ≡ written_over m (set_in set (verdict a)) → l ≡ written_over m (set_in set (verdict b))
@@ -152,18 +148,18 @@ module _ (first rows end : ℕ) (f r i : EdgeSet) (chains seqs : List ℕ) (lent
 -- ── the shared ancestor ──────────────────────────────────────────────────────────────────────
 
 -- an answer by numbers promises what the answer does
-promised : (s : Shared) (rules : Option Refusal) (p : ℕ → List ℕ) (a b : ℕ) → Promised s rules p a b → PromisedBy (ancestor_of s) rules p a b
+promised : (s : Result (rust.Option ℕ) Refusal) (rules : Option Refusal) (p : ℕ → List ℕ) (a b : ℕ) → Promised s rules p a b → PromisedBy (ancestor_of s) rules p a b
 unfolding ancestor_of
-promised (Refused r) rules p a b h = rw h refl
-promised (Number x) rules p a b h = rw h.0 (record { ancestor = some x; told = refl; right = h.1 })
-promised Nothing rules p a b h = rw h.0 (record { ancestor = none; told = refl; right = h.1 })
+promised (Err r) rules p a b h = rw h refl
+promised (Ok (Some x)) rules p a b h = rw h.0 (record { ancestor = some x; told = refl; right = h.1 })
+promised (Ok None) rules p a b h = rw h.0 (record { ancestor = none; told = refl; right = h.1 })
 
 module _ (n : ℕ) (rules : Option Refusal) (first : ℕ) (lists : List (List ℕ)) (a b : ℕ) where
-  pub unnamed-promised : {r : Ancestor} → 1 < n → r ≡ ancestor_of (Refused InboundParent) → PromisedBy r (first_of (unnamed kinds n ∷ rules ∷ [])) (list_of kinds first lists n) a b
+  pub unnamed-promised : {r : Ancestor} → kinds ≤ n → r ≡ ancestor_of (Err InboundParent) → PromisedBy r (first_of (unnamed kinds n ∷ rules ∷ [])) (list_of kinds first lists n) a b
   unfolding first_of
   unnamed-promised h e = rw (is-unnamed 1 n h) e
 
-  pub named-promised : {r : Ancestor} (s : Shared) (m : ℕ) → n ≤ 1 → m ≡ n → r ≡ ancestor_of s → Promised s rules (list_of kinds first lists m) a b
+  pub named-promised : {r : Ancestor} (s : Result (rust.Option ℕ) Refusal) (m : ℕ) → n < kinds → m ≡ n → r ≡ ancestor_of s → Promised s rules (list_of kinds first lists m) a b
       → PromisedBy r (first_of (unnamed kinds n ∷ rules ∷ [])) (list_of kinds first lists n) a b
   unfolding first_of
   named-promised s m h e q p = rw (is-named 1 n h, last-rule rules, q, ← e) (promised s rules (list_of kinds first lists m) a b p)

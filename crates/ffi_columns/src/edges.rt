@@ -10,15 +10,14 @@ ghost use Rattle.columns_ask.specs.Views.{labelled_of};
 ghost use Rattle.columns_build.specs.Written.{records, roots_answer, over};
 ghost use Rattle.ffi_columns.specs.Numbers.{unnamed, after, head_at, count_of, roots_of, granule_of, label_of};
 
-use crate::numbers::{count_of, kind_of, set_of};
+use crate::numbers::{kind_of, set_of};
 use columns::kind::Kinds;
-use columns::refusal::{Counted, Refusal, number};
-use columns_ask::Labelled;
-use columns_build::roots::Roots;
-use columns_read::{Decoded, Head};
-use ffi::answer::{Answer, no_entries, some_entries};
+use columns::refusal::Refusal;
+use columns_ask::ChainLabel;
+use columns_read::{Counts, Head};
+use ffi::answer::Answer;
 use ffi::given::flag_at;
-use ffi::granule::{Granule, no_edges, some_edges};
+use ffi::granule::Granule;
 
 // One set of edges: 0 forward, 1 reverse, 2 inbound; another number is 12.
 pub fn ridgeoven_read_set(
@@ -36,12 +35,12 @@ pub fn ridgeoven_read_set(
     ensures targets_after { targets.new ≡ written_over targets.old
         (after (unnamed edge_sets set) (in_one (decode_set kinds set first rows end (columns_of count offsets.now deltas.now) (room (length targets.old))))) }
 {
-    if 2 < set {
-        return count_of(Counted::Refused(Refusal::InboundParent));
-    }
-    count_of(columns_read::sets::decode_csr(
+    let Some(set) = set_of(set) else {
+        return Answer::from(Err(Refusal::InboundParent));
+    };
+    Answer::from(columns_read::sets::decode_csr(
         Kinds::Two,
-        set_of(set),
+        set,
         first,
         rows,
         end,
@@ -52,12 +51,18 @@ pub fn ridgeoven_read_set(
     ))
 }
 
-fn granule_of(decoded: Decoded) -> Granule
+// `Counts` is of another crate, so no `From` impl can stand here.
+fn granule_of(decoded: Result<Counts, Refusal>) -> Granule
     ensures { result ≡ granule_of decoded }
 {
     match decoded {
-        Decoded::Edges(counts) => some_edges(counts.forward, counts.reverse, counts.inbound),
-        Decoded::Refused(why) => no_edges(why),
+        Ok(counts) => Granule {
+            refusal: 0,
+            forward: counts.forward,
+            reverse: counts.reverse,
+            inbound: counts.inbound,
+        },
+        Err(why) => Granule::from(why),
     }
 }
 
@@ -96,9 +101,9 @@ pub fn ridgeoven_read_granule(
         io.now id.now chains.now seqs.now (rooms (length forward.old) (length reverse.old) (length inbound.old)))) }
 {
     let head = Head {
-        first: first,
-        rows: rows,
-        end: end,
+        first,
+        rows,
+        end,
         forward: fcount,
         reverse: rcount,
         inbound: icount,
@@ -138,10 +143,10 @@ pub fn ridgeoven_parents(
     ensures list_after { list.new ≡ written_over list.old
         (after (unnamed kinds kind) (asked.parents kinds first rows end (columns_of count offsets.now deltas.now) kind number (room (length list.old)))) }
 {
-    if 1 < kind {
-        return count_of(Counted::Refused(Refusal::InboundParent));
-    }
-    count_of(columns_ask::parents(
+    let Some(kind) = kind_of(kind) else {
+        return Answer::from(Err(Refusal::InboundParent));
+    };
+    Answer::from(columns_ask::parents(
         Kinds::Two,
         first,
         rows,
@@ -149,7 +154,7 @@ pub fn ridgeoven_parents(
         count,
         offsets,
         deltas,
-        kind_of(kind),
+        kind,
         number,
         list,
     ))
@@ -176,10 +181,10 @@ pub fn ridgeoven_children(
         (after (unnamed kinds kind) (asked.children kinds first rows end (columns_of rcount ro.now rd.now)
         (columns_of icount io.now id.now) kind number (room (length list.old)))) }
 {
-    if 1 < kind {
-        return count_of(Counted::Refused(Refusal::InboundParent));
-    }
-    count_of(columns_ask::children(
+    let Some(kind) = kind_of(kind) else {
+        return Answer::from(Err(Refusal::InboundParent));
+    };
+    Answer::from(columns_ask::children(
         Kinds::Two,
         first,
         rows,
@@ -190,7 +195,7 @@ pub fn ridgeoven_children(
         icount,
         io,
         id,
-        kind_of(kind),
+        kind,
         number,
         list,
     ))
@@ -206,44 +211,37 @@ pub struct Label {
     pub seq: u32,
 }
 
-fn label_of(labelled: Labelled) -> Label
-    ensures { result ≡ label_of labelled }
-{
-    match labelled {
-        Labelled::At(label) => Label {
-            refusal: 0,
-            found: 1,
-            chain: label.chain,
-            seq: label.seq,
-        },
-        Labelled::Unlabelled => Label {
-            refusal: 0,
-            found: 0,
-            chain: 0,
-            seq: 0,
-        },
-        Labelled::Refused(why) => Label {
-            refusal: number(why),
-            found: 0,
-            chain: 0,
-            seq: 0,
-        },
+impl From<Result<Option<ChainLabel>, Refusal>> for Label {
+    ghost from_gives = { λ labelled label. label ≡ label_of labelled };
+
+    fn from(labelled: Result<Option<ChainLabel>, Refusal>) -> Label {
+        match labelled {
+            Ok(Some(label)) => Label {
+                refusal: 0,
+                found: 1,
+                chain: label.chain,
+                seq: label.seq,
+            },
+            Ok(None) => Label {
+                refusal: 0,
+                found: 0,
+                chain: 0,
+                seq: 0,
+            },
+            Err(why) => Label {
+                refusal: why.number(),
+                found: 0,
+                chain: 0,
+                seq: 0,
+            },
+        }
     }
 }
 
 pub fn ridgeoven_label(first: u64, rows: usize, chains: &[u64], seqs: &[u64], number: u64) -> Label
     ensures { result ≡ label_of (labelled_of (asked.label first rows (label_columns chains.now seqs.now) number)) }
 {
-    label_of(columns_ask::label(first, rows, chains, seqs, number))
-}
-
-fn roots_of(roots: Roots) -> Answer
-    ensures { result ≡ roots_of roots }
-{
-    match roots {
-        Roots::Rows(n) => some_entries(n),
-        Roots::Refused(why) => no_entries(why),
-    }
+    Label::from(columns_ask::label(first, rows, chains, seqs, number))
 }
 
 // The rows of the events that have a state root.
@@ -251,5 +249,5 @@ pub fn ridgeoven_roots(first: u64, rows: usize, events: &[u64], list: &mut [u64]
     ensures value { result ≡ roots_of (roots_answer (root_entries first rows events.now (records list.old ∷ []))) }
     ensures list_after { list.new ≡ over (root_entries first rows events.now (records list.old ∷ [])) list.old }
 {
-    roots_of(columns_build::roots::state_root_entries(first, rows, events, list))
+    Answer::from(columns_build::roots::state_root_entries(first, rows, events, list))
 }

@@ -10,10 +10,9 @@ ghost use Rattle.columns_walk.specs.Handing.{rooms, handed_of, numbers_of, ends_
 ghost use Rattle.columns_walk.specs.level.Step as step;
 ghost use Rattle.ffi_columns.specs.Numbers.{unnamed, after, count_of, walked_of, ancestor_of, PromisedBy};
 
-use crate::numbers::{count_of, kind_of};
+use crate::numbers::kind_of;
 use columns::kind::Kinds;
-use columns::refusal::{Counted, Refusal, number};
-use columns_walk::{Handed, Shared};
+use columns::refusal::Refusal;
 use ffi::answer::Answer;
 
 // How many levels a walk has, and how many numbers it has handed out.
@@ -25,20 +24,22 @@ pub struct Walked {
     pub handed: usize,
 }
 
-fn walked_of(handed: Handed) -> Walked
-    ensures { result ≡ walked_of handed }
-{
-    match handed {
-        Handed::Levels(levels, count) => Walked {
-            refusal: 0,
-            levels: levels,
-            handed: count,
-        },
-        Handed::Refused(why) => Walked {
-            refusal: number(why),
-            levels: 0,
-            handed: 0,
-        },
+impl From<Result<(usize, usize), Refusal>> for Walked {
+    ghost from_gives = { λ handed walked. walked ≡ walked_of handed };
+
+    fn from(handed: Result<(usize, usize), Refusal>) -> Walked {
+        match handed {
+            Ok((levels, count)) => Walked {
+                refusal: 0,
+                levels,
+                handed: count,
+            },
+            Err(why) => Walked {
+                refusal: why.number(),
+                levels: 0,
+                handed: 0,
+            },
+        }
     }
 }
 
@@ -66,10 +67,10 @@ pub fn ridgeoven_walk(
         (ends_of (after (unnamed kinds kind) (definition.walk kinds first rows end (columns_of count offsets.now deltas.now) kind limit start
         (rooms (length numbers.old) (length ends.old))))) }
 {
-    if 1 < kind {
-        return walked_of(Handed::Refused(Refusal::InboundParent));
-    }
-    walked_of(columns_walk::walk(
+    let Some(kind) = kind_of(kind) else {
+        return Walked::from(Err(Refusal::InboundParent));
+    };
+    Walked::from(columns_walk::walk(
         Kinds::Two,
         first,
         rows,
@@ -77,7 +78,7 @@ pub fn ridgeoven_walk(
         count,
         offsets,
         deltas,
-        kind_of(kind),
+        kind,
         limit,
         start,
         numbers,
@@ -106,10 +107,10 @@ pub fn ridgeoven_next(
         (after (unnamed kinds kind) (step.next kinds first rows end (columns_of count offsets.now deltas.now) kind limit visited.now
         frontier.now (room (length level.old)))) }
 {
-    if 1 < kind {
-        return count_of(Counted::Refused(Refusal::InboundParent));
-    }
-    count_of(columns_walk::level::next(
+    let Some(kind) = kind_of(kind) else {
+        return Answer::from(Err(Refusal::InboundParent));
+    };
+    Answer::from(columns_walk::level::next(
         Kinds::Two,
         first,
         rows,
@@ -117,7 +118,7 @@ pub fn ridgeoven_next(
         count,
         offsets,
         deltas,
-        kind_of(kind),
+        kind,
         limit,
         visited,
         frontier,
@@ -134,25 +135,27 @@ pub struct Ancestor {
     pub number: u64,
 }
 
-fn ancestor_of(shared: Shared) -> Ancestor
-    ensures { result ≡ ancestor_of shared }
-{
-    match shared {
-        Shared::Number(x) => Ancestor {
-            refusal: 0,
-            found: 1,
-            number: x,
-        },
-        Shared::Nothing => Ancestor {
-            refusal: 0,
-            found: 0,
-            number: 0,
-        },
-        Shared::Refused(why) => Ancestor {
-            refusal: number(why),
-            found: 0,
-            number: 0,
-        },
+impl From<Result<Option<u64>, Refusal>> for Ancestor {
+    ghost from_gives = { λ shared ancestor. ancestor ≡ ancestor_of shared };
+
+    fn from(shared: Result<Option<u64>, Refusal>) -> Ancestor {
+        match shared {
+            Ok(Some(x)) => Ancestor {
+                refusal: 0,
+                found: 1,
+                number: x,
+            },
+            Ok(None) => Ancestor {
+                refusal: 0,
+                found: 0,
+                number: 0,
+            },
+            Err(why) => Ancestor {
+                refusal: why.number(),
+                found: 0,
+                number: 0,
+            },
+        }
     }
 }
 
@@ -170,10 +173,10 @@ pub fn ridgeoven_ancestor(
     ensures { PromisedBy result (first_of (unnamed kinds kind ∷ lent_rules kinds 0 first rows end
         (columns_of count offsets.now deltas.now) [] ∷ [])) (list_of kinds first (slots_of kinds first (columns_of count offsets.now deltas.now)) kind) a b }
 {
-    if 1 < kind {
-        return ancestor_of(Shared::Refused(Refusal::InboundParent));
-    }
-    ancestor_of(columns_walk::ancestor(
+    let Some(kind) = kind_of(kind) else {
+        return Ancestor::from(Err(Refusal::InboundParent));
+    };
+    Ancestor::from(columns_walk::ancestor(
         Kinds::Two,
         first,
         rows,
@@ -181,7 +184,7 @@ pub fn ridgeoven_ancestor(
         count,
         offsets,
         deltas,
-        kind_of(kind),
+        kind,
         a,
         b,
     ))

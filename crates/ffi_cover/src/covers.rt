@@ -8,19 +8,8 @@ ghost use Rattle.cover.specs.Answers.{range_columns, link_columns, for_records, 
 ghost use Rattle.cover_build.specs.Built as building;
 ghost use Rattle.ffi_cover.specs.Numbers.{records_of, held_of, covered_of};
 
-use columns::refusal::number;
-use cover::answer::Window;
-use cover_build::Built;
-use ffi::answer::{Answer, no_entries, some_entries};
-
-fn records_of(answer: cover::answer::Answer) -> Answer
-    ensures { result ≡ records_of answer }
-{
-    match answer {
-        cover::answer::Answer::Done(n) => some_entries(n),
-        cover::answer::Answer::Refused(why) => no_entries(why),
-    }
-}
+use columns::refusal::Refusal;
+use ffi::answer::Answer;
 
 // The stored columns of links, the first of differences.
 pub fn ridgeoven_cover_store(
@@ -41,7 +30,7 @@ pub fn ridgeoven_cover_store(
         (for_records (length a.old ∷ length b.old ∷ length c.old ∷ length d.old ∷ [])))
         (link_columns a.old b.old c.old d.old) }
 {
-    records_of(cover_build::encode::encode_links(fc, fs, tc, ts, a, b, c, d))
+    Answer::from(cover_build::encode::encode_links(fc, fs, tc, ts, a, b, c, d))
 }
 
 // The links of stored columns, whose ranges are read too.
@@ -67,7 +56,7 @@ pub fn ridgeoven_cover_read(
         (for_records (length a.old ∷ length b.old ∷ length c.old ∷ length d.old ∷ [])))
         (link_columns a.old b.old c.old d.old) }
 {
-    records_of(cover_read::read(ids, minima, maxima, differences, fs, tc, ts, a, b, c, d))
+    Answer::from(cover_read::read(ids, minima, maxima, differences, fs, tc, ts, a, b, c, d))
 }
 
 // Whether the chain may hold an event of the window: 1 or 0.
@@ -78,26 +67,20 @@ pub struct Held {
     pub holds: u64,
 }
 
-fn held_of(window: Window) -> Held
-    ensures { result ≡ held_of window }
-{
-    match window {
-        Window::Holds(holds) => {
-            if holds {
-                return Held {
-                    refusal: 0,
-                    holds: 1,
-                };
-            }
-            Held {
+impl From<Result<bool, Refusal>> for Held {
+    ghost from_gives = { λ window held. held ≡ held_of window };
+
+    fn from(window: Result<bool, Refusal>) -> Held {
+        match window {
+            Ok(holds) => Held {
                 refusal: 0,
+                holds: u64::from(holds),
+            },
+            Err(why) => Held {
+                refusal: why.number(),
                 holds: 0,
-            }
+            },
         }
-        Window::Refused(why) => Held {
-            refusal: number(why),
-            holds: 0,
-        },
     }
 }
 
@@ -111,7 +94,7 @@ pub fn ridgeoven_window(
 ) -> Held
     ensures { result ≡ held_of (window_answer (may_hold_lent (range_columns ids.now minima.now maxima.now) chain low high)) }
 {
-    held_of(cover_read::window::may_hold_chain(ids, minima, maxima, chain, low, high))
+    Held::from(cover_read::window::may_hold_chain(ids, minima, maxima, chain, low, high))
 }
 
 // The links from some chains, of stored columns.
@@ -133,7 +116,7 @@ pub fn ridgeoven_chain_links(
         (for_records (length a.old ∷ length b.old ∷ length c.old ∷ length d.old ∷ [])))
         (link_columns a.old b.old c.old d.old) }
 {
-    records_of(cover_read::links::chain_links(differences, fs, tc, ts, chains, a, b, c, d))
+    Answer::from(cover_read::links::chain_links(differences, fs, tc, ts, chains, a, b, c, d))
 }
 
 // How many ranges and links a cover has.
@@ -145,20 +128,22 @@ pub struct Covered {
     pub links: usize,
 }
 
-fn covered_of(built: Built) -> Covered
-    ensures { result ≡ covered_of built }
-{
-    match built {
-        Built::Done(ranges, links) => Covered {
-            refusal: 0,
-            ranges: ranges,
-            links: links,
-        },
-        Built::Refused(why) => Covered {
-            refusal: number(why),
-            ranges: 0,
-            links: 0,
-        },
+impl From<Result<(usize, usize), Refusal>> for Covered {
+    ghost from_gives = { λ built covered. covered ≡ covered_of built };
+
+    fn from(built: Result<(usize, usize), Refusal>) -> Covered {
+        match built {
+            Ok((ranges, links)) => Covered {
+                refusal: 0,
+                ranges,
+                links,
+            },
+            Err(why) => Covered {
+                refusal: why.number(),
+                ranges: 0,
+                links: 0,
+            },
+        }
     }
 }
 
@@ -193,7 +178,7 @@ pub fn ridgeoven_cover_build(
         (for_records (length ids.old ∷ length minima.old ∷ length maxima.old ∷ length a.old ∷ length b.old ∷ length
         c.old ∷ length d.old ∷ []))) (link_columns a.old b.old c.old d.old) }
 {
-    covered_of(cover_build::build(
+    Covered::from(cover_build::build(
         chains, seqs, fc, fs, tc, ts, ids, minima, maxima, a, b, c, d,
     ))
 }

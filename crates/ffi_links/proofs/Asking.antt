@@ -1,4 +1,5 @@
 -- The links question over links that were taken apart: their stored columns, and its verdict where one slice is lent for the answer.
+use Rattle.std.specs.Prelude.{Err}
 use mathlib.Core.Path.{◌≡◌, refl, sym, ◌∙◌, ap}
 use mathlib.Core.Bool.{Bool, true, false}
 use mathlib.Core.List.{List, [], ◌∷◌, map}
@@ -21,7 +22,7 @@ use Rattle.cover.proofs.Stored.{length-differences}
 use Rattle.cover_rows.proofs.Columned.{take-over}
 use Rattle.cover_rows.proofs.Fitting.{length-links}
 use Rattle.cover_rows.proofs.limits.Verdicts.{limits-records, limits-numbers, limits-short, limits-none, first-refuses}
-use Rattle.ffi.specs.Numbers.{no_entries}
+use Rattle.ffi.specs.Numbers.{answer_of}
 use Rattle.ffi.specs.declared.answer.Answer.{Answer}
 use Rattle.ffi_cover.specs.Numbers.{records_of}
 use Rattle.ffi_links.specs.Records.{chain_lent, store_lent, first_links, given}
@@ -86,8 +87,8 @@ module _ (n : ℕ) (h : n ≤ 1024) (a b c d : List ℕ) (pa : length a ≡ 1024
 
 -- more were given
 module _ (n : ℕ) (v : Verdict LinkColumns) (h : 1024 < n) where
-  pub unstored-told : {r : Answer} → r ≡ no_entries OverRecords → r ≡ records_of (counted (λ x. x.from_chains) (given n v))
-  unfolding records_of counted
+  pub unstored-told : {r : Answer} → r ≡ answer_of (Err OverRecords) → r ≡ records_of (counted (λ x. x.from_chains) (given n v))
+  unfolding counted
   unstored-told e = rw (over-given n v h) e
 
   pub unstored-kept : (o : LinkColumns) → o ≡ columns_after (given n v) o
@@ -168,7 +169,7 @@ module _ (ls : List Link) (chains : List ℕ) (room : ℕ) where
 
   -- the answer has room: none is given where one slice of 1,024 is not lent
   pub ask-room : (records_of (counted (λ x. x) (chain_lent ls chains room))).length ≤ 1024 → (records_of (counted (λ x. x) (chain_lent ls chains room))).length ≤ room
-  unfolding records_of counted
+  unfolding answer_of counted
   ask-room k = by-room (ltb room records_room) refl
     where
       by-numbers : length ls ≤ 1024 → room < 1024 → (t : Bool) → ltb max_numbers (length chains) ≡ t → (records_of (counted (λ x. x) (chain_lent ls chains room))).length ≤ room
@@ -185,8 +186,8 @@ module _ (ls : List Link) (chains : List ℕ) (room : ℕ) where
 
 -- what a call answers and writes by a verdict
 module _ (n : ℕ) (h : n ≤ 1024) (v : Verdict (List Link)) where
-  pub refused-told : {r : Answer} (why : _) → v ≡ refused why → r ≡ no_entries why → r ≡ records_of (counted (λ x. x) (given n v))
-  unfolding records_of counted
+  pub refused-told : {r : Answer} (why : _) → v ≡ refused why → r ≡ answer_of (Err why) → r ≡ records_of (counted (λ x. x) (given n v))
+  unfolding counted
   refused-told why e f = rw (few-given n v h, e) f
 
   refused-kept : (why : _) (o : LinkColumns) → v ≡ refused why → o ≡ links_after (λ x. x) (given n v) o

@@ -26,6 +26,7 @@ use Rattle.cover_links.specs.declared.Link as records
 use Rattle.cover_links.proofs.Meant.{columns-mean}
 use Rattle.cover_links.proofs.Written.{length-places, place_at}
 use Rattle.ffi.specs.declared.answer.Answer.{Answer}
+use Rattle.ffi.specs.Numbers.{answer_of}
 use Rattle.ffi_cover.specs.Numbers.{records_of}
 use Rattle.ffi_links.specs.Records.{records_after, first_links, given}
 use Rattle.ffi_links.proofs.Four.{Quad, Long}
@@ -100,7 +101,7 @@ module _ (ls : List Link) (f : Link → ℕ) (old now : List ℕ) (e : now ≡ a
       ap (λ l. get_or l i 0) e ∙ get_or-append (map f ls) (drop (length (map f ls)) old) 0 i (rw (length-map ls f) h) ∙ ap (λ n. get_or (map f ls) i n) (sym z) ∙ get_or-map f ls i d
 
 pub answer-few : (v : Verdict (List Link)) (y w : Quad (List ℕ)) → columns w ≡ links_after (λ x. x) v (columns y) → Long 1024 w → (records_of (counted (λ x. x) v)).length ≤ 1024
-unfolding records_of counted links_after links_over
+unfolding answer_of counted links_after links_over
 answer-few (refused r) y w e long = zero-le
 answer-few (accepted ls) y w e long = over-few ls (λ l. l.from_chain) y.a w.a (ap (λ c. c.from_chains) e) long.0
 
@@ -141,7 +142,7 @@ carried-all k w ys long few room = omega (arith, length-take-le k w.a (omega ari
 
 pub put-means : (v : Verdict (List Link)) (y w : Quad (List ℕ)) (ys zs : List records.Link) (r : ℕ) → columns w ≡ links_after (λ x. x) v (columns y) → Long 1024 w
     → (records_of (counted (λ x. x) v)).length ≤ length ys → Put (records_of (counted (λ x. x) v)).length w ys r zs → map meant zs ≡ records_after v (map meant ys)
-unfolding records_of counted links_after records_after
+unfolding answer_of counted links_after records_after
 put-means (refused why) y w ys zs r e long room put = ap (map meant) (put.1
     ∙ ap (λ n. over (map (link_in (take 0 w.a) w.b w.c w.d) (places n)) ys) (carried-all 0 w ys long zero-le zero-le) ∙ over_none (link_in (take 0 w.a) w.b w.c w.d) ys)
 put-means (accepted ls) y w ys zs r e long room put =

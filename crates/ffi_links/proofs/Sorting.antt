@@ -1,4 +1,5 @@
 -- What the functions over columns do: fronts of columns, and verdicts where more links were given than columns hold.
+use Rattle.std.specs.Prelude.{Ok, Err}
 use mathlib.Core.Path.{◌≡◌, refl, sym, ◌∙◌, ap}
 use mathlib.Core.Bool.{Bool, true, false}
 use mathlib.Core.List.{List, []}
@@ -17,7 +18,7 @@ use Rattle.cover.specs.Cover.{LinkColumns}
 use Rattle.cover.specs.Answers.{link_columns, links_over, links_after, counted}
 use Rattle.cover_rows.proofs.Fitting.{length-links}
 use Rattle.cleaning.proofs.GoodGroups.{few-sorted}
-use Rattle.ffi.specs.Numbers.{entries, no_entries}
+use Rattle.ffi.specs.Numbers.{answer_of}
 use Rattle.ffi.specs.declared.answer.Answer.{Answer}
 use Rattle.ffi_cover.specs.Numbers.{records_of}
 use Rattle.ffi_links.specs.Records.{sort_lent, first_links, given}
@@ -66,7 +67,7 @@ many-sorts ls h = rw (lt-ltb max_records (length ls) h)
 
 -- sorted links are no more than they were
 pub sort-room : (ls : List Link) → (records_of (counted (λ x. x) (sort_lent ls))).length ≤ length ls
-unfolding records_of counted sort_links
+unfolding answer_of counted sort_links
 sort-room ls = by-test (ltb max_records (length ls)) refl
   where
     by-test : (b : Bool) → ltb max_records (length ls) ≡ b → (records_of (counted (λ x. x) (sort_lent ls))).length ≤ length ls
@@ -75,8 +76,8 @@ sort-room ls = by-test (ltb max_records (length ls)) refl
 
 -- more were given
 module _ (n : ℕ) (v : Verdict (List Link)) (h : 1024 < n) where
-  pub over-told : {r : Answer} → r ≡ no_entries OverRecords → r ≡ records_of (counted (λ x. x) (given n v))
-  unfolding records_of counted
+  pub over-told : {r : Answer} → r ≡ answer_of (Err OverRecords) → r ≡ records_of (counted (λ x. x) (given n v))
+  unfolding counted
   over-told e = rw (over-given n v h) e
 
   pub over-kept : (o : LinkColumns) → o ≡ links_after (λ x. x) (given n v) o
@@ -88,9 +89,9 @@ module _ (n : ℕ) (ls : List Link) (h : n ≤ 1024) (l : length ls ≤ 1024) wh
   sorts : given n (sort_lent ls) ≡ accepted (sort_links ls)
   sorts = few-given n (sort_lent ls) h ∙ few-sorts ls l
 
-  pub sort-told : {r : Answer} (k : ℕ) → r ≡ entries k → k ≡ length (sort_links ls) → r ≡ records_of (counted (λ x. x) (given n (sort_lent ls)))
-  unfolding records_of counted
-  sort-told k e f = rw sorts (e ∙ ap entries f)
+  pub sort-told : {r : Answer} (k : ℕ) → r ≡ answer_of (Ok k) → k ≡ length (sort_links ls) → r ≡ records_of (counted (λ x. x) (given n (sort_lent ls)))
+  unfolding counted
+  sort-told k e f = rw sorts (e ∙ ap (λ n. answer_of (Ok n)) f)
 
   pub sort-written : (o : LinkColumns) {o' : LinkColumns} → o' ≡ links_over (sort_links ls) o → o' ≡ links_after (λ x. x) (given n (sort_lent ls)) o
   unfolding links_after

@@ -11,7 +11,7 @@ ghost use Rattle.ffi_links.specs.Records.{sort_lent, records_after, first_links,
 
 use columns::refusal::Refusal;
 use cover_links::Link;
-use ffi::answer::{Answer, no_entries, some_entries};
+use ffi::answer::Answer;
 
 // Writes the first n links of four columns sorted, repeats dropped, and answers how many they are.
 fn sort_part(
@@ -87,9 +87,9 @@ fn sort_taken(n: usize, a: &mut [u32], b: &mut [u32], c: &mut [u32], d: &mut [u3
         (link_columns a.old b.old c.old d.old)) }
 {
     if 1024 < n {
-        return no_entries(Refusal::OverRecords);
+        return Answer::from(Err(Refusal::OverRecords));
     }
-    some_entries(sort_first(n, a, b, c, d))
+    Answer::from(Ok(sort_first(n, a, b, c, d)))
 }
 
 // Puts links in order, repeats dropped, from the start of their slice on, and answers how many they are; what stands behind them stays.

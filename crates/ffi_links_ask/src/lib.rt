@@ -11,7 +11,7 @@ ghost use Rattle.ffi_links.specs.Records.{chain_lent, records_after, first_links
 
 use columns::refusal::Refusal;
 use cover_links::Link;
-use ffi::answer::{Answer, no_entries};
+use ffi::answer::Answer;
 
 // Writes the stored columns of the first n links of four columns.
 fn store_first(
@@ -31,7 +31,8 @@ fn store_first(
     ensures { link_columns (take n x.new) (take n y.new) (take n z.new) (take n w.new)
         ≡ columns_of (first_links n (link_columns a.now b.now c.now d.now)) }
 {
-    cover_build::encode::encode_links(&a[..n], &b[..n], &c[..n], &d[..n], x, y, z, w);
+    // Nothing is refused here: n links are not too many, and the slices are long enough.
+    let _ = cover_build::encode::encode_links(&a[..n], &b[..n], &c[..n], &d[..n], x, y, z, w);
 }
 
 // Writes the links from any of the chains, of stored columns whose first n numbers are asked.
@@ -127,13 +128,13 @@ fn ask_taken(
         chains.now room)) (link_columns a.old b.old c.old d.old)) }
 {
     if 1024 < n {
-        return no_entries(Refusal::OverRecords);
+        return Answer::from(Err(Refusal::OverRecords));
     }
     if 4096 < chains.len() {
-        return no_entries(Refusal::OverNumbers);
+        return Answer::from(Err(Refusal::OverNumbers));
     }
     if room < 1024 {
-        return no_entries(Refusal::SliceShort);
+        return Answer::from(Err(Refusal::SliceShort));
     }
     ask_first(n, chains, a, b, c, d)
 }

@@ -1,4 +1,5 @@
 -- Building over links that were taken apart: the verdict of columns is that of links, and what each way out of the functions over columns does.
+use Rattle.std.specs.Prelude.{Err}
 use mathlib.Core.Path.{◌≡◌, refl, sym, ◌∙◌, ap, subst}
 use mathlib.Core.Bool.{Bool, true, false, or-true}
 use mathlib.Core.List.{List, [], ◌∷◌}
@@ -19,6 +20,7 @@ use Rattle.cover.specs.Answers.{RangeColumns, link_columns, for_records, counted
 use Rattle.cover_rows.proofs.limits.Anyone.{any-nil, few-first, short-here}
 use Rattle.cover_rows.proofs.limits.Verdicts.{limits-records, limits-short, first-refuses}
 use Rattle.cover_build.specs.Built.{built_of, ranges_after}
+use Rattle.ffi.specs.Numbers.{answer_of}
 use Rattle.ffi_cover.specs.Numbers.{records_of, covered_of}
 use Rattle.ffi_cover.specs.declared.covers.Covered.{Covered}
 use Rattle.ffi_links.specs.Records.{first_links, given}
@@ -37,8 +39,8 @@ module _ {r : Covered} {o o' : RangeColumns} {k k' : LinkColumns} where
   links-wrote l rooms ks ls e w = same-wrote (build_lent l ks rooms) (build_lent l ls rooms) (ap (λ t. build_lent l t rooms) e) w
 
 -- nothing is written
-refused-wrote : {r : Covered} (o : RangeColumns) (k : LinkColumns) (v : Verdict Cover) (why : Refusal) → v ≡ refused why → r ≡ covered_of (built_of (refused why)) → Wrote v r o o k k
-unfolding ranges_after links_after
+refused-wrote : {r : Covered} (o : RangeColumns) (k : LinkColumns) (v : Verdict Cover) (why : Refusal) → v ≡ refused why → r ≡ covered_of (Err why) → Wrote v r o o k k
+unfolding built_of ranges_after links_after
 refused-wrote o k v why e f = same-wrote (refused why) v (sym e) (record { answer = f; leaves = refl; writes = refl })
 
 -- ── columns and links ────────────────────────────────────────────────────────────────────────
@@ -122,7 +124,7 @@ module _ (l : Labels) (i m g room : ℕ) where
 
     -- the answer has room: none is given where one slice of 1,024 is not lent
     pub build-room : (records_of (counted (λ k. k) (links_in (build_lent l ls rooms)))).length ≤ 1024 → (records_of (counted (λ k. k) (links_in (build_lent l ls rooms)))).length ≤ room
-    unfolding records_of counted links_in
+    unfolding answer_of counted links_in
     build-room k = by-room (ltb room records_room) refl
       where
         by-records : room < 1024 → (t : Bool) → any (ltb max_records) (numbers (length ls)) ≡ t → (records_of (counted (λ k. k) (links_in (build_lent l ls rooms)))).length ≤ room
@@ -154,7 +156,7 @@ module _ (n : ℕ) (a b c d : List ℕ) (pa : length a ≡ 1024) (pb : length b 
       by-test true h = over-given n verdict (ltb-true max_records n h)
       by-test false h = let few = ltb-false max_records n h in few-given n verdict few ∙ many-built l i m g room links (sym (counted-so few) ∙ f)
 
-  pub over-wrote : t ≡ true → {r : Covered} (o : RangeColumns) (k : LinkColumns) → r ≡ covered_of (built_of (refused OverRecords))
+  pub over-wrote : t ≡ true → {r : Covered} (o : RangeColumns) (k : LinkColumns) → r ≡ covered_of (Err OverRecords)
       → Wrote (given n (build_lent l (first_links n (link_columns a b c d)) (i ∷ m ∷ g ∷ room ∷ []))) r o o k k
   over-wrote f o k q = refused-wrote o k (given n verdict) OverRecords (refuses-over f) q
 
@@ -162,7 +164,7 @@ module _ (n : ℕ) (a b c d : List ℕ) (pa : length a ≡ 1024) (pb : length b 
     few : n ≤ 1024
     few = links-given (length l.chains) (length l.seqs) n e f
 
-    pub short-wrote : room < 1024 → {r : Covered} (o : RangeColumns) (k : LinkColumns) → r ≡ covered_of (built_of (refused SliceShort))
+    pub short-wrote : room < 1024 → {r : Covered} (o : RangeColumns) (k : LinkColumns) → r ≡ covered_of (Err SliceShort)
         → Wrote (given n (build_lent l (first_links n (link_columns a b c d)) (i ∷ m ∷ g ∷ room ∷ []))) r o o k k
     short-wrote h o k q =
         refused-wrote o k (given n verdict) SliceShort (few-given n verdict few ∙ short-built l i m g room links (sym (counted-so few) ∙ f) h) q

@@ -14,6 +14,7 @@ use Rattle.cover.specs.Answers.{RangeColumns, counted, links_after}
 use Rattle.cover_build.specs.Built.{built_of, ranges_after}
 use Rattle.cover_links.specs.Links.{meant}
 use Rattle.cover_links.specs.declared.Link as records
+use Rattle.ffi.specs.Numbers.{answer_of}
 use Rattle.ffi_cover.specs.Numbers.{records_of, covered_of}
 use Rattle.ffi_cover.specs.declared.covers.Covered.{Covered}
 use Rattle.ffi_links.specs.Records.{records_after, first_links, given}
@@ -24,7 +25,7 @@ use Rattle.ffi_links_build.specs.Covers.{links_in, Wrote}
 
 -- the links of a cover are counted and written as links alone are
 links-counted : (v : Verdict Cover) → (covered_of (built_of v)).links ≡ (records_of (counted (λ k. k) (links_in v))).length
-unfolding covered_of built_of records_of counted links_in
+unfolding covered_of built_of answer_of counted links_in
 links-counted (refused r) = refl
 links-counted (accepted c) = refl
 

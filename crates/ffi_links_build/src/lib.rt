@@ -3,7 +3,6 @@
 #![tactic(auto)]
 
 ghost use Rattle.std.specs.Prelude.{◌≡◌, [], ◌∷◌, map, ◌≤◌, length};
-ghost use Rattle.columns.specs.Refusal.{refused};
 ghost use Rattle.columns.specs.Answers.{label_columns};
 ghost use Rattle.cover.specs.Answers.{range_columns, link_columns};
 ghost use Rattle.cover_build.specs.Built.{built_of, ranges_after};
@@ -12,20 +11,9 @@ ghost use Rattle.ffi_cover.specs.Numbers.{covered_of};
 ghost use Rattle.ffi_links.specs.Records.{records_after, first_links, given};
 ghost use Rattle.ffi_links_build.specs.Covers.{build_lent, links_in, Wrote};
 
-use columns::refusal::{Refusal, number};
+use columns::refusal::Refusal;
 use cover_links::Link;
 use ffi_cover::covers::Covered;
-
-// The answer where no cover is built.
-fn no_cover(why: Refusal) -> Covered
-    ensures { result ≡ covered_of (built_of (refused why)) }
-{
-    Covered {
-        refusal: number(why),
-        ranges: 0,
-        links: 0,
-    }
-}
 
 // Builds the cover of labels and of the first n links of columns.
 fn build_part(
@@ -156,10 +144,10 @@ fn build_taken(
         (link_columns a.new b.new c.new d.new) }
 {
     if cover_rows::limits::three_over(chains.len(), seqs.len(), n) {
-        return no_cover(Refusal::OverRecords);
+        return Covered::from(Err(Refusal::OverRecords));
     }
     if room < 1024 {
-        return no_cover(Refusal::SliceShort);
+        return Covered::from(Err(Refusal::SliceShort));
     }
     build_first(n, chains, seqs, ids, minima, maxima, a, b, c, d)
 }

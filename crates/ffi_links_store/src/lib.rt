@@ -9,7 +9,7 @@ ghost use Rattle.ffi_links.specs.Records.{store_lent, first_links, given};
 
 use columns::refusal::Refusal;
 use cover_links::Link;
-use ffi::answer::{Answer, no_entries};
+use ffi::answer::Answer;
 
 // Writes the stored columns of links that were taken apart, where n were given, of which the columns hold 1,024.
 fn store_taken(
@@ -33,7 +33,7 @@ fn store_taken(
         (link_columns a.old b.old c.old d.old)) }
 {
     if 1024 < n {
-        return no_entries(Refusal::OverRecords);
+        return Answer::from(Err(Refusal::OverRecords));
     }
     ffi_cover::covers::ridgeoven_cover_store(&x[..n], &y[..n], &z[..n], &w[..n], a, b, c, d)
 }

@@ -6,7 +6,8 @@ ghost use Rattle.columns_refs.specs.References.{resolve_graph};
 ghost use Rattle.columns_refs.specs.Resolved.{referred, slices_of};
 ghost use Rattle.ffi_refs.specs.Numbers.{told_of, Told};
 
-use columns::refusal::number;
+use columns::refusal::Refusal;
+use columns_refs::Made;
 
 // How many targets the parent lists have, and how many unresolved records there are.
 #[repr(C)]
@@ -17,20 +18,22 @@ pub struct Resolved {
     pub unresolved: usize,
 }
 
-fn told_of(resolved: columns_refs::Resolved) -> Resolved
-    ensures { result ≡ told_of resolved }
-{
-    match resolved {
-        columns_refs::Resolved::Written(made) => Resolved {
-            refusal: 0,
-            parents: made.parents,
-            unresolved: made.unresolved,
-        },
-        columns_refs::Resolved::Refused(why) => Resolved {
-            refusal: number(why),
-            parents: 0,
-            unresolved: 0,
-        },
+impl From<Result<Made, Refusal>> for Resolved {
+    ghost from_gives = { λ made resolved. resolved ≡ told_of made };
+
+    fn from(made: Result<Made, Refusal>) -> Resolved {
+        match made {
+            Ok(made) => Resolved {
+                refusal: 0,
+                parents: made.parents,
+                unresolved: made.unresolved,
+            },
+            Err(why) => Resolved {
+                refusal: why.number(),
+                parents: 0,
+                unresolved: 0,
+            },
+        }
     }
 }
 
@@ -56,7 +59,7 @@ pub fn ridgeoven_resolve_graph(
         (length ukinds.old) (length handles.old))) result offsets.old parents.old children.old ukinds.old
         handles.old offsets.new parents.new children.new ukinds.new handles.new }
 {
-    told_of(columns_refs::resolve_graph(
+    Resolved::from(columns_refs::resolve_graph(
         first, rows, starts, kinds, spaces, targets, known, numbers, offsets, parents, children,
         ukinds, handles,
     ))

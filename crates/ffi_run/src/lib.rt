@@ -6,13 +6,13 @@ ghost use Rattle.columns.specs.Limits.{kinds};
 ghost use Rattle.cleaning.specs.Step.{takes, resolves, maps, counts};
 ghost use Rattle.cleaning.specs.Runs.{fresh_run, run_step};
 ghost use Rattle.run.specs.View.{view};
-ghost use Rattle.run.specs.Promises.{replied, numbered, counted_as};
+ghost use Rattle.run.specs.Promises.{replied, numbered};
 ghost use Rattle.ffi.specs.Numbers.{refusal_of};
 ghost use Rattle.ffi_run.specs.Steps.{StepsBy, told_of, count_of};
 
-use columns::refusal::number;
-use ffi::answer::{Answer, no_entries, some_entries};
-use run::{Count, Number, Reply, Run};
+use columns::refusal::Refusal;
+use ffi::answer::Answer;
+use run::Run;
 
 // The run after a call.
 #[repr(C)]
@@ -31,43 +31,36 @@ pub struct Renumbered {
     pub number: u64,
 }
 
-fn reply_number(reply: Reply) -> u64
+fn reply_number(reply: Result<(), Refusal>) -> u64
     ensures { result ≡ refusal_of (replied reply) }
 {
     match reply {
-        Reply::Done => 0,
-        Reply::Refused(why) => number(why),
+        Ok(()) => 0,
+        Err(why) => why.number(),
     }
 }
 
-fn renumbered_of(answer: Number) -> Renumbered
-    ensures { result ≡ told_of (numbered answer) }
-{
-    match answer {
-        Number::To(n) => Renumbered {
-            refusal: 0,
-            known: 1,
-            number: n,
-        },
-        Number::Nothing => Renumbered {
-            refusal: 0,
-            known: 0,
-            number: 0,
-        },
-        Number::Refused(why) => Renumbered {
-            refusal: number(why),
-            known: 0,
-            number: 0,
-        },
-    }
-}
+impl From<Result<Option<u64>, Refusal>> for Renumbered {
+    ghost from_gives = { λ answer renumbered. renumbered ≡ told_of (numbered answer) };
 
-fn reparented_of(answer: Count) -> Answer
-    ensures { result ≡ count_of (counted_as answer) }
-{
-    match answer {
-        Count::Of(n) => some_entries(n),
-        Count::Refused(why) => no_entries(why),
+    fn from(answer: Result<Option<u64>, Refusal>) -> Renumbered {
+        match answer {
+            Ok(Some(n)) => Renumbered {
+                refusal: 0,
+                known: 1,
+                number: n,
+            },
+            Ok(None) => Renumbered {
+                refusal: 0,
+                known: 0,
+                number: 0,
+            },
+            Err(why) => Renumbered {
+                refusal: why.number(),
+                known: 0,
+                number: 0,
+            },
+        }
     }
 }
 
@@ -108,12 +101,12 @@ pub fn ridgeoven_resolve(run: Run) -> Step
 pub fn ridgeoven_new_number(run: Run, old: u64) -> Renumbered
     ensures { result ≡ told_of (run_step kinds (view run) (maps old)).answer }
 {
-    renumbered_of(run::new_number(run, old))
+    Renumbered::from(run::new_number(run, old))
 }
 
 // How many survivors name an erased parent, in a resolved run.
 pub fn ridgeoven_reparented(run: Run) -> Answer
     ensures { result ≡ count_of (run_step kinds (view run) counts).answer }
 {
-    reparented_of(run::reparented(run))
+    Answer::from(run::reparented(run))
 }

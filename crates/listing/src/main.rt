@@ -8,7 +8,6 @@ ghost use Rattle.listing.specs.Printed.{Printed};
 use messages::STANDARD_ERROR;
 use messages::failures::tell_failure;
 use messages::input::read_whole;
-use run_state::Writing;
 use run_text::lines::put_refused;
 
 // All that is printed of an archive.
@@ -18,8 +17,8 @@ fn print(bytes: &[u8], out: &mut [u8]) -> usize
 {
     let r = run_print::listing(bytes, out);
     match r {
-        Writing::Refused(x) => put_refused(out, 0, x),
-        Writing::Length(n) => n,
+        Err(x) => put_refused(out, 0, x),
+        Ok(n) => n,
     }
 }
 
@@ -36,8 +35,8 @@ fn list(rt: &impl Print, bytes: &[u8]) {
 fn main(rt: HostRuntime) {
     let mut input = [0u8; 65537];
     let r = read_whole(&mut rt.stdin(), &mut input);
-    if r.is_failed {
-        tell_failure(STANDARD_ERROR, b"standard input cannot be read", r.error);
+    if r.failure.is_some() {
+        tell_failure(STANDARD_ERROR, b"standard input cannot be read", r.failure);
         return;
     }
     let n = r.count;

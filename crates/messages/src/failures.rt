@@ -9,12 +9,10 @@ fn words_end(text: &[u8]) -> usize
     ensures { IsPrefixLen result text.now }
 {
     let mut end = text.len();
-    let mut i = 0;
-    while i < text.len() {
+    for i in 0..text.len() {
         if text[i] == b'(' {
             end = if 0 < i { i - 1 } else { 0 };
         }
-        i += 1;
     }
     within(end, text)
 }

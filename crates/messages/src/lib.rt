@@ -8,7 +8,7 @@ pub mod words;
 ghost use Rattle.std.specs.Prelude.{◌≡◌, length};
 ghost use Rattle.io.specs.Counts.{IsPrefixLen};
 
-use columns::refusal::{Refusal, number};
+use columns::refusal::Refusal;
 
 // Where a program answers, and where it tells what went wrong.
 pub const STANDARD_OUTPUT: i32 = 1;
@@ -54,7 +54,7 @@ fn tell_words(fd: i32, refusal: Refusal) {
 // `refused 25: ` and what the number means, in one line.
 pub fn tell_refusal(fd: i32, refusal: Refusal) {
     io::write_all(fd, b"refused ");
-    io::print_decimal(fd, number(refusal));
+    io::print_decimal(fd, refusal.number());
     io::write_all(fd, b": ");
     tell_words(fd, refusal);
     io::write_all(fd, b"\n");

@@ -5,7 +5,7 @@ ghost use Rattle.run_text.specs.numbers.Wrote.{Wrote};
 ghost use Rattle.messages.specs.words.Words.{words_of, table};
 
 use arrays::index;
-use columns::refusal::{Refusal, number};
+use columns::refusal::Refusal;
 use run_text::lines::put_word;
 
 // Where the words of each number start; a number that is no refusal's has none.
@@ -81,5 +81,5 @@ pub fn words(refusal: Refusal, out: &mut [u8], at: usize) -> usize
     requires { at + 120 ≤ length out.old }
     ensures { Wrote (words_of refusal) 120 out.old at out.new result }
 {
-    words_of_number(number(refusal), out, at)
+    words_of_number(refusal.number(), out, at)
 }

@@ -4,8 +4,7 @@
 
 ghost use Rattle.std.specs.Prelude.{◌≤◌, ◌<◌, length};
 
-use archive_read::files::{Summed, Totals, sum_up};
-use columns::refusal::number;
+use archive_read::files::{Totals, sum_up};
 
 // 1 where the bytes are an archive, 0 where they are refused with 23.
 fn accepted(bytes: &[u8]) -> usize
@@ -13,8 +12,8 @@ fn accepted(bytes: &[u8]) -> usize
 {
     let x = sum_up(bytes);
     match x {
-        Summed::Sums(_) => 1,
-        Summed::Refused(_) => 0,
+        Ok(_) => 1,
+        Err(_) => 0,
     }
 }
 
@@ -23,10 +22,8 @@ fn truncations(bytes: &[u8]) -> usize
     ensures { result ≤ length bytes.now }
 {
     let mut n = 0;
-    let mut k = 0;
-    while k < bytes.len() {
+    for k in 0..bytes.len() {
         n += accepted(&bytes[..k]);
-        k += 1;
     }
     n
 }
@@ -38,11 +35,9 @@ fn changes_at(bytes: &mut [u8], i: usize) -> usize
 {
     let old = bytes[i];
     let mut n = 0;
-    let mut v = 0;
-    while v < 256 {
+    for v in 0..256 {
         bytes[i] = archive_bytes::narrow(v);
         n += accepted(bytes);
-        v += 1;
     }
     bytes[i] = old;
     n
@@ -68,17 +63,15 @@ fn print_totals(t: Totals) {
 fn print_counts(bytes: &[u8]) {
     let x = sum_up(bytes);
     match x {
-        Summed::Sums(t) => print_totals(t),
-        Summed::Refused(why) => print_number(number(why) as usize),
+        Ok(t) => print_totals(t),
+        Err(why) => print_number(why.number() as usize),
     }
 }
 
 // A line for each byte: how many values of it are accepted.
 fn print_changes(bytes: &mut [u8]) {
-    let mut i = 0;
-    while i < bytes.len() {
+    for i in 0..bytes.len() {
         print_number(changes_at(bytes, i));
-        i += 1;
     }
 }
 

@@ -1,35 +1,29 @@
 // Reading a granule, and the questions over its columns.
 use crate::answers::{is_answered, is_counted, is_list, is_refused};
-use crate::parts::{after, behind_all, count, kind, list, list_i64, number};
+use crate::parts::{after, behind_all, count, kind, list, list_of, number};
 use columns::kind::Kinds;
-use columns_ask::Labelled;
-use columns_build::roots::Roots;
-use columns_read::{Decoded, Head};
+use columns::refusal::Refusal;
+use columns_ask::ChainLabel;
+use columns_read::{Counts, Head};
 
 // Three lists of targets, and the labels as they were given.
 fn is_read(
     words: &[u64],
     at: usize,
-    decoded: Decoded,
+    decoded: Result<Counts, Refusal>,
     forward: &[u64],
     reverse: &[u64],
     inbound: &[u64],
 ) -> bool {
     match decoded {
-        Decoded::Edges(counts) => {
+        Ok(counts) => {
             let lists = after(at);
-            if number(words, at) != 0 {
-                return false;
-            }
-            if !is_list(words, lists, 0, forward, counts.forward) {
-                return false;
-            }
-            if !is_list(words, lists, 1, reverse, counts.reverse) {
-                return false;
-            }
-            is_list(words, lists, 2, inbound, counts.inbound)
+            number(words, at) == 0
+                && is_list(words, lists, 0, forward, counts.forward)
+                && is_list(words, lists, 1, reverse, counts.reverse)
+                && is_list(words, lists, 2, inbound, counts.inbound)
         }
-        Decoded::Refused(why) => is_refused(words, at, why),
+        Err(why) => is_refused(words, at, why),
     }
 }
 
@@ -54,11 +48,11 @@ pub fn read_agrees(words: &[u64], signed: &[i64]) -> bool {
         Kinds::Two,
         head,
         list(words, 4, 0),
-        list_i64(words, signed, 4, 1),
+        list_of(words, signed, 4, 1),
         list(words, after(reverse_at), 0),
-        list_i64(words, signed, after(reverse_at), 1),
+        list_of(words, signed, after(reverse_at), 1),
         list(words, after(inbound_at), 0),
-        list_i64(words, signed, after(inbound_at), 1),
+        list_of(words, signed, after(inbound_at), 1),
         list(words, after(labels_at), 0),
         list(words, after(labels_at), 1),
         &mut forward,
@@ -80,7 +74,7 @@ pub fn parents_agree(words: &[u64], signed: &[i64]) -> bool {
         number(words, 2),
         number(words, 3),
         list(words, 4, 0),
-        list_i64(words, signed, 4, 1),
+        list_of(words, signed, 4, 1),
         kind(words, asked),
         number(words, after(asked)),
         &mut out,
@@ -100,10 +94,10 @@ pub fn children_agree(words: &[u64], signed: &[i64]) -> bool {
         number(words, 2),
         number(words, 3),
         list(words, 4, 0),
-        list_i64(words, signed, 4, 1),
+        list_of(words, signed, 4, 1),
         number(words, inbound_at),
         list(words, after(inbound_at), 0),
-        list_i64(words, signed, after(inbound_at), 1),
+        list_of(words, signed, after(inbound_at), 1),
         kind(words, asked),
         number(words, after(asked)),
         &mut out,
@@ -111,21 +105,17 @@ pub fn children_agree(words: &[u64], signed: &[i64]) -> bool {
     is_counted(words, after(after(asked)), counted, &out)
 }
 
-fn long(x: u32) -> u64 {
-    x as u64
-}
-
-fn is_labelled(words: &[u64], at: usize, labelled: Labelled) -> bool {
+fn is_labelled(words: &[u64], at: usize, labelled: Result<Option<ChainLabel>, Refusal>) -> bool {
     match labelled {
-        Labelled::At(label) => {
-            let found = [long(label.chain), long(label.seq)];
+        Ok(Some(label)) => {
+            let found = [u64::from(label.chain), u64::from(label.seq)];
             is_answered(words, at, &found, 2)
         }
-        Labelled::Unlabelled => {
+        Ok(None) => {
             let found = [0u64; 1];
             is_answered(words, at, &found, 0)
         }
-        Labelled::Refused(why) => is_refused(words, at, why),
+        Err(why) => is_refused(words, at, why),
     }
 }
 
@@ -142,13 +132,6 @@ pub fn label_agrees(words: &[u64]) -> bool {
     is_labelled(words, after(asked), labelled)
 }
 
-fn are_roots(words: &[u64], at: usize, roots: Roots, out: &[u64]) -> bool {
-    match roots {
-        Roots::Rows(n) => is_answered(words, at, out, n),
-        Roots::Refused(why) => is_refused(words, at, why),
-    }
-}
-
 // First, rows, events.
 pub fn roots_agree(words: &[u64]) -> bool {
     let mut out = [0u64; 1024];
@@ -158,5 +141,5 @@ pub fn roots_agree(words: &[u64]) -> bool {
         list(words, 2, 0),
         &mut out,
     );
-    are_roots(words, behind_all(words, 2, 1), roots, &out)
+    is_counted(words, behind_all(words, 2, 1), roots, &out)
 }

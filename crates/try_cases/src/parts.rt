@@ -5,18 +5,15 @@ use columns::kind::Kind;
 
 // The next place.
 pub fn after(at: usize) -> usize {
-    if at < 1000000 {
-        return at + 1;
-    }
-    at
+    at.saturating_add(1)
 }
 
 // The number at a place.
-pub fn number(words: &[u64], at: usize) -> u64 {
-    if at < words.len() {
-        return words[at];
+pub fn number<T: Copy + Into<u64>>(values: &[T], at: usize) -> u64 {
+    match values.get(at) {
+        Some(value) => (*value).into(),
+        None => 0,
     }
-    0
 }
 
 // The same as a count.
@@ -24,12 +21,12 @@ pub fn count(words: &[u64], at: usize) -> usize {
     index(number(words, at))
 }
 
-// The same as a kind.
+// The same as a kind: 0 is prev, any other auth. `Kind` is of another crate, so no `From` impl can stand here.
 pub fn kind(words: &[u64], at: usize) -> Kind {
-    if number(words, at) == 0 {
-        return Kind::Prev;
+    match number(words, at) {
+        0 => Kind::Prev,
+        _ => Kind::Auth,
     }
-    Kind::Auth
 }
 
 // The place behind the list at a place.
@@ -46,74 +43,23 @@ pub fn behind(words: &[u64], at: usize) -> usize {
 // The place behind so many lists from a place on.
 pub fn behind_all(words: &[u64], at: usize, lists: usize) -> usize {
     let mut p = at;
-    let mut i = 0;
-    while i < lists {
+    for _ in 0..lists {
         p = behind(words, p);
-        i += 1;
     }
     p
 }
 
-// ── a part of a slice, by width ──
-
-pub fn part(xs: &[u64], from: usize, to: usize) -> &[u64] {
-    if to < from {
-        return &xs[..0];
-    }
-    if xs.len() < to {
-        return &xs[..0];
-    }
-    &xs[from..to]
+pub fn part<T>(values: &[T], from: usize, to: usize) -> &[T] {
+    values.get(from..to).unwrap_or(&values[..0])
 }
 
-pub fn part_i64(xs: &[i64], from: usize, to: usize) -> &[i64] {
-    if to < from {
-        return &xs[..0];
-    }
-    if xs.len() < to {
-        return &xs[..0];
-    }
-    &xs[from..to]
+// The list that stands behind so many lists from a place on, of values beside the words.
+pub fn list_of<'a, T>(words: &[u64], values: &'a [T], at: usize, lists: usize) -> &'a [T] {
+    let p = behind_all(words, at, lists);
+    part(values, after(p), behind(words, p))
 }
 
-pub fn part_u32(xs: &[u32], from: usize, to: usize) -> &[u32] {
-    if to < from {
-        return &xs[..0];
-    }
-    if xs.len() < to {
-        return &xs[..0];
-    }
-    &xs[from..to]
-}
-
-pub fn part_u8(xs: &[u8], from: usize, to: usize) -> &[u8] {
-    if to < from {
-        return &xs[..0];
-    }
-    if xs.len() < to {
-        return &xs[..0];
-    }
-    &xs[from..to]
-}
-
-// ── the list that stands behind so many lists from a place on ──
-
+// The same of the words.
 pub fn list(words: &[u64], at: usize, lists: usize) -> &[u64] {
-    let p = behind_all(words, at, lists);
-    part(words, after(p), behind(words, p))
-}
-
-pub fn list_i64<'a>(words: &[u64], signed: &'a [i64], at: usize, lists: usize) -> &'a [i64] {
-    let p = behind_all(words, at, lists);
-    part_i64(signed, after(p), behind(words, p))
-}
-
-pub fn list_u32<'a>(words: &[u64], shorts: &'a [u32], at: usize, lists: usize) -> &'a [u32] {
-    let p = behind_all(words, at, lists);
-    part_u32(shorts, after(p), behind(words, p))
-}
-
-pub fn list_u8<'a>(words: &[u64], bytes: &'a [u8], at: usize, lists: usize) -> &'a [u8] {
-    let p = behind_all(words, at, lists);
-    part_u8(bytes, after(p), behind(words, p))
+    list_of(words, words, at, lists)
 }

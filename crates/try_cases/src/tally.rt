@@ -3,59 +3,41 @@
 // How many cases there were, how many of them agree, and the place of the first that does not.
 #[derive(Clone, Copy)]
 pub struct Tally {
-    pub cases: u64,
-    pub agree: u64,
-    pub first: u64,
+    cases: u64,
+    agree: u64,
+    first: Option<u64>,
 }
 
-fn more(n: u64) -> u64 {
-    if n < 1000000 {
-        return n + 1;
+impl Tally {
+    pub fn new() -> Self {
+        Tally {
+            cases: 0,
+            agree: 0,
+            first: None,
+        }
     }
-    n
-}
 
-pub fn nothing() -> Tally {
-    Tally {
-        cases: 0,
-        agree: 0,
-        first: 0,
+    // One case more.
+    pub fn add(&mut self, agrees: bool) {
+        if agrees {
+            self.agree = self.agree.saturating_add(1);
+        } else {
+            self.first = self.first.or(Some(self.cases));
+        }
+        self.cases = self.cases.saturating_add(1);
     }
-}
 
-// One case more.
-pub fn tallied(t: Tally, agrees: bool) -> Tally {
-    if agrees {
-        return Tally {
-            cases: more(t.cases),
-            agree: more(t.agree),
-            first: t.first,
-        };
+    // One line: the question, how many of its cases agree, and the first that does not.
+    pub fn print(self, name: &[u8]) {
+        io::write_all(1, name);
+        io::write_all(1, b" ");
+        io::print_decimal(1, self.agree);
+        io::write_all(1, b" of ");
+        io::print_decimal(1, self.cases);
+        if let Some(first) = self.first {
+            io::write_all(1, b", not case ");
+            io::print_decimal(1, first);
+        }
+        io::write_all(1, b"\n");
     }
-    if t.cases == t.agree {
-        return Tally {
-            cases: more(t.cases),
-            agree: t.agree,
-            first: t.cases,
-        };
-    }
-    Tally {
-        cases: more(t.cases),
-        agree: t.agree,
-        first: t.first,
-    }
-}
-
-// One line: the question, how many of its cases agree, and the first that does not.
-pub fn print(name: &[u8], t: Tally) {
-    io::write_all(1, name);
-    io::write_all(1, b" ");
-    io::print_decimal(1, t.agree);
-    io::write_all(1, b" of ");
-    io::print_decimal(1, t.cases);
-    if t.agree != t.cases {
-        io::write_all(1, b", not case ");
-        io::print_decimal(1, t.first);
-    }
-    io::write_all(1, b"\n");
 }

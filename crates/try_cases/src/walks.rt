@@ -1,8 +1,8 @@
 // Walks, and their single steps.
 use crate::answers::{is_counted, is_list, is_refused};
-use crate::parts::{after, behind_all, count, kind, list, list_i64, number, part};
+use crate::parts::{after, behind_all, count, kind, list, list_of, number, part};
 use columns::kind::Kinds;
-use columns_walk::Handed;
+use columns::refusal::Refusal;
 use columns_walk::level::next;
 
 // Whether the lists from a place on are the levels that end where `ends` says, and their total stands behind them.
@@ -15,36 +15,33 @@ fn are_levels(
     total: usize,
 ) -> bool {
     let mut from = 0;
-    let mut i = 0;
-    while i < levels {
+    for i in 0..levels {
         let to = count(ends, i);
         let level = part(out, from, to);
         if !is_list(words, at, i, level, level.len()) {
             return false;
         }
         from = to;
-        i += 1;
     }
-    if from != total {
-        return false;
-    }
-    count(words, behind_all(words, at, levels)) == total
+    from == total && count(words, behind_all(words, at, levels)) == total
 }
 
 // How many levels, the levels, and how many numbers they have.
-fn is_handed(words: &[u64], at: usize, handed: Handed, out: &[u64], ends: &[u64]) -> bool {
+fn is_handed(
+    words: &[u64],
+    at: usize,
+    handed: Result<(usize, usize), Refusal>,
+    out: &[u64],
+    ends: &[u64],
+) -> bool {
     match handed {
-        Handed::Levels(levels, total) => {
+        Ok((levels, total)) => {
             let p = after(at);
-            if number(words, at) != 0 {
-                return false;
-            }
-            if count(words, p) != levels {
-                return false;
-            }
-            are_levels(words, after(p), out, ends, levels, total)
+            number(words, at) == 0
+                && count(words, p) == levels
+                && are_levels(words, after(p), out, ends, levels, total)
         }
-        Handed::Refused(why) => is_refused(words, at, why),
+        Err(why) => is_refused(words, at, why),
     }
 }
 
@@ -62,7 +59,7 @@ pub fn walk_agrees(words: &[u64], signed: &[i64]) -> bool {
         number(words, 2),
         number(words, 3),
         list(words, 4, 0),
-        list_i64(words, signed, 4, 1),
+        list_of(words, signed, 4, 1),
         kind(words, asked),
         count(words, limit),
         number(words, start),
@@ -84,7 +81,7 @@ pub fn next_agrees(words: &[u64], signed: &[i64]) -> bool {
         number(words, 2),
         number(words, 3),
         list(words, 4, 0),
-        list_i64(words, signed, 4, 1),
+        list_of(words, signed, 4, 1),
         kind(words, asked),
         count(words, limit),
         list(words, after(limit), 0),

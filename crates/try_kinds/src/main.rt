@@ -2,7 +2,7 @@
 #![tactic(auto)]
 
 use columns::kind::{Kind, Kinds};
-use columns::refusal::{Counted, number};
+use columns::refusal::Refusal;
 use columns::set::Set;
 
 // A number and a space.
@@ -13,26 +13,24 @@ fn print_number(n: u64) {
 
 // The first n numbers, or as many as there are.
 fn print_first(list: &[u64], n: usize) {
-    let mut i = 0;
-    while i < n {
+    for i in 0..n {
         if i < list.len() {
             print_number(list[i]);
         }
-        i += 1;
     }
 }
 
 // A line: how many numbers were answered and which, or the refusal's number.
-fn print_answer(answer: Counted, out: &[u64]) {
+fn print_answer(answer: Result<usize, Refusal>, out: &[u64]) {
     match answer {
-        Counted::Entries(n) => {
+        Ok(n) => {
             print_number(n as u64);
             io::write_all(1, b": ");
             print_first(out, n);
         }
-        Counted::Refused(why) => {
+        Err(why) => {
             io::write_all(1, b"refused ");
-            print_number(number(why));
+            print_number(why.number());
         }
     }
     io::write_all(1, b"\n");

@@ -1,9 +1,10 @@
 // Building a granule's columns.
 use columns::depth::Depth;
+use columns::refusal::Refusal;
 use columns_build::encode::encode_graph_blocks;
-use columns_encode::kept::Encoded;
+use columns_encode::writing::Counts;
 use try_cases::answers::{is_list, is_refused};
-use try_cases::parts::{after, behind_all, count, list, list_u8, list_u32, number};
+use try_cases::parts::{after, behind_all, count, list, list_of, number};
 
 // Whether the set at a place, count, offsets, deltas, is this one: so many offsets and n deltas, which are compared as words.
 fn is_set(
@@ -16,15 +17,12 @@ fn is_set(
 ) -> bool {
     let mut bytes = [0u8; 32768];
     let mut numbers = [0u64; 4096];
-    archive_cursor::number_columns::put_i64s(deltas, n, &mut bytes, 0);
-    archive_cursor::number_columns::load_u64s(&bytes, 0, n, &mut numbers);
-    if count(words, at) != n {
-        return false;
-    }
-    if !is_list(words, after(at), 0, offsets, entries) {
-        return false;
-    }
-    is_list(words, after(at), 1, &numbers, n)
+    // Nothing is refused here: n is at most 4,096.
+    let _ = archive_cursor::number_columns::put_i64s(deltas, n, &mut bytes, 0);
+    let _ = archive_cursor::number_columns::load_u64s(&bytes, 0, n, &mut numbers);
+    count(words, at) == n
+        && is_list(words, after(at), 0, offsets, entries)
+        && is_list(words, after(at), 1, &numbers, n)
 }
 
 // So many offsets do the sets of n rows have.
@@ -40,7 +38,7 @@ pub fn is_built(
     words: &[u64],
     at: usize,
     entries: usize,
-    encoded: Encoded,
+    encoded: Result<Counts, Refusal>,
     fo: &[u64],
     fd: &[i64],
     ro: &[u64],
@@ -49,22 +47,16 @@ pub fn is_built(
     id: &[i64],
 ) -> bool {
     match encoded {
-        Encoded::Edges(counts) => {
+        Ok(counts) => {
             let forward = after(at);
             let reverse = behind_all(words, after(forward), 2);
             let inbound = behind_all(words, after(reverse), 2);
-            if number(words, at) != 0 {
-                return false;
-            }
-            if !is_set(words, forward, entries, counts.forward, fo, fd) {
-                return false;
-            }
-            if !is_set(words, reverse, entries, counts.reverse, ro, rd) {
-                return false;
-            }
-            is_set(words, inbound, entries, counts.inbound, io, id)
+            number(words, at) == 0
+                && is_set(words, forward, entries, counts.forward, fo, fd)
+                && is_set(words, reverse, entries, counts.reverse, ro, rd)
+                && is_set(words, inbound, entries, counts.inbound, io, id)
         }
-        Encoded::Refused(why) => is_refused(words, at, why),
+        Err(why) => is_refused(words, at, why),
     }
 }
 
@@ -107,8 +99,8 @@ fn granule_agrees(
         list(words, lists, 4),
         depth(words, behind_all(words, lists, 5)),
         number(words, labelled) != 0,
-        list_u32(words, shorts, labels, 0),
-        list_u32(words, shorts, labels, 1),
+        list_of(words, shorts, labels, 0),
+        list_of(words, shorts, labels, 1),
         list(words, labels, 2),
         list(words, labels, 3),
         list(words, labels, 4),
@@ -143,7 +135,7 @@ pub fn build_agrees(words: &[u64], shorts: &[u32], bytes: &[u8]) -> bool {
     granule_agrees(
         words,
         shorts,
-        list_u8(words, bytes, 0, 0),
+        list_of(words, bytes, 0, 0),
         number(words, first),
         count(words, rows),
         after(rows),

@@ -1,8 +1,7 @@
 // Building, storing, reading a cover, and its two questions.
-use cover::answer::{Answer, Window};
-use cover_build::Built;
-use try_cases::answers::{is_list_u32, is_refused};
-use try_cases::parts::{after, behind_all, list_u32, number};
+use columns::refusal::Refusal;
+use try_cases::answers::{is_list, is_refused};
+use try_cases::parts::{after, behind_all, list_of, number};
 
 // Whether the four lists behind so many from a place on are the first n numbers of four columns.
 fn are_columns(
@@ -16,36 +15,25 @@ fn are_columns(
     d: &[u32],
 ) -> bool {
     let first = behind_all(words, at, lists);
-    if !is_list_u32(words, first, 0, a, n) {
-        return false;
-    }
-    if !is_list_u32(words, first, 1, b, n) {
-        return false;
-    }
-    if !is_list_u32(words, first, 2, c, n) {
-        return false;
-    }
-    is_list_u32(words, first, 3, d, n)
+    is_list(words, first, 0, a, n)
+        && is_list(words, first, 1, b, n)
+        && is_list(words, first, 2, c, n)
+        && is_list(words, first, 3, d, n)
 }
 
 // Four columns of links.
 fn are_links(
     words: &[u64],
     at: usize,
-    answer: Answer,
+    answer: Result<usize, Refusal>,
     a: &[u32],
     b: &[u32],
     c: &[u32],
     d: &[u32],
 ) -> bool {
     match answer {
-        Answer::Done(n) => {
-            if number(words, at) != 0 {
-                return false;
-            }
-            are_columns(words, after(at), 0, n, a, b, c, d)
-        }
-        Answer::Refused(why) => is_refused(words, at, why),
+        Ok(n) => number(words, at) == 0 && are_columns(words, after(at), 0, n, a, b, c, d),
+        Err(why) => is_refused(words, at, why),
     }
 }
 
@@ -56,10 +44,10 @@ pub fn stored_agrees(words: &[u64], shorts: &[u32]) -> bool {
     let mut c = [0u32; 1024];
     let mut d = [0u32; 1024];
     let answer = cover_build::encode::encode_links(
-        list_u32(words, shorts, 0, 0),
-        list_u32(words, shorts, 0, 1),
-        list_u32(words, shorts, 0, 2),
-        list_u32(words, shorts, 0, 3),
+        list_of(words, shorts, 0, 0),
+        list_of(words, shorts, 0, 1),
+        list_of(words, shorts, 0, 2),
+        list_of(words, shorts, 0, 3),
         &mut a,
         &mut b,
         &mut c,
@@ -75,13 +63,13 @@ pub fn decode_agrees(words: &[u64], shorts: &[u32]) -> bool {
     let mut c = [0u32; 1024];
     let mut d = [0u32; 1024];
     let answer = cover_read::read(
-        list_u32(words, shorts, 0, 0),
-        list_u32(words, shorts, 0, 1),
-        list_u32(words, shorts, 0, 2),
-        list_u32(words, shorts, 0, 3),
-        list_u32(words, shorts, 0, 4),
-        list_u32(words, shorts, 0, 5),
-        list_u32(words, shorts, 0, 6),
+        list_of(words, shorts, 0, 0),
+        list_of(words, shorts, 0, 1),
+        list_of(words, shorts, 0, 2),
+        list_of(words, shorts, 0, 3),
+        list_of(words, shorts, 0, 4),
+        list_of(words, shorts, 0, 5),
+        list_of(words, shorts, 0, 6),
         &mut a,
         &mut b,
         &mut c,
@@ -97,11 +85,11 @@ pub fn links_agree(words: &[u64], shorts: &[u32]) -> bool {
     let mut c = [0u32; 1024];
     let mut d = [0u32; 1024];
     let answer = cover_read::links::chain_links(
-        list_u32(words, shorts, 0, 0),
-        list_u32(words, shorts, 0, 1),
-        list_u32(words, shorts, 0, 2),
-        list_u32(words, shorts, 0, 3),
-        list_u32(words, shorts, 0, 4),
+        list_of(words, shorts, 0, 0),
+        list_of(words, shorts, 0, 1),
+        list_of(words, shorts, 0, 2),
+        list_of(words, shorts, 0, 3),
+        list_of(words, shorts, 0, 4),
         &mut a,
         &mut b,
         &mut c,
@@ -110,24 +98,16 @@ pub fn links_agree(words: &[u64], shorts: &[u32]) -> bool {
     are_links(words, behind_all(words, 0, 5), answer, &a, &b, &c, &d)
 }
 
-fn is_held(words: &[u64], at: usize, window: Window) -> bool {
+fn is_held(words: &[u64], at: usize, window: Result<bool, Refusal>) -> bool {
     match window {
-        Window::Holds(holds) => {
-            if number(words, at) != 0 {
-                return false;
-            }
-            (number(words, after(at)) == 1) == holds
-        }
-        Window::Refused(why) => is_refused(words, at, why),
+        Ok(holds) => number(words, at) == 0 && (number(words, after(at)) == 1) == holds,
+        Err(why) => is_refused(words, at, why),
     }
 }
 
 // The number at a place of a 32-bit column.
 fn word(shorts: &[u32], at: usize) -> u32 {
-    if at < shorts.len() {
-        return shorts[at];
-    }
-    0
+    shorts.get(at).copied().unwrap_or(0)
 }
 
 // Three columns of ranges, chain, low, high.
@@ -136,9 +116,9 @@ pub fn window_agrees(words: &[u64], shorts: &[u32]) -> bool {
     let low = after(chain);
     let high = after(low);
     let window = cover_read::window::may_hold_chain(
-        list_u32(words, shorts, 0, 0),
-        list_u32(words, shorts, 0, 1),
-        list_u32(words, shorts, 0, 2),
+        list_of(words, shorts, 0, 0),
+        list_of(words, shorts, 0, 1),
+        list_of(words, shorts, 0, 2),
         word(shorts, chain),
         word(shorts, low),
         word(shorts, high),
@@ -150,7 +130,7 @@ pub fn window_agrees(words: &[u64], shorts: &[u32]) -> bool {
 fn is_cover(
     words: &[u64],
     at: usize,
-    built: Built,
+    built: Result<(usize, usize), Refusal>,
     ids: &[u32],
     minima: &[u32],
     maxima: &[u32],
@@ -160,23 +140,15 @@ fn is_cover(
     d: &[u32],
 ) -> bool {
     match built {
-        Built::Done(ranges, links) => {
+        Ok((ranges, links)) => {
             let lists = after(at);
-            if number(words, at) != 0 {
-                return false;
-            }
-            if !is_list_u32(words, lists, 0, ids, ranges) {
-                return false;
-            }
-            if !is_list_u32(words, lists, 1, minima, ranges) {
-                return false;
-            }
-            if !is_list_u32(words, lists, 2, maxima, ranges) {
-                return false;
-            }
-            are_columns(words, lists, 3, links, a, b, c, d)
+            number(words, at) == 0
+                && is_list(words, lists, 0, ids, ranges)
+                && is_list(words, lists, 1, minima, ranges)
+                && is_list(words, lists, 2, maxima, ranges)
+                && are_columns(words, lists, 3, links, a, b, c, d)
         }
-        Built::Refused(why) => is_refused(words, at, why),
+        Err(why) => is_refused(words, at, why),
     }
 }
 
@@ -190,12 +162,12 @@ pub fn cover_agrees(words: &[u64], shorts: &[u32]) -> bool {
     let mut c = [0u32; 1024];
     let mut d = [0u32; 1024];
     let built = cover_build::build(
-        list_u32(words, shorts, 0, 0),
-        list_u32(words, shorts, 0, 1),
-        list_u32(words, shorts, 0, 2),
-        list_u32(words, shorts, 0, 3),
-        list_u32(words, shorts, 0, 4),
-        list_u32(words, shorts, 0, 5),
+        list_of(words, shorts, 0, 0),
+        list_of(words, shorts, 0, 1),
+        list_of(words, shorts, 0, 2),
+        list_of(words, shorts, 0, 3),
+        list_of(words, shorts, 0, 4),
+        list_of(words, shorts, 0, 5),
         &mut ids,
         &mut minima,
         &mut maxima,

@@ -6,9 +6,9 @@ mod builds;
 mod covers;
 mod refs;
 
-use try_cases::parts::{after, behind, number, part, part_i64, part_u8, part_u32};
+use try_cases::parts::{after, behind, number, part};
 use try_cases::tally::Tally;
-use try_cases::{granules, tally, walks};
+use try_cases::{granules, walks};
 
 // Whether a case of a question agrees.
 fn agrees(question: u64, words: &[u64], signed: &[i64], shorts: &[u32], bytes: &[u8]) -> bool {
@@ -31,44 +31,44 @@ fn agrees(question: u64, words: &[u64], signed: &[i64], shorts: &[u32], bytes: &
     }
 }
 
-// With the case at a place, if it is of the question.
-fn with_case(
-    t: Tally,
+// Adds the case at a place, if it is of the question.
+fn add_case(
+    t: &mut Tally,
     question: u64,
     at: usize,
     words: &[u64],
     signed: &[i64],
     shorts: &[u32],
     bytes: &[u8],
-) -> Tally {
+) {
     if number(words, after(at)) != question {
-        return t;
+        return;
     }
     let from = after(after(at));
     let to = behind(words, at);
     let agree = agrees(
         question,
         part(words, from, to),
-        part_i64(signed, from, to),
-        part_u32(shorts, from, to),
-        part_u8(bytes, from, to),
+        part(signed, from, to),
+        part(shorts, from, to),
+        part(bytes, from, to),
     );
-    tally::tallied(t, agree)
+    t.add(agree);
 }
 
 // Replays the cases of a question, and prints its line.
 fn replay(name: &[u8], question: u64, words: &[u64], signed: &[i64], shorts: &[u32], bytes: &[u8]) {
-    let mut t = tally::nothing();
+    let mut t = Tally::new();
     let mut at = 0;
     while at < words.len() {
         let to = behind(words, at);
-        t = with_case(t, question, at, words, signed, shorts, bytes);
+        add_case(&mut t, question, at, words, signed, shorts, bytes);
         if to <= at {
             return;
         }
         at = to;
     }
-    tally::print(name, t);
+    t.print(name);
 }
 
 // A line for each question.
@@ -97,11 +97,9 @@ fn replay_all(
 
 // The low 32 and the low 8 bits of each word.
 fn narrow(words: &[u64; 57344], shorts: &mut [u32; 57344], bytes: &mut [u8; 57344]) {
-    let mut i = 0;
-    while i < 57344 {
-        shorts[i] = (words[i] % 4294967296) as u32;
-        bytes[i] = (words[i] % 256) as u8;
-        i += 1;
+    for (i, word) in words.iter().enumerate() {
+        shorts[i] = (word & 0xffff_ffff) as u32;
+        bytes[i] = (word & 0xff) as u8;
     }
 }
 
@@ -112,8 +110,9 @@ fn main() {
     let mut signed = [0i64; 57344];
     let mut shorts = [0u32; 57344];
     let mut bytes = [0u8; 57344];
-    archive_cursor::number_columns::load_u64s(&input, 0, n, &mut words);
-    archive_cursor::number_columns::load_i64s(&input, 0, n, &mut signed);
+    // Nothing is refused here: the input has n words, and the slices room for them.
+    let _ = archive_cursor::number_columns::load_u64s(&input, 0, n, &mut words);
+    let _ = archive_cursor::number_columns::load_i64s(&input, 0, n, &mut signed);
     narrow(&words, &mut shorts, &mut bytes);
     replay_all(&words, &signed, &shorts, &bytes);
 }

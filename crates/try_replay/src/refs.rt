@@ -1,10 +1,11 @@
 // References resolved to parent lists and unresolved records, and what building makes of them.
 use crate::builds::{is_built, offset_count};
 use columns::depth::Depth;
+use columns::refusal::Refusal;
 use columns_build::encode::encode_graph_blocks;
-use columns_refs::{Made, Resolved, resolve_graph};
+use columns_refs::{Made, resolve_graph};
 use try_cases::answers::{is_list, is_refused};
-use try_cases::parts::{after, behind_all, count, list, list_u8, number, part, part_u32};
+use try_cases::parts::{after, behind_all, count, list, list_of, number, part};
 
 // Asks what a case asks: first number, rows; where each row's references start; kinds, spaces, targets; whether each is known, numbers.
 fn resolve(
@@ -15,15 +16,15 @@ fn resolve(
     children: &mut [u64],
     ukinds: &mut [u64],
     handles: &mut [u64],
-) -> Resolved {
+) -> Result<Made, Refusal> {
     resolve_graph(
         number(words, 0),
         count(words, 1),
         list(words, 2, 0),
-        list_u8(words, bytes, 2, 1),
-        list_u8(words, bytes, 2, 2),
+        list_of(words, bytes, 2, 1),
+        list_of(words, bytes, 2, 2),
         list(words, 2, 3),
-        list_u8(words, bytes, 2, 4),
+        list_of(words, bytes, 2, 4),
         list(words, 2, 5),
         offsets,
         parents,
@@ -45,19 +46,11 @@ fn are_made(
     handles: &[u64],
 ) -> bool {
     let entries = offset_count(count(words, 1));
-    if !is_list(words, at, 0, offsets, entries) {
-        return false;
-    }
-    if !is_list(words, at, 1, parents, made.parents) {
-        return false;
-    }
-    if !is_list(words, at, 2, children, made.unresolved) {
-        return false;
-    }
-    if !is_list(words, at, 3, ukinds, made.unresolved) {
-        return false;
-    }
-    is_list(words, at, 4, handles, made.unresolved)
+    is_list(words, at, 0, offsets, entries)
+        && is_list(words, at, 1, parents, made.parents)
+        && is_list(words, at, 2, children, made.unresolved)
+        && is_list(words, at, 3, ukinds, made.unresolved)
+        && is_list(words, at, 4, handles, made.unresolved)
 }
 
 pub fn resolve_agrees(words: &[u64], bytes: &[u8]) -> bool {
@@ -77,22 +70,20 @@ pub fn resolve_agrees(words: &[u64], bytes: &[u8]) -> bool {
         &mut handles,
     );
     match resolved {
-        Resolved::Written(made) => {
-            if number(words, at) != 0 {
-                return false;
-            }
-            are_made(
-                words,
-                after(at),
-                made,
-                &offsets,
-                &parents,
-                &children,
-                &ukinds,
-                &handles,
-            )
+        Ok(made) => {
+            number(words, at) == 0
+                && are_made(
+                    words,
+                    after(at),
+                    made,
+                    &offsets,
+                    &parents,
+                    &children,
+                    &ukinds,
+                    &handles,
+                )
         }
-        Resolved::Refused(why) => is_refused(words, at, why),
+        Err(why) => is_refused(words, at, why),
     }
 }
 
@@ -125,11 +116,11 @@ fn built_agrees(
         flags,
         Depth::Unknown,
         false,
-        part_u32(&chains, 0, 0),
-        part_u32(&seqs, 0, 0),
-        part(flags, 0, 0),
-        part(flags, 0, 0),
-        part(flags, 0, 0),
+        &chains[..0],
+        &seqs[..0],
+        &flags[..0],
+        &flags[..0],
+        &flags[..0],
         0,
         rows,
         &mut fo,
@@ -171,7 +162,7 @@ pub fn handed_agrees(words: &[u64], bytes: &[u8]) -> bool {
     );
     let flags = [0u64; 1024];
     match resolved {
-        Resolved::Written(made) => built_agrees(
+        Ok(made) => built_agrees(
             words,
             part(&offsets, 0, offset_count(count(words, 1))),
             part(&parents, 0, made.parents),
@@ -179,6 +170,6 @@ pub fn handed_agrees(words: &[u64], bytes: &[u8]) -> bool {
             part(&ukinds, 0, made.unresolved),
             part(&flags, 0, made.unresolved),
         ),
-        Resolved::Refused(why) => is_refused(words, behind_all(words, 2, 6), why),
+        Err(why) => is_refused(words, behind_all(words, 2, 6), why),
     }
 }

@@ -3,10 +3,10 @@ use Rattle.ffi.specs.Numbers.{refusal_of}
 use Rattle.ffi.proofs.Told.{told-arm}
 use Rattle.ffi_run.proofs.reply_number.Goals as goal
 
-pub returns-in-Done : goal.returns-in-Done
+pub returns-in-Ok : goal.returns-in-Ok
 unfolding refusal_of
-returns-in-Done c = cc
+returns-in-Ok c = cc
 
-pub returns-in-Refused : goal.returns-in-Refused
+pub returns-in-Err : goal.returns-in-Err
 unfolding refusal_of
-returns-in-Refused c = search (told-arm (λ a. refusal_of (replied a)))
+returns-in-Err c = search (told-arm (λ a. refusal_of (replied a)))

@@ -3,8 +3,8 @@ use Rattle.std.proofs.Common.{rules}
 use Rattle.listing.proofs.Printed.{refusal-printed, text_printed}
 use Rattle.listing.proofs.print.Goals as goal
 
-pub returns-in-Refused : goal.returns-in-Refused
-returns-in-Refused c = search (rules, refusal-printed)
+pub returns-in-Err : goal.returns-in-Err
+returns-in-Err c = search (rules, refusal-printed)
 
-pub returns-in-Length : goal.returns-in-Length
-returns-in-Length c = search (rules, text_printed)
+pub returns-in-Ok : goal.returns-in-Ok
+returns-in-Ok c = search (rules, text_printed)

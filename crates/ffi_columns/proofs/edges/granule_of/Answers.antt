@@ -2,10 +2,10 @@ use Rattle.ffi.proofs.Told.{told-arm}
 use Rattle.ffi_columns.specs.Numbers.{granule_of}
 use Rattle.ffi_columns.proofs.edges.granule_of.Goals as goal
 
-pub returns-in-Edges : goal.returns-in-Edges
+pub returns-in-Ok : goal.returns-in-Ok
 unfolding granule_of
-returns-in-Edges c = cc
+returns-in-Ok c = cc
 
-pub returns-in-Refused : goal.returns-in-Refused
+pub returns-in-Err : goal.returns-in-Err
 unfolding granule_of
-returns-in-Refused c = search (told-arm granule_of)
+returns-in-Err c = search (told-arm granule_of)
