@@ -54,8 +54,21 @@ def imported(code):
         yield from (head + name.strip() for name in names.rstrip("}\n ").split(",") if name.strip()) if names else [path]
 
 
-def calls(crate, known):
-    """The functions of other crates that a crate's code calls, by their paths."""
+def methods():
+    """The public methods of the repository's types: for each name, the paths `crate::module::Type::name`."""
+    found = {}
+    for crate in crates():
+        for file in sorted((CRATES / crate / "src").rglob("*.rt")):
+            modules = [m for m in file.relative_to(CRATES / crate / "src").with_suffix("").parts if m not in ("lib", "main")]
+            for kind, body in re.findall(r"^impl(?:<[^>]*>)? (\w+)(?:<[^>]*>)? \{\n(.*?)^\}", file.read_text(), re.M | re.S):
+                for name in re.findall(r"^    pub fn (\w+)", body, re.M):
+                    found.setdefault(name, []).append("::".join((crate, *modules, kind, name)))
+    return found
+
+
+def calls(crate, known, of_types):
+    """The functions and methods of other crates that a crate's code calls, by their paths. A method counts where its type is imported, or no other
+    type has one of its name."""
     for file in sorted((CRATES / crate / "src").rglob("*.rt")):
         code = re.sub(r"^ghost use [^;]*;", "", re.sub(r"//.*", "", file.read_text()), flags=re.M)
         code = "\n".join(line for line in code.splitlines() if not line.startswith("ghost"))
@@ -64,13 +77,18 @@ def calls(crate, known):
             path = used.get(head, head) + rest
             if "::" in path and path.split("::")[0] in known - {crate}:
                 yield path
+        for name in set(re.findall(r"\.(\w+)\(", code)):
+            paths = of_types.get(name, [])
+            for path in paths:
+                if path.split("::")[0] != crate and (len(paths) == 1 or path.split("::")[-2] in used):
+                    yield path
 
 
 def doors(public):
     listed = {(row[0], row[1]): set(functions(row[2])) for row in rows("Doors")}
-    known, seen, wrong = set(crates()), {pair: set() for pair in listed}, []
+    known, of_types, seen, wrong = set(crates()), methods(), {pair: set() for pair in listed}, []
     for crate in crates():
-        for path in calls(crate, known):
+        for path in calls(crate, known, of_types):
             pair = storey(crate), storey(path.split("::")[0])
             if pair[0] == pair[1] or (pair[0] in OUTSIDE and path in public):
                 continue
@@ -93,18 +111,22 @@ def has(kind, text):
 def contract(path):
     """The contract of a function: what stands between its parameters and its body, or nothing if there is no such public function."""
     crate, *modules, name = path.split("::")
+    kind = modules.pop() if modules and modules[-1][0].isupper() else None
     source = CRATES / crate / "src" / ("/".join(modules) + ".rt" if modules else "lib.rt")
     if not source.exists():
         return None
-    found = re.search(rf"^pub (?:extern \"C\" )?fn {name}\((.*?)^\{{", source.read_text(), re.M | re.S)
+    text, indent = source.read_text(), ""
+    if kind:
+        text, indent = "".join(re.findall(rf"^impl(?:<[^>]*>)? {kind}(?:<[^>]*>)? \{{\n(.*?)^\}}", text, re.M | re.S)), "    "
+    found = re.search(rf"^{indent}pub (?:extern \"C\" )?fn {name}(?:<[^>]*>)?\((.*?)^{indent}\{{", text, re.M | re.S)
     return found and found.group(1)
 
 
 def open_functions(crate, modules=()):
     """The functions that can be called from outside a crate, by their paths, each with its text."""
     text = (CRATES / crate / "src" / ("/".join(modules or ("lib",)) + ".rt")).read_text()
-    for function in re.split(r"^(?=(?:pub(?:\(crate\))? )?(?:extern \"C\" )?fn )", text, flags=re.M)[1:]:
-        name = re.match(r"pub (?:extern \"C\" )?fn (\w+)", function)
+    for function in re.split(r"^(?= *(?:pub(?:\(crate\))? )?(?:extern \"C\" )?fn )", text, flags=re.M)[1:]:
+        name = re.match(r" *pub (?:extern \"C\" )?fn (\w+)", function)
         if name:
             yield "::".join((crate, *modules, name[1])), function
     for module in re.findall(r"^pub mod (\w+);", text, re.M):
