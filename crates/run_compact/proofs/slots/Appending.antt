@@ -1,17 +1,19 @@
 -- Numbers copied to the end of a column.
-use mathlib.Core.Path.{◌≡◌, sym, ap, ◌∙◌}
-use mathlib.Core.List.{List, ◌++◌}
-use Prim.Native.Nat.{ℕ, ◌+◌, ◌-◌, ◌≤◌}
+use mathlib.Core.Path.{◌≡◌}
+use mathlib.Core.List.{List, ◌++◌, append-nil, append_assoc}
+use Prim.Native.Nat.{ℕ, ◌+◌, ◌-◌, ◌≤◌, ◌<◌}
+use native.Mathlib.Numerals.{add-one}
 use native.Mathlib.Omega.{arith}
-use lib.ListN.{length, take, drop, length-drop}
-use lib.Seq.{slice, length-take-le}
-use Rattle.std.proofs.lemmas.List.{drop-take}
-use Rattle.std.proofs.lemmas.Slice.{take-put_mid}
-use borrow.Rule.Slice.PartMut.{put_mid}
+use lib.ListN.{length, get_or, set, take}
+use lib.Seq.{slice, slice-cons, take-suc-set}
+use Rattle.lists.proofs.Slices.{slice-none}
 
-pub copied : (all xs now : List ℕ) (end a b : ℕ) → a ≤ b → b ≤ length xs → end + (b - a) ≤ length all → now ≡ take (b - a) (drop a xs)
-    → take (end + (b - a)) (put_mid end ((end + (b - a)) - end) all now) ≡ take end all ++ slice a b xs
-copied all xs now end a b o h k e =
-    let n : length now ≡ b - a = ap length e ∙ length-take-le (b - a) (drop a xs) (omega (arith, length-drop a xs)) in
-    take-put_mid end ((end + (b - a)) - end) all now (end + (b - a)) (omega (arith, n)) (omega arith)
-    ∙ ap (λ l. take end all ++ l) (e ∙ sym (drop-take a (b - a) xs) ∙ ap (λ m. drop a (take m xs)) (omega arith))
+module _ {t : List ℕ} (all xs : List ℕ) (n i b : ℕ) (e : t ≡ take n all ++ slice i b xs) where
+  pub all-copied : b ≤ i → take n all ≡ t
+  all-copied h = rw (e, slice-none i b xs h, append-nil)
+
+  pub one-copied : i < b → b ≤ length xs → (end a : ℕ) (was : List ℕ) → n + a ≡ end + i → a ≤ i → end + (b - a) ≤ length was → length all ≡ length was
+      → t ≡ take (n + 1) (set all n (get_or xs i 0)) ++ slice (i + 1) b xs
+  one-copied h k end a was p o q r =
+      let l : n < length all = omega arith in
+      rw (e, slice-cons i b xs 0 h k, add-one, add-one, take-suc-set all n (get_or xs i 0) l, append_assoc)
