@@ -1,4 +1,3 @@
 pub mod Rowed
 pub mod Columned
 pub mod Fitting
-pub mod Linked

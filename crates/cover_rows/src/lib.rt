@@ -21,36 +21,31 @@ pub struct Links<'a> {
     ghost ends_even: { length to_seqs.now ≡ length from_chains.now },
 }
 
-// A link, in the order of its numbers.
-#[derive(Clone, Copy, PartialEq, Eq, PartialOrd, Ord)]
-struct Link {
-    from_chain: u32,
-    from_seq: u32,
-    to_chain: u32,
-    to_seq: u32,
+// Whether the link a b c d stands before the link x y z w.
+pub fn is_less(a: u32, b: u32, c: u32, d: u32, x: u32, y: u32, z: u32, w: u32) -> bool
+    ensures { result ≡ link_less (link a b c d) (link x y z w) }
+{
+    a < x || (a == x && (b < y || (b == y && (c < z || (c == z && d < w)))))
 }
 
 impl Links<'_> {
     ghost use Rattle.cover_rows.specs.Links.{links_in, link_at};
-
-    fn at(&self, i: usize) -> Link
-        requires { i < length self.now.from_chains.now }
-        ensures { link result.from_chain result.from_seq result.to_chain result.to_seq ≡ link_at self.now i }
-    {
-        Link {
-            from_chain: self.from_chains[i],
-            from_seq: self.from_seqs[i],
-            to_chain: self.to_chains[i],
-            to_seq: self.to_seqs[i],
-        }
-    }
 
     // Whether the link at place i stands before the link at place j.
     pub fn is_less(&self, i: usize, j: usize) -> bool
         requires { (i < length self.now.from_chains.now) × (j < length self.now.from_chains.now) }
         ensures { result ≡ link_less (link_at self.now i) (link_at self.now j) }
     {
-        self.at(i) < self.at(j)
+        is_less(
+            self.from_chains[i],
+            self.from_seqs[i],
+            self.to_chains[i],
+            self.to_seqs[i],
+            self.from_chains[j],
+            self.from_seqs[j],
+            self.to_chains[j],
+            self.to_seqs[j],
+        )
     }
 
     // Whether each link stands before the next.
