@@ -28,8 +28,6 @@ fn new_lists(h: Held) -> Option<Edges>
 }
 
 // The sheet of the survivors, with their lists.
-// Not inlined, so that its columns and those of the steps beside it do not stand on the stack at once.
-#[inline(never)]
 fn survivors(h: Held, e: Edges) -> Sheet
     requires h_value { (held_ok h ≡ true) × (ordered h.sheet ≡ true) }
     requires edges_kept { EdgesKept (flags_in h) (new_in h) e }
@@ -44,6 +42,8 @@ fn survivors(h: Held, e: Edges) -> Sheet
 }
 
 // The sheet of the survivors of a run: 24 where it has no source, 43 where all new lists are over the limit, 27 where a group has no survivor.
+// Not inlined, so that its answer is moved to where it stays, and no column of its steps has a place beside those of a run.
+#[inline(never)]
 pub fn resolve(h: Held) -> Result<Sheet, Refusal>
     requires { (held_ok h ≡ true) × (ordered h.sheet ≡ true) }
     ensures { ResolvedBy h result }
