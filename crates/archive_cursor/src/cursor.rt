@@ -77,19 +77,19 @@ pub fn put_u32(out: &mut [u8], at: usize, n: u32) -> Result<(), Refusal>
     ensures value { result ≡ ruling (no_room 4 out.old at) }
     ensures out_after { out.new ≡ left (no_room 4 out.old at) out.old (sets out.old at (bytes_of 4 n)) }
 {
-    put(out, at, n)
+    put::<u32>(out, at, n)
 }
 
 pub fn put_u64(out: &mut [u8], at: usize, n: u64) -> Result<(), Refusal>
     ensures value { result ≡ ruling (no_room 8 out.old at) }
     ensures out_after { out.new ≡ left (no_room 8 out.old at) out.old (sets out.old at (bytes_of 8 n)) }
 {
-    put(out, at, n)
+    put::<u64>(out, at, n)
 }
 
 pub fn put_i64(out: &mut [u8], at: usize, x: i64) -> Result<(), Refusal>
     ensures value { result ≡ ruling (no_room 8 out.old at) }
     ensures out_after { out.new ≡ left (no_room 8 out.old at) out.old (sets out.old at (bytes_of 8 (unsigned_of x))) }
 {
-    put(out, at, x)
+    put::<i64>(out, at, x)
 }

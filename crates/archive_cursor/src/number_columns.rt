@@ -47,7 +47,7 @@ pub fn load_u64s(bytes: &[u8], at: usize, n: usize, out: &mut [u64]) -> Result<(
     ensures value { result ≡ ruling (load_rules 8 n bytes.now at out.old) }
     ensures out_after { out.new ≡ left (load_rules 8 n bytes.now at out.old) out.old (sets out.old 0 (column 8 n bytes.now at)) }
 {
-    load(bytes, at, n, out)
+    load::<u64>(bytes, at, n, out)
 }
 
 pub fn load_i64s(bytes: &[u8], at: usize, n: usize, out: &mut [i64]) -> Result<(), Refusal>
@@ -55,21 +55,21 @@ pub fn load_i64s(bytes: &[u8], at: usize, n: usize, out: &mut [i64]) -> Result<(
     ensures out_after { out.new ≡ left (load_rules 8 n bytes.now at out.old) out.old
         (sets out.old 0 (map signed_of (column 8 n bytes.now at))) }
 {
-    load(bytes, at, n, out)
+    load::<i64>(bytes, at, n, out)
 }
 
 pub fn load_u32s(bytes: &[u8], at: usize, n: usize, out: &mut [u32]) -> Result<(), Refusal>
     ensures value { result ≡ ruling (load_rules 4 n bytes.now at out.old) }
     ensures out_after { out.new ≡ left (load_rules 4 n bytes.now at out.old) out.old (sets out.old 0 (column 4 n bytes.now at)) }
 {
-    load(bytes, at, n, out)
+    load::<u32>(bytes, at, n, out)
 }
 
 pub fn put_u64s(xs: &[u64], n: usize, out: &mut [u8], at: usize) -> Result<(), Refusal>
     ensures value { result ≡ ruling (store_rules 8 n xs.now out.old at) }
     ensures out_after { out.new ≡ left (store_rules 8 n xs.now out.old at) out.old (sets out.old at (flat (bytes_of 8) (take n xs.now))) }
 {
-    put(xs, n, out, at)
+    put::<u64>(xs, n, out, at)
 }
 
 pub fn put_i64s(xs: &[i64], n: usize, out: &mut [u8], at: usize) -> Result<(), Refusal>
@@ -77,12 +77,12 @@ pub fn put_i64s(xs: &[i64], n: usize, out: &mut [u8], at: usize) -> Result<(), R
     ensures out_after { out.new ≡ left (store_rules 8 n xs.now out.old at) out.old
         (sets out.old at (flat (bytes_of 8) (map unsigned_of (take n xs.now)))) }
 {
-    put(xs, n, out, at)
+    put::<i64>(xs, n, out, at)
 }
 
 pub fn put_u32s(xs: &[u32], n: usize, out: &mut [u8], at: usize) -> Result<(), Refusal>
     ensures value { result ≡ ruling (store_rules 4 n xs.now out.old at) }
     ensures out_after { out.new ≡ left (store_rules 4 n xs.now out.old at) out.old (sets out.old at (flat (bytes_of 4) (take n xs.now))) }
 {
-    put(xs, n, out, at)
+    put::<u32>(xs, n, out, at)
 }

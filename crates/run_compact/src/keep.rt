@@ -9,7 +9,8 @@ pub fn keep<T: Copy>(column: &mut [T; 1024], flags: &[u8]) -> usize
 {
     let mut n: usize = 0;
     for i in 0..flags.len() {
-        if flags[i] == 0 {
+        let survives = flags[i] == 0;
+        if survives {
             column[n] = column[i];
             n += 1;
         }

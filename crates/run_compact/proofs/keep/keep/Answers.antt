@@ -1,15 +1,15 @@
 use Rattle.std.proofs.Common.{rules}
 use Rattle.run_compact.proofs.KeepTurns.{counted, all-kept, one-gone, one_kept}
-use Rattle.run_compact.proofs.keep.keep.Goals.{then-flags-i-eq0, else-flags-i-eq0}
+use Rattle.run_compact.proofs.keep.keep.Goals.{then-survives, else-survives}
 use Rattle.run_compact.proofs.keep.keep.Goals as goal
 
 pub loop-i-init : goal.loop-i-init
 loop-i-init g c = (search rules, c.told-column, c.told-column, search rules)
 
 pub loop-i-preserved : goal.loop-i-preserved
-loop-i-preserved g c = elim c.if-flags-i-eq0.branch [
-  | then-flags-i-eq0 w ↦ rw (w.column-is, w.n-is) (search rules, search rules, search rules, search one_kept)
-  | else-flags-i-eq0 w ↦ rw (w.column-is, w.n-is) (search rules, search rules, search rules, search one-gone)
+loop-i-preserved g c = elim c.if-survives.branch [
+  | then-survives w ↦ rw (w.column-is, w.n-is) (search rules, search rules, search rules, search one_kept)
+  | else-survives w ↦ rw (w.column-is, w.n-is) (search rules, search rules, search rules, search one-gone)
 ]
 
 pub returns : goal.returns
