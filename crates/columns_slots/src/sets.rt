@@ -84,12 +84,9 @@ fn all_sound(set: u64, end: u64, event: u64, deltas: &[i64], from: usize, to: us
     requires { (from ≤ to) × (to ≤ length deltas.now) }
     ensures { result ≡ all (sound set end event) (slice from to deltas.now) }
 {
-    for i in from..to {
-        if !delta::is_sound(set, end, event, deltas[i]) {
-            return false;
-        }
-    }
-    true
+    deltas[from..to]
+        .iter()
+        .all(|&delta| delta::is_sound(set, end, event, delta))
 }
 
 // Whether a row has a number and the deltas of its slots are sound.

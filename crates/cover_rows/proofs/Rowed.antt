@@ -51,10 +51,6 @@ module _ (a b c d x y z w : ℕ) where
 
 -- ── rows ─────────────────────────────────────────────────────────────────────────────────────
 
-pub row_is : (a b c d : List ℕ) (i : ℕ) → link (get_or a i 0) (get_or b i 0) (get_or c i 0) (get_or d i 0) ≡ row_at a b c d i
-unfolding row_at
-row_is a b c d i = refl
-
 pub row_told : {r : Bool} (a b c d : List ℕ) (i j : ℕ)
     → r ≡ link_less (link (get_or a i 0) (get_or b i 0) (get_or c i 0) (get_or d i 0)) (link (get_or a j 0) (get_or b j 0) (get_or c j 0) (get_or d j 0))
     → r ≡ link_less (row_at a b c d i) (row_at a b c d j)

@@ -10,15 +10,13 @@ use native.Mathlib.Omega.{arith}
 use lib.Dec.{leb, ltb, eqb}
 use lib.IntN.{ℤ, pos}
 use lib.ListN.{length, get_or, drop, drop_of_length-le}
-use lib.Seq.{slice, slice-cons, drop-cons}
+use lib.Seq.{slice, drop-cons}
 use mir.Syntax.{w64}
-use mir.Val.{Fits, SFits, to_z, of_z}
-use mir.ValLaws.{to_z-of_z}
+use mir.Val.{Fits, to_z, of_z}
 use borrow.Author.Tests.{le-leb, lt-leb, lt-ltb, le-ltb, eq-eqb, ne_eqb, ltb-true, leb-true, not-true, not-false}
 use Rattle.lists.specs.Lists.{all}
 use Rattle.lists.specs.Order.{climbs_to}
 use Rattle.lists.proofs.Tests.{same_test}
-use Rattle.lists.proofs.Slices.{slice-none}
 use Rattle.columns.specs.Limits.{end64, Served}
 use Rattle.columns.specs.Refusal.{first_of}
 use Rattle.columns.specs.EdgeSet.{cut, from_to, offsets_form, sound}
@@ -86,23 +84,6 @@ row_number first row f =
 -- the delta at a place, as the machine reads it back from its bits
 abbrev pub at : List ℤ → ℕ → ℤ
 at ds i = to_z w64 (of_z w64 (get_or ds i (pos 0)))
-
-module _ {t : Bool} (set end event i to : ℕ) (ds : List ℤ) (e : t ≡ all (sound set end event) (slice i to ds)) where
-  pub sound-done : to ≤ i → true ≡ t
-  unfolding all
-  sound-done h = rw (e, slice-none i to ds h)
-
-  module _ {b : Bool} (h : i < to) (k : to ≤ length ds) (s : SFits w64 (get_or ds i (pos 0))) (g : b ≡ sound set end event (at ds i)) where
-    here : sound set end event (get_or ds i (pos 0)) ≡ b
-    here = sym (rw (to_z-of_z w64 (get_or ds i (pos 0)) s) at g)
-
-    pub sound-stop : not b ≡ true → false ≡ t
-    unfolding all
-    sound-stop f = rw (e, slice-cons i to ds (pos 0), here, not-true b f)
-
-    pub sound-on : not b ≡ false → t ≡ all (sound set end event) (slice (i + 1) to ds)
-    unfolding all
-    sound-on f = rw (e, slice-cons i to ds (pos 0), here, not-false b f, add-one)
 
 -- ── rows ─────────────────────────────────────────────────────────────────────────────────────
 
