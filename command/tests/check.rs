@@ -2,19 +2,19 @@
 
 mod common;
 
-use common::{Ran, WORKED, command, file, folder, ran, repository, skipped};
+use common::{Folder, Ran, WORKED, command, file, folder, ran, repository, skipped};
 use std::ffi::OsString;
 use std::fs;
 use std::os::unix::ffi::OsStringExt;
 use std::os::unix::fs::symlink;
-use std::path::{Path, PathBuf};
+use std::path::Path;
 use std::process::{Command, Stdio};
 
 const ACCEPTED: &str = "accepted: files 1, events 4, erased 2, survivors 2";
 const WORDS: &str = "a record of the archive is broken: its length, version, kind, order, or something that it holds";
 
 /// Archives, one of them in a folder of its own and one of a name that is no text; and what is no archive.
-fn mixed(name: &str) -> PathBuf {
+fn mixed(name: &str) -> Folder {
     let folder = folder(name);
     fs::create_dir(folder.join("inner")).unwrap();
     file(&folder, "good.archive", WORKED);

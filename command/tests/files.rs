@@ -100,7 +100,8 @@ fn in_place_replaces_the_input_or_leaves_it() {
 
 #[test]
 fn a_full_disk_is_3() {
-    let worked = file(&folder("full"), "worked", WORKED);
+    let folder = folder("full");
+    let worked = file(&folder, "worked", WORKED);
     let full = Path::new("/dev/full");
     clean(&worked, full).fails(3, "/dev/full: cannot be written: No space left on device");
     assert!(fs::metadata(full).unwrap().file_type().is_char_device());

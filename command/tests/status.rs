@@ -51,7 +51,8 @@ fn standard_input_is_a_dash() {
 fn refused_is_1() {
     let worked = repository("crates/clean/stdin");
     let worked = worked.to_str().unwrap();
-    let short = file(&folder("refused"), "short", &WORKED[..464]);
+    let folder = folder("refused");
+    let short = file(&folder, "short", &WORKED[..464]);
     let short = short.to_str().unwrap();
     let line = format!("{short}: {BROKEN}");
     for words in [

@@ -4,6 +4,7 @@
 use std::ffi::OsStr;
 use std::fs;
 use std::io::{self, Write};
+use std::ops::Deref;
 use std::path::{Path, PathBuf};
 use std::process::{Command, Output, Stdio};
 
@@ -77,12 +78,35 @@ pub fn skipped(words: &str) {
     let _ = writeln!(io::stderr(), "skipped: {words}");
 }
 
-/// A folder of a test's own, empty at first.
-pub fn folder(name: &str) -> PathBuf {
+/// A folder of a test's own, which goes with this value: `rt ci` stops at a link that is left anywhere below the repository.
+pub struct Folder(PathBuf);
+
+/// Such a folder, empty at first.
+pub fn folder(name: &str) -> Folder {
     let folder = Path::new(env!("CARGO_TARGET_TMPDIR")).join(name);
-    let _ = fs::remove_dir_all(&folder); // the last run's, if there was one
+    let _ = fs::remove_dir_all(&folder); // of a run that was stopped, if there was one
     fs::create_dir_all(&folder).expect("the folder is made");
-    folder
+    Folder(folder)
+}
+
+impl Deref for Folder {
+    type Target = Path;
+
+    fn deref(&self) -> &Path {
+        &self.0
+    }
+}
+
+impl AsRef<Path> for Folder {
+    fn as_ref(&self) -> &Path {
+        self
+    }
+}
+
+impl Drop for Folder {
+    fn drop(&mut self) {
+        let _ = fs::remove_dir_all(&self.0);
+    }
 }
 
 /// A file of a folder with these bytes.
